@@ -1,0 +1,13 @@
+pub mod Ring
+pub mod Linear
+pub mod Identity
+pub mod Order
+pub mod Bound
+pub mod Sum
+pub mod Division
+pub mod Rounding
+pub mod Circles
+pub mod LeastSquares
+pub mod Weights
+pub mod Searching
+pub mod Filling

@@ -1,0 +1,83 @@
+-- The order of ℤ: laws that lib.Signed lacks. The linear ones have one proof, `omega` over differences. Assumes nothing.
+--   le-trans, le-antisym, lt-le, le-of-eq       the order itself; lt-or-le: one of two numbers is the lesser
+--   add-le, sub-nonneg                          with sums
+--   mul-nonneg, mul-le-left, square-nonneg      with products
+--   mul-zero                                    a product is 0 only where a factor is
+--   lt-true, lt-false, le-true, le-false        what a test of two signed numbers told
+use mathlib.Core.Path.{_≡_, refl, sym, _∙_, ap, subst, subst₂}
+use mathlib.Core.Bool.{Bool, true, false, not}
+use mathlib.Core.List.{List, [], _∷_}
+use mathlib.Core.Logic.{_⊎_, inl, inr}
+use Prim.Native.Nat.{ℕ, zero, suc, _+_, _*_, _<_, _≤_, zero-le}
+use native.Mathlib.Omega.{arith}
+use native.Mathlib.Decide.{decLe}
+use lib.Dec.{T, leb, le→leb, leb→le}
+use lib.IntN.{ℤ, pos, negsuc, negℤ, natAbs, _+ℤ_, _-ℤ_, _*ℤ_, zero-*ℤ}
+use lib.Signed.{ltZ, leZ, _≤ℤ_, _<ℤ_, ltZ-yes, ltZ-no, leZ-yes}
+use Rattle.exact.proofs.Linear.{Difference, above, below, difference-neg, difference-pos, unknowns, linear, orders, one-sided, eq-by, le-by, lt-by, le-of, eq-of}
+
+pub le-trans : {a b c : ℤ} → a ≤ℤ b → b ≤ℤ c → a ≤ℤ c
+le-trans {a} {b} {c} h k = let v = unknowns (a ∷ b ∷ c ∷ []) in le-by (search linear) (search linear) (omega (arith, orders))
+
+pub add-le : {a b c d : ℤ} → a ≤ℤ b → c ≤ℤ d → (a +ℤ c) ≤ℤ (b +ℤ d)
+add-le {a} {b} {c} {d} h k = let v = unknowns (a ∷ b ∷ c ∷ d ∷ []) in le-by (search linear) (search linear) (omega (arith, orders))
+
+pub lt-le : {a b : ℤ} → a <ℤ b → a ≤ℤ b
+lt-le {a} {b} h = let v = unknowns (a ∷ b ∷ []) in le-by (search linear) (search linear) (omega (arith, orders))
+
+pub le-antisym : {a b : ℤ} → a ≤ℤ b → b ≤ℤ a → a ≡ b
+le-antisym {a} {b} h k = let v = unknowns (a ∷ b ∷ []) in eq-by (search linear) (search linear) (omega (arith, orders))
+
+pub le-of-eq : {a b : ℤ} → a ≡ b → a ≤ℤ b
+le-of-eq {a} {b} h = let v = unknowns (a ∷ b ∷ []) in le-by (search linear) (search linear) (omega (arith, orders))
+
+pub neg-le : {a b : ℤ} → a ≤ℤ b → negℤ b ≤ℤ negℤ a
+neg-le {a} {b} h = let v = unknowns (a ∷ b ∷ []) in le-by (search linear) (search linear) (omega (arith, orders))
+
+pub sub-nonneg : {a b : ℤ} → a ≤ℤ b → pos 0 ≤ℤ (b -ℤ a)
+sub-nonneg {a} {b} h = let v = unknowns (a ∷ b ∷ []) in le-by (search linear) (search linear) (omega (arith, orders))
+
+pub mul-nonneg : {a b : ℤ} → pos 0 ≤ℤ a → pos 0 ≤ℤ b → pos 0 ≤ℤ (a *ℤ b)
+mul-nonneg {a = pos a} {b = pos b} h k = record { le = le→leb 0 (a * b) zero-le }
+mul-nonneg {a = pos a} {b = negsuc b} h k = absurd (k .le)
+mul-nonneg {a = negsuc a} {b} h k = absurd (h .le)
+
+pub mul-le-left : {a b : ℤ} (c : ℤ) → pos 0 ≤ℤ c → a ≤ℤ b → (c *ℤ a) ≤ℤ (c *ℤ b)
+mul-le-left {a} {b} c h k =
+    let v = unknowns (a ∷ b ∷ c ∷ []) in
+    le-by (search linear) (search linear) (omega (arith, le-of (mul-nonneg h (sub-nonneg k)) (search linear) (search linear)))
+
+pub square-nonneg : (a : ℤ) → pos 0 ≤ℤ (a *ℤ a)
+square-nonneg (pos a) = record { le = le→leb 0 (a * a) zero-le }
+square-nonneg (negsuc a) = record { le = le→leb 0 (suc a * suc a) zero-le }
+
+-- a product is 0 only where a factor is
+pub mul-zero : (a b : ℤ) → a *ℤ b ≡ pos 0 → (a ≡ pos 0) ⊎ (b ≡ pos 0)
+mul-zero (pos zero) b e = inl refl
+mul-zero (pos (suc a)) (pos zero) e = inr refl
+mul-zero (pos (suc a)) (pos (suc b)) e = absurd (omega (arith, ap natAbs e))
+mul-zero (pos (suc a)) (negsuc b) e = absurd (omega (arith, eq-of e (difference-neg (difference-pos (suc a * suc b))) (difference-pos 0)))
+mul-zero (negsuc a) (pos zero) e = inr refl
+mul-zero (negsuc a) (pos (suc b)) e = absurd (omega (arith, eq-of e (difference-neg (difference-pos (suc a * suc b))) (difference-pos 0)))
+mul-zero (negsuc a) (negsuc b) e = absurd (omega (arith, ap natAbs e))
+
+pub lt-or-le : (a b : ℤ) → (a <ℤ b) ⊎ (b ≤ℤ a)
+lt-or-le a b = go (decLe (above b + below a) (above a + below b))
+  where
+    go : Dec (above b + below a ≤ above a + below b) → (a <ℤ b) ⊎ (b ≤ℤ a)
+    go (yes h) = inr (let v = unknowns (a ∷ b ∷ []) in le-by (search linear) (search linear) (omega arith))
+    go (no h) = inl (let v = unknowns (a ∷ b ∷ []) in lt-by (search linear) (search linear) (omega arith))
+
+-- ---- what a test told of a and b, where the code compared x and y that equal them
+module _ {x y a b : ℤ} where
+  pub lt-true : ltZ x y ≡ true → x ≡ a → y ≡ b → a <ℤ b
+  lt-true e p q = ltZ-yes (subst₂ (λ u v. T (ltZ u v)) p q (subst T (sym e) tt))
+
+  pub lt-false : ltZ x y ≡ false → x ≡ a → y ≡ b → b ≤ℤ a
+  lt-false e p q = ltZ-no (subst₂ (λ u v. T (not (ltZ u v))) p q (subst (λ (t : Bool). T (not t)) (sym e) tt))
+
+  pub le-true : leZ x y ≡ true → x ≡ a → y ≡ b → a ≤ℤ b
+  le-true e p q = leZ-yes (subst₂ (λ u v. T (leZ u v)) p q (subst T (sym e) tt))
+
+  pub le-false : leZ x y ≡ false → x ≡ a → y ≡ b → b <ℤ a
+  le-false e p q = subst₂ (λ u v. v <ℤ u) p q (let v = unknowns (x ∷ y ∷ []) in lt-by (search linear) (search linear) (omega (arith, orders)))

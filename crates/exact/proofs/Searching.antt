@@ -1,0 +1,61 @@
+-- The laws of `first`, for a loop that goes through the numbers from 0 up and stops where a test holds. Assumes nothing.
+--   first-at            it is the number that passes the test after all before it have failed
+--   first-none          n where all fail; some-at, some-none the same of `some-below`
+--   first-before        whatever lies before it fails; all-failed: where none passes, all fail
+--   first-ext           of tests that agree below n
+--   Failed, failed-none, failed-more       the loop's invariant: all below i fail
+use mathlib.Core.Path.{_≡_, refl, sym, _∙_, ap, subst}
+use mathlib.Core.Bool.{Bool, true, false, cond}
+use Prim.Native.Nat.{ℕ, zero, suc, _+_, _<_, _≤_}
+use native.Mathlib.Omega.{arith}
+use borrow.Author.Tests.{lt-ltb, le-ltb, ltb-false}
+use borrow.Author.Count.{below-more}
+use lib.Dec.{ltb}
+use Rattle.exact.specs.First.{first, some-below}
+
+-- all numbers below i fail the test
+abbrev pub Failed : (ℕ → Bool) → ℕ → Type 0
+Failed p i = (h : ℕ) → h < i → p h ≡ false
+
+pub failed-none : (p : ℕ → Bool) → Failed p 0
+failed-none p h l = absurd (omega arith)
+
+pub failed-more : (p : ℕ → Bool) (i : ℕ) → Failed p i → p i ≡ false → Failed p (i + 1)
+failed-more p i f e = below-more (λ h. p h ≡ false) i f e
+
+pub first-at : (n : ℕ) (p : ℕ → Bool) (i : ℕ) → i < n → Failed p i → p i ≡ true → first n p ≡ i
+unfolding first
+first-at zero p i l f e = absurd (omega arith)
+first-at (suc n) p zero l f e = rw e
+first-at (suc n) p (suc i) l f e = rw (f 0 (omega arith)) (ap suc (first-at n (λ h. p (suc h)) i (omega arith) (λ h k. f (suc h) (omega arith)) e))
+
+pub first-none : (n : ℕ) (p : ℕ → Bool) → Failed p n → first n p ≡ n
+unfolding first
+first-none zero p f = refl
+first-none (suc n) p f = rw (f 0 (omega arith)) (ap suc (first-none n (λ h. p (suc h)) (λ h k. f (suc h) (omega arith))))
+
+pub some-at : (n : ℕ) (p : ℕ → Bool) (i : ℕ) → i < n → Failed p i → p i ≡ true → some-below n p ≡ true
+some-at n p i l f e = lt-ltb (first n p) n (rw (first-at n p i l f e) l)
+
+pub some-none : (n : ℕ) (p : ℕ → Bool) → Failed p n → some-below n p ≡ false
+some-none n p f = le-ltb (first n p) n (omega (arith, first-none n p f))
+
+pub first-before : (n : ℕ) (p : ℕ → Bool) → Failed p (first n p)
+unfolding first
+first-before zero p h l = absurd (omega arith)
+first-before (suc n) p h l = by-test (p 0) refl (first-before n (λ i. p (suc i))) h l
+  where
+    by-test : (b : Bool) → p 0 ≡ b → Failed (λ i. p (suc i)) (first n (λ i. p (suc i))) → (h : ℕ) → h < cond b 0 (suc (first n (λ i. p (suc i)))) → p h ≡ false
+    by-test true e r h l = absurd (omega arith)
+    by-test false e r zero l = e
+    by-test false e r (suc h) l = r h (omega arith)
+
+-- where no number below n passes, all fail
+pub all-failed : (n : ℕ) (p : ℕ → Bool) → some-below n p ≡ false → Failed p n
+all-failed n p e h l = first-before n p h (omega (arith, ltb-false (first n p) n e))
+
+pub first-ext : (n : ℕ) (p r : ℕ → Bool) → ((i : ℕ) → i < n → p i ≡ r i) → first n p ≡ first n r
+unfolding first
+first-ext zero p r e = refl
+first-ext (suc n) p r e =
+    λ t. cond (e 0 (omega arith) t) 0 (suc (first-ext n (λ i. p (suc i)) (λ i. r (suc i)) (λ i l. e (suc i) (omega arith)) t))

@@ -1,0 +1,5 @@
+pub mod Sum
+pub mod Nearest
+pub mod Circle
+pub mod First
+pub mod Tabulate

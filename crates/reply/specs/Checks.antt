@@ -1,0 +1,31 @@
+-- A fixed order of checks: each speaks only where all before it accept.
+use mathlib.Core.Bool.{Bool, true, false}
+use Prim.Native.Nat.{ℕ}
+use lib.Dec.{ltb}
+use lib.IntN.{ℤ}
+use Rattle.exact.specs.First.{first}
+use Rattle.reply.specs.declared.Refusal.{Refusal}
+use Rattle.reply.specs.declared.Reply.{Reply}
+use Rattle.reply.specs.declared.Reply.the-variants.{Accepted, Refused}
+use Rattle.reply.specs.declared.Figure.{Figure}
+use Rattle.reply.specs.declared.Figure.the-variants.{Value, Refused as NoFigure}
+
+-- one check: where the fault is there, this refusal
+abbrev pub refuseIf : Bool → Refusal → Reply
+refuseIf true why = Refused why
+refuseIf false why = Accepted
+
+-- one check over n things in their order: the first at fault refuses, with its own refusal
+abbrev pub refuseFirst : ℕ → (ℕ → Bool) → (ℕ → Refusal) → Reply
+refuseFirst n fault why = refuseIf (ltb (first n fault) n) (why (first n fault))
+
+-- this check, and then that one
+infixr 30 _andThen_
+abbrev pub _andThen_ : Reply → Reply → Reply
+Accepted andThen next = next
+(Refused why) andThen next = Refused why
+
+-- the answer of an operation whose result is one number: that number where every check accepts
+abbrev pub figureOf : Reply → ℤ → Figure
+figureOf Accepted v = Value v
+figureOf (Refused why) v = NoFigure why

@@ -1,0 +1,101 @@
+// The replies: why an input is refused, and what an operation answers. The rules' numbers and places stand in one definition each
+// (specs/Numbers.antt), and `number` and `place` give them.
+ghost use mathlib.Core.Path.{_≡_};
+ghost use Rattle.reply.specs.Numbers.{numberOf, placeOf};
+
+// Why an input is refused. Lines, ordinals, directions, rows and conditions count from 1; 0 is a place seen only at the end or from the length.
+pub enum Refusal {
+    // A line is malformed, unknown or under the wrong heading; a term's kind doesn't fit: its line or ordinal.
+    Malformed(u64),
+    // Counts, lengths, a direction out of turn: its line, or 0.
+    Count(u64),
+    // A number out of range, or i = k where that is not allowed: its line, direction number or ordinal, or 0.
+    OutOfRange(u64),
+    // A coefficient beyond 2,000: its condition.
+    Coefficient(u64),
+    // A misclosure beyond its range: its condition.
+    Misclosure(u64),
+    // A weak row: the row.
+    WeakRow(u64),
+    // A correlate that is too large: its row.
+    Correlate(u64),
+    // A remainder that is too large: its condition.
+    Remainder(u64),
+    // No sightings, too many, or field lists of unequal length.
+    Sightings,
+    // A sighting's field out of range: its ordinal.
+    Field(u64),
+    // A face missing or given more than once, at a position and an object.
+    Faces { position: u8, object: u8 },
+    // A position without its initial, object 1.
+    Initial { position: u8 },
+    // The two faces too far apart, at a position and an object.
+    FacesApart { position: u8, object: u8 },
+    // A position's direction too far from the base, at a position and an object.
+    Spread { position: u8, object: u8 },
+}
+
+// What an operation answers that leaves its results in lent lists.
+pub enum Reply {
+    Accepted,
+    Refused(Refusal),
+}
+
+// What an operation answers whose result is one number.
+pub enum Figure {
+    Value(i64),
+    Refused(Refusal),
+}
+
+// The rules' number of a refusal.
+pub fn number(r: Refusal) -> u64
+    ensures { λ n. ⌜ n ≡ numberOf r ⌝ }
+{
+    match r {
+        Refusal::Malformed(_) => 1,
+        Refusal::Count(_) => 2,
+        Refusal::OutOfRange(_) => 3,
+        Refusal::Coefficient(_) => 4,
+        Refusal::Misclosure(_) => 5,
+        Refusal::WeakRow(_) => 6,
+        Refusal::Correlate(_) => 7,
+        Refusal::Remainder(_) => 8,
+        Refusal::Sightings => 21,
+        Refusal::Field(_) => 22,
+        Refusal::Faces {
+            position: _,
+            object: _,
+        } => 23,
+        Refusal::Initial { position: _ } => 24,
+        Refusal::FacesApart {
+            position: _,
+            object: _,
+        } => 25,
+        Refusal::Spread {
+            position: _,
+            object: _,
+        } => 26,
+    }
+}
+
+// The rules' place of a refusal.
+pub fn place(r: Refusal) -> u64
+    ensures { λ n. ⌜ n ≡ placeOf r ⌝ }
+{
+    match r {
+        Refusal::Malformed(line) => line,
+        Refusal::Count(line) => line,
+        Refusal::OutOfRange(line) => line,
+        Refusal::Coefficient(condition) => condition,
+        Refusal::Misclosure(condition) => condition,
+        Refusal::WeakRow(row) => row,
+        Refusal::Correlate(row) => row,
+        Refusal::Remainder(condition) => condition,
+        Refusal::Sightings => 0,
+        Refusal::Field(ordinal) => ordinal,
+        Refusal::Faces { position, object } => 100 * (position as u64) + object as u64,
+        Refusal::Initial { position } => 100 * (position as u64) + 1,
+        Refusal::FacesApart { position, object } => 100 * (position as u64) + object as u64,
+        Refusal::Spread { position, object } => 100 * (position as u64) + object as u64,
+    }
+}
