@@ -2,6 +2,10 @@
 use Prim.Native.Nat.{_/_}
 use lib.IntN.{ℤ, pos, negsuc, natAbs, _-ℤ_, _*ℤ_}
 
+-- the circle, in 0.001 second
+abbrev pub C : ℤ
+C = pos 1296000000
+
 -- floor (n / d) for a divisor above 0: the largest whole number that is not above n / d
 unfoldable pub floor : ℤ → ℤ → ℤ
 floor (pos n) d = pos (n / natAbs d)

@@ -1,0 +1,42 @@
+// The record of a direction: its value and its inverse weight q, and the check of a lent list of them.
+ghost use mathlib.Core.Path.{_≡_};
+ghost use lib.ListN.{length};
+ghost use Rattle.direction.specs.Ranges.{outOfRange, directionsReply};
+use reply::Refusal;
+use reply::Reply;
+
+// The circle, in 0.001 second.
+pub const CIRCLE: i64 = 1296000000;
+
+// A direction lies from 0 to C - 1, and its q from 1 to 10.
+fn out_of_range(direction: i64, q: i64) -> bool
+    ensures { λ r. ⌜ r ≡ outOfRange direction q ⌝ }
+{
+    if direction < 0 {
+        return true;
+    }
+    if CIRCLE <= direction {
+        return true;
+    }
+    if q < 1 {
+        return true;
+    }
+    10 < q
+}
+
+// Refuses the first direction that is out of range, by its number.
+pub fn check(directions: &[i64], q: &[i64]) -> Reply
+    requires { ⌜ length (now q) ≡ length (now directions) ⌝ }
+    ensures { λ r. ⌜ r ≡ directionsReply (now (directions .entry)) (now (q .entry)) ⌝ }
+{
+    let mut i = 0;
+    while i < directions.len() {
+        let x = directions[i];
+        let y = q[i];
+        if out_of_range(x, y) {
+            return Reply::Refused(Refusal::OutOfRange((i + 1) as u64));
+        }
+        i += 1;
+    }
+    Reply::Accepted
+}
