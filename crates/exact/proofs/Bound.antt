@@ -5,7 +5,7 @@
 --   bounds                          the set for `search`
 --   fits-in, abs-in                 `fits-in (search bounds) tt`: the expression fits an i64; `abs-in`: it is within a numeral
 --   fits-within                     a number within a numeral fits: `fits-within z h tt`; fits-of-mag from a call's `.ok`
---   read, bits-equal                what the machine reads back of a number that fits is the number; equal bits are equal numbers
+--   read, read-at, read-within, bits-equal   what the machine reads back of a number that fits is the number; equal bits are equal numbers
 use mathlib.Core.Path.{_≡_, refl, sym, _∙_, ap, subst}
 use mathlib.Core.List.{List, [], _∷_}
 use Prim.Native.Nat.{ℕ, zero, suc, _+_, _*_, _-_, _<_, _≤_, _^_}
@@ -84,6 +84,14 @@ read {z} f = toZ-ofZ w64 z f
 -- what `a == b` on signed numbers tells
 pub bits-equal : {a b : ℤ} → SFits w64 a → SFits w64 b → ofZ w64 a ≡ ofZ w64 b → a ≡ b
 bits-equal f g e = sym (read f) ∙ ap (toZ w64) e ∙ read g
+
+-- the same, of an element of a list or a call's result, by what its read or the call tells
+pub read-at : (z : ℤ) → mag z < 2 ^ 63 → toZ w64 (ofZ w64 z) ≡ z
+read-at z h = read (record { sfits = h })
+
+-- a bound of an element of a list is one of what the machine reads of it
+pub read-within : (z : ℤ) {b : ℕ} → mag z < 2 ^ 63 → natAbs z ≤ b → natAbs (toZ w64 (ofZ w64 z)) ≤ b
+read-within z f h = rw (read-at z f) h
 
 abbrev pub bounded-read : {x : ℤ} → SFits w64 x → Bounded x → Bounded (toZ w64 (ofZ w64 x))
 bounded-read f s = bounded-by (read f) s

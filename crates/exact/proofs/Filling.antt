@@ -1,11 +1,11 @@
--- A list whose elements are replaced from the front, one a turn. Assumes nothing.
+-- A list whose elements are replaced in their order, one a turn, from some place on. Assumes nothing.
 --   tabulate-length, tabulate-at       a list by its elements
---   Filled                             the first i elements are g 0 .. g (i − 1), and the rest are as they were
+--   Filled                             from place `from` to place i the elements are those of g; from i on they are as they were
 --   filled-none, filled-more           before the first turn, and after one more
---   filled-all                         after the last
+--   filled-all                         after the last, from place 0
 use mathlib.Core.Path.{_≡_, refl, sym, _∙_, ap, subst}
 use mathlib.Core.List.{List, [], _∷_}
-use Prim.Native.Nat.{ℕ, zero, suc, _+_, _<_, _≤_}
+use Prim.Native.Nat.{ℕ, zero, suc, _+_, _<_, _≤_, zero-le}
 use native.Mathlib.Decide.{decLt}
 use native.Mathlib.Omega.{arith}
 use lib.ListN.{length, getD, set, length-set}
@@ -25,29 +25,29 @@ module _ {A : Type 0} where
   tabulate-at (suc n) g (suc i) d l = tabulate-at n (λ i. g (suc i)) i d (omega arith)
 
 module _ {A : Type 0} (d : A) where
-  pub record Filled (g : ℕ → A) (i : ℕ) (xs ys : List A) : Type 0 where
+  pub record Filled (g : ℕ → A) (from i : ℕ) (xs ys : List A) : Type 0 where
     pub long : length ys ≡ length xs
-    pub done : (j : ℕ) → j < i → getD ys j d ≡ g j
+    pub done : (j : ℕ) → from ≤ j → j < i → getD ys j d ≡ g j
     pub rest : (j : ℕ) → i ≤ j → getD ys j d ≡ getD xs j d
 
-  pub filled-none : (g : ℕ → A) (xs : List A) → Filled g 0 xs xs
-  filled-none g xs = record { long = refl; done = λ j h. absurd (omega arith); rest = λ j h. refl }
+  pub filled-none : (g : ℕ → A) (from : ℕ) (xs : List A) → Filled g from from xs xs
+  filled-none g from xs = record { long = refl; done = λ j h k. absurd (omega arith); rest = λ j h. refl }
 
-  pub filled-more : (g : ℕ → A) (i : ℕ) (xs ys : List A) (v : A) → i < length xs → Filled g i xs ys → v ≡ g i → Filled g (i + 1) xs (set ys i v)
-  filled-more g i xs ys v l u e = record {
+  pub filled-more : (g : ℕ → A) (from i : ℕ) (xs ys : List A) (v : A) → i < length xs → Filled g from i xs ys → v ≡ g i → Filled g from (i + 1) xs (set ys i v)
+  filled-more g from i xs ys v l u e = record {
     long = length-set ys i v ∙ u .long;
-    done = λ j h. pick j (decLt j i) h;
+    done = λ j f h. pick j (decLt j i) f h;
     rest = λ j h. getD-set-other ys i j v d (λ f. omega arith) ∙ u .rest j (omega arith);
   }
     where
       last : (j : ℕ) → ¬ (j < i) → j < i + 1 → i ≡ j
       last j n h = omega arith
 
-      pick : (j : ℕ) → Dec (j < i) → j < i + 1 → getD (set ys i v) j d ≡ g j
-      pick j (yes k) h = getD-set-other ys i j v d (λ f. omega arith) ∙ u .done j k
-      pick j (no k) h = subst (λ (n : ℕ). getD (set ys i v) n d ≡ g n) (last j k h) (getD-set-same ys i v d (omega (arith, u .long)) ∙ e)
+      pick : (j : ℕ) → Dec (j < i) → from ≤ j → j < i + 1 → getD (set ys i v) j d ≡ g j
+      pick j (yes k) f h = getD-set-other ys i j v d (λ f. omega arith) ∙ u .done j f k
+      pick j (no k) f h = subst (λ (n : ℕ). getD (set ys i v) n d ≡ g n) (last j k h) (getD-set-same ys i v d (omega (arith, u .long)) ∙ e)
 
-  pub filled-all : (g : ℕ → A) (n : ℕ) (xs ys : List A) → length xs ≡ n → Filled g n xs ys → ys ≡ tabulate n g
+  pub filled-all : (g : ℕ → A) (n : ℕ) (xs ys : List A) → length xs ≡ n → Filled g 0 n xs ys → ys ≡ tabulate n g
   filled-all g n xs ys e u =
       ext-getD d ys (tabulate n g) (u .long ∙ e ∙ sym (tabulate-length n g))
-      (λ i l. u .done i (omega (arith, u .long)) ∙ sym (tabulate-at n g i d (omega (arith, u .long))))
+      (λ i l. u .done i zero-le (omega (arith, u .long)) ∙ sym (tabulate-at n g i d (omega (arith, u .long))))

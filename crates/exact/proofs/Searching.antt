@@ -3,14 +3,15 @@
 --   first-none          n where all fail; some-at, some-none the same of `some-below`
 --   first-before        whatever lies before it fails; all-failed: where none passes, all fail
 --   first-ext           of tests that agree below n
+--   from-failed, from-test                 a search that begins at j: whatever lies before j fails; from j on the test decides
 --   Failed, failed-none, failed-more       the loop's invariant: all below i fail
 use mathlib.Core.Path.{_≡_, refl, sym, _∙_, ap, subst}
-use mathlib.Core.Bool.{Bool, true, false, cond}
+use mathlib.Core.Bool.{Bool, true, false, cond, _&&_}
 use Prim.Native.Nat.{ℕ, zero, suc, _+_, _<_, _≤_}
 use native.Mathlib.Omega.{arith}
-use borrow.Author.Tests.{lt-ltb, le-ltb, ltb-false}
+use borrow.Author.Tests.{lt-ltb, le-ltb, le-leb, lt-leb, ltb-false}
 use borrow.Author.Count.{below-more}
-use lib.Dec.{ltb}
+use lib.Dec.{leb, ltb}
 use Rattle.exact.specs.First.{first, some-below}
 
 -- all numbers below i fail the test
@@ -59,3 +60,10 @@ unfolding first
 first-ext zero p r e = refl
 first-ext (suc n) p r e =
     λ t. cond (e 0 (omega arith) t) 0 (suc (first-ext n (λ i. p (suc i)) (λ i. r (suc i)) (λ i l. e (suc i) (omega arith)) t))
+
+-- a search that begins at j
+pub from-failed : (j : ℕ) (p : ℕ → Bool) → Failed (λ k. leb j k && p k) j
+from-failed j p h l = rw (lt-leb j h l)
+
+pub from-test : (j k : ℕ) (p : ℕ → Bool) → j ≤ k → (leb j k && p k) ≡ p k
+from-test j k p l = rw (le-leb j k l)

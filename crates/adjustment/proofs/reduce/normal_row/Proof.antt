@@ -1,0 +1,151 @@
+-- `reduce::normal_row` meets its contract. Assumes nothing.
+use mathlib.Core.Path.{_≡_, refl, sym, _∙_, ap, ap₂, subst}
+use mathlib.Core.Bool.{Bool, true, false, _&&_, _||_, not, cond}
+use mathlib.Core.List.{List, [], _∷_}
+use mathlib.Core.Logic.{⊎-elim}
+use Prim.Native.Nat.{ℕ, suc, _+_, _*_, _-_, _≤_, _<_}
+use native.Mathlib.Omega.{arith}
+use native.Mathlib.Numerals.{add-one}
+use borrow.Author.Needs.{needs}
+use borrow.Author.Tests.{lt-ltb, le-ltb, le-leb, lt-leb, eq-eqb, ne-eqb}
+use denote.Ref.{now}
+use lib.Dec.{T, ltb, leb, eqb}
+use lib.ListN.{length, getD, set, replicate, length-set}
+use lib.Seq.{getD-set-same, getD-set-other}
+use lib.IntN.{ℤ, pos, negℤ, natAbs, _+ℤ_, _-ℤ_, _*ℤ_, +ℤ-idl}
+use lib.Signed.{_≤ℤ_, _<ℤ_}
+use mir.Syntax.{w64}
+use mir.Val.{SFits, toZ, ofZ}
+use mir.ValLaws.{toZ-ofZ}
+use Rattle.exact.specs.Sum.{sum}
+use Rattle.exact.specs.Nearest.{nearest}
+use Rattle.exact.specs.Circle.{C, modulo}
+use Rattle.exact.specs.First.{first, some-below}
+use Rattle.exact.specs.Tabulate.{tabulate}
+use Rattle.exact.proofs.Linear.{unknowns, machine, linear, orders, one-sided, lt-by, le-by, eq-by}
+use Rattle.exact.proofs.Order.{lt-true, lt-false, le-true, le-false}
+use Rattle.exact.proofs.Bound.{read, read-at, read-within, fits-of-mag, bounded, bounded-by, bounds, fits-in, fits-within}
+use Rattle.exact.proofs.Sum.{sum-none, sum-more, sum-ext}
+use Rattle.exact.proofs.Searching.{Failed, failed-none, failed-more, first-at, first-none, some-at, some-none, from-failed, from-test}
+use Rattle.exact.proofs.Filling.{Filled, filled-none, filled-more, filled-all}
+use Rattle.reply.specs.declared.Refusal.the-variants.{Count, Coefficient, Misclosure, WeakRow, Correlate, Remainder}
+use Rattle.reply.specs.declared.Reply.{Reply}
+use Rattle.reply.specs.declared.Reply.the-variants.{Accepted, Refused}
+use Rattle.reply.specs.Checks.{refuseIf, refuseFirst, _andThen_}
+use Rattle.reply.proofs.Checking.{refuse-at, refuse-none}
+use Rattle.adjustment.specs.declared.reduce.Row.{Row}
+use Rattle.adjustment.specs.Table.{Table, tableOf}
+use Rattle.adjustment.specs.Solution.{N, reduced, D, L, M, carried, multiplier, weakRow, weak, K}
+use Rattle.adjustment.specs.Corrections.{V-of, R-of, u-of, adjusted-of, Q-of}
+use Rattle.adjustment.specs.Refusals.{countsAmiss, lengthsAmiss, coefficientFault, misclosureFault, conditionsReply}
+use Rattle.adjustment.specs.Inner.{Small, Within, Sound, From, RowWithin, IsNormalRow, TakesRow, Multiplies, IsRow, d-at, m-at, noRow}
+use Rattle.adjustment.proofs.Sizes.{row-end, next-row}
+use Rattle.adjustment.proofs.reduce.normal_row.Statement.{statement}
+use Rattle.adjustment.proofs.reduce.normal_row.Tie as tie
+
+abbrev Inv-loop : tie.InvT-loop
+Inv-loop q a w j at x row₀ to₀ k₀ row to k = (j ≤ k) × (k ≤ length w) × (to ≡ k * length q) × (row .l ≡ row₀ .l) × Filled (pos 0) (N (tableOf q a w) j) j k (row₀ .d) (row .d)
+
+abbrev μ-loop : tie.MeasureT-loop
+μ-loop q a w j at x row₀ to₀ k₀ row to k = length w - k
+
+mul-x : tie.Need-mul-x Inv-loop μ-loop
+mul-x c = search needs
+
+shared-slice-copy-out-x : tie.Need-shared-slice-copy-out-x Inv-loop μ-loop
+shared-slice-copy-out-x c = search needs
+
+constant-requires : tie.Need-constant-requires Inv-loop μ-loop
+constant-requires c κs =
+    let s = c .before in read-within (getD (now (s .args .w)) (s .args .j) (pos 0)) (c .x .given) (s .pre .0 .w-most (s .args .j) (s .pre .1 .0))
+
+loop-holds : tie.Need-loop-holds Inv-loop μ-loop
+loop-holds c =
+    let s = c .before .before in
+    ( omega arith
+    , omega arith
+    , s .pre .1 .1
+    , refl
+    , filled-none (pos 0) (N (tableOf (now (s .args .q)) (now (s .args .a)) (now (s .args .w))) (s .args .j)) (s .args .j) (replicate 24 (pos 0))
+    )
+
+normal-requires : tie.Need-normal-requires Inv-loop μ-loop
+normal-requires c κs =
+    let l = c .before in let s = l .before .before .before in let t = s .pre .0 in let i = l .loop .inv in let k = l .loop .k in
+    let m = length (now (s .args .q)) in let n = length (now (s .args .w)) in let h : k < n = omega arith in
+    ( t .m-most
+    , ( ( row-end (s .args .j) n m (s .pre .1 .0) (t .long) (s .pre .1 .1)
+        , row-end k n m h (t .long) (i .2)
+        )
+      , ( t .q-most
+        , ( subst (λ (at : ℕ). Within 2000 (now (s .args .a)) at m) (sym (s .pre .1 .1)) (t .a-most (s .args .j) (s .pre .1 .0))
+          , subst (λ (at : ℕ). Within 2000 (now (s .args .a)) at m) (sym (i .2)) (t .a-most k h)
+          )
+        )
+      )
+    )
+
+mul-t15 : tie.Need-mul-t15 Inv-loop μ-loop
+mul-t15 c = search needs
+
+element-set-from-row : tie.Need-element-set-from-row Inv-loop μ-loop
+element-set-from-row c = search needs
+
+add-to : tie.Need-add-to Inv-loop μ-loop
+add-to c =
+    let l = c .before .before in let s = l .before .before .before in
+    omega (arith, row-end (l .loop .k) (length (now (s .args .w))) (length (now (s .args .q))) (omega arith) (s .pre .0 .long) (l .loop .inv .2))
+
+add-k : tie.Need-add-k Inv-loop μ-loop
+add-k c = search needs
+
+loop-less : tie.Need-loop-less Inv-loop μ-loop
+loop-less c = search needs
+
+-- the entry at place k
+entry-is : (c : tie.After-normal Inv-loop μ-loop) →
+    c .normal .result ≡ N (tableOf (now (c .before .before .before .before .before .args .q)) (now (c .before .before .before .before .before .args .a)) (now (c .before .before .before .before .before .args .w))) (c .before .before .before .before .before .args .j) (c .before .before .loop .k)
+unfolding N
+entry-is c =
+    let l = c .before .before in let s = l .before .before .before in let q = now (s .args .q) in let a = now (s .args .a) in
+    c .normal .ensures
+    ∙ ap₂ (λ (x y : ℕ). sum (length q) (λ i. getD q i (pos 0) *ℤ getD a (x + i) (pos 0) *ℤ getD a (y + i) (pos 0))) (s .pre .1 .1) (l .loop .inv .2)
+
+loop-again : tie.Need-loop-again Inv-loop μ-loop
+loop-again c =
+    let l = c .before .before in let s = l .before .before .before in let i = l .loop .inv in let k = l .loop .k in
+    ( omega arith
+    , omega arith
+    , next-row k (length (now (s .args .q))) (i .2)
+    , i .3
+    , filled-more (pos 0) (N (tableOf (now (s .args .q)) (now (s .args .a)) (now (s .args .w))) (s .args .j)) (s .args .j) k (replicate 24 (pos 0)) (l .loop .row .d)
+      (toZ w64 (ofZ w64 (c .normal .result))) (omega (arith, s .pre .0 .n-most)) (i .4) (read-at (c .normal .result) (c .normal .ok) ∙ entry-is c)
+    )
+
+returns : tie.Need-returns Inv-loop μ-loop
+returns c =
+    let l = c .before in let k = l .before in let s = k .before .before in let i = l .loop .inv in
+    record {
+      d = λ h e f. i .4 .done h e (omega arith);
+      l = i .3 ∙ read-at (k .constant .result) (k .constant .ok) ∙ k .constant .ensures
+          ∙ ap (λ (z : ℤ). pos 1000 *ℤ z) (read-at (getD (now (s .args .w)) (s .args .j) (pos 0)) (k .before .x .given));
+    }
+
+pub normal-row-spec : {M : Type 1} → statement M
+normal-row-spec =
+    tie.close
+    (tie.spec
+    Inv-loop
+    μ-loop
+    mul-x
+    shared-slice-copy-out-x
+    constant-requires
+    loop-holds
+    normal-requires
+    mul-t15
+    element-set-from-row
+    add-to
+    add-k
+    loop-less
+    loop-again
+    returns)

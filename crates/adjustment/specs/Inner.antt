@@ -1,0 +1,69 @@
+-- What the inner functions ask of each other: bounds under which no step overflows, and what a row of the code holds. No part of the promise.
+use mathlib.Core.Path.{_≡_}
+use mathlib.Core.List.{List, []}
+use Prim.Native.Nat.{ℕ, _+_, _*_, _≤_, _<_}
+use lib.ListN.{length, getD}
+use lib.IntN.{ℤ, pos, natAbs, _+ℤ_, _*ℤ_}
+use lib.Signed.{_≤ℤ_, _<ℤ_}
+use Rattle.adjustment.specs.declared.reduce.Row.{Row}
+use Rattle.adjustment.specs.Table.{Table, tableOf}
+use Rattle.adjustment.specs.Solution.{N, D, L, M, multiplier, carried}
+
+-- the first `count` numbers of a list are within B
+abbrev pub Small : ℕ → List ℤ → ℕ → Type 0
+Small B xs count = (i : ℕ) → i < count → natAbs (getD xs i (pos 0)) ≤ B
+
+-- the numbers of a list from `at` on, `count` of them, are within B
+abbrev pub Within : ℕ → List ℤ → ℕ → ℕ → Type 0
+Within B xs at count = (i : ℕ) → i < count → natAbs (getD xs (at + i) (pos 0)) ≤ B
+
+-- a table that has passed its input checks
+pub record Sound (qs cs ws : List ℤ) : Type 0 where
+  pub m-most : length qs ≤ 64
+  pub n-most : length ws ≤ 24
+  pub long : length cs ≡ length ws * length qs
+  pub q-least : (i : ℕ) → i < length qs → pos 1 ≤ℤ getD qs i (pos 0)
+  pub q-most : Small 10 qs (length qs)
+  pub a-most : (j : ℕ) → j < length ws → Within 2000 cs (j * length qs) (length qs)
+  pub w-most : Small 1000000 ws (length ws)
+
+-- what the checker reads past the end of a list of rows
+abbrev pub noRow : Row
+noRow = record { d = []; m = []; l = pos 0 }
+
+abbrev pub d-at : Row → ℕ → ℤ
+d-at row k = getD (row .d) k (pos 0)
+
+abbrev pub m-at : Row → ℕ → ℤ
+m-at row k = getD (row .m) k (pos 0)
+
+-- from place j to place n
+abbrev pub From : ℕ → ℕ → (ℕ → Type 0) → Type 0
+From j n P = (k : ℕ) → j ≤ k → k < n → P k
+
+-- a row whose coefficients and constant are within B
+pub record RowWithin (B j n : ℕ) (row : Row) : Type 0 where
+  pub d : From j n (λ k. natAbs (d-at row k) ≤ B)
+  pub l : natAbs (row .l) ≤ B
+
+-- row j of a table before any row above it is taken
+pub record IsNormalRow (t : Table) (j : ℕ) (row : Row) : Type 0 where
+  pub d : From j (t .n) (λ k. d-at row k ≡ N t j k)
+  pub l : row .l ≡ pos 1000 *ℤ t .w j
+
+-- `next` is `row` with `above` taken, whose multiplier for row j is m-at above j
+pub record TakesRow (row above : Row) (j n : ℕ) (next : Row) : Type 0 where
+  pub d : From j n (λ k. d-at next k ≡ d-at row k +ℤ carried (m-at above j) (d-at above k))
+  pub l : next .l ≡ row .l +ℤ carried (m-at above j) (above .l)
+
+-- `next` is `row` with the multipliers of row j
+pub record Multiplies (row : Row) (j n : ℕ) (next : Row) : Type 0 where
+  pub d : next .d ≡ row .d
+  pub l : next .l ≡ row .l
+  pub m : (k : ℕ) → j < k → k < n → m-at next k ≡ multiplier (d-at row k) (d-at row j)
+
+-- a reduced row of a table
+pub record IsRow (t : Table) (j : ℕ) (row : Row) : Type 0 where
+  pub d : From j (t .n) (λ k. d-at row k ≡ D t j k)
+  pub l : row .l ≡ L t j
+  pub m : (k : ℕ) → j < k → k < t .n → m-at row k ≡ M t j k

@@ -1,0 +1,7 @@
+pub mod Table
+pub mod Solution
+pub mod Corrections
+pub mod Refusals
+pub mod Demand
+pub mod Promise
+pub mod Inner

@@ -1,0 +1,55 @@
+-- What the operation promises for every input: its reply, what each lent answer list then holds, and demand 3 of every accepted table.
+use mathlib.Core.Path.{_≡_}
+use mathlib.Core.List.{List}
+use Prim.Native.Nat.{ℕ}
+use lib.ListN.{length, getD}
+use lib.IntN.{ℤ, pos}
+use Rattle.exact.specs.Tabulate.{tabulate}
+use Rattle.reply.specs.declared.Reply.{Reply}
+use Rattle.reply.specs.declared.Reply.the-variants.{Accepted, Refused}
+use Rattle.reply.specs.Checks.{_andThen_}
+use Rattle.adjustment.specs.Table.{Table, tableOf}
+use Rattle.adjustment.specs.Solution.{K}
+use Rattle.adjustment.specs.Corrections.{V-of, R-of, u-of, adjusted-of, Q-of}
+use Rattle.adjustment.specs.Refusals.{inputReply, solutionReply}
+use Rattle.adjustment.specs.Demand.{Demand3}
+
+-- the six lent answer lists: V, u, the adjusted directions, K, R and Q
+pub record Answers : Type 0 where
+  pub corrections : List ℤ
+  pub printed : List ℤ
+  pub adjusted : List ℤ
+  pub correlates : List ℤ
+  pub remainders : List ℤ
+  pub printedRemainders : List ℤ
+
+-- the reply to a lent table, with the answer lists as they were lent
+unfoldable pub adjustReply : (directions qs cs ws : List ℤ) → Answers → Reply
+adjustReply ds qs cs ws lent =
+    inputReply ds qs cs ws (length (lent .corrections)) (length (lent .printed)) (length (lent .adjusted)) (length (lent .correlates)) (length (lent .remainders)) (length (lent .printedRemainders))
+    andThen solutionReply (tableOf qs cs ws)
+
+-- the answer lists of a table and its correlates
+abbrev pub answersOf : Table → (k direction : ℕ → ℤ) → Answers
+answersOf t k direction = record {
+  corrections = tabulate (t .m) (V-of t k);
+  printed = tabulate (t .m) (u-of t k);
+  adjusted = tabulate (t .m) (adjusted-of t k direction);
+  correlates = tabulate (t .n) k;
+  remainders = tabulate (t .n) (R-of t k);
+  printedRemainders = tabulate (t .n) (Q-of t k);
+}
+
+-- the lent lists afterwards: the answers, or in a refusal what was lent
+abbrev pub leaves : Reply → (answers lent : Answers) → Answers
+leaves Accepted answers lent = answers
+leaves (Refused why) answers lent = lent
+
+-- a list as the numbers at its places
+abbrev pub at : List ℤ → ℕ → ℤ
+at xs i = getD xs i (pos 0)
+
+pub record Adjusts (ds qs cs ws : List ℤ) (lent : Answers) (reply : Reply) (left : Answers) : Type 0 where
+  pub answer : reply ≡ adjustReply ds qs cs ws lent
+  pub lists : left ≡ leaves reply (answersOf (tableOf qs cs ws) (K (tableOf qs cs ws)) (at ds)) lent
+  pub demand3 : reply ≡ Accepted → Demand3 (tableOf qs cs ws) (at (left .corrections)) (at (left .remainders)) (at (left .printedRemainders))

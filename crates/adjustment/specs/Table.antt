@@ -1,0 +1,24 @@
+-- A condition table: for each of m directions an inverse weight q, and for each of n conditions its coefficients a, one for every direction, and its misclosure w.
+-- Directions and conditions are counted from 0 here, from 1 in replies.
+use mathlib.Core.List.{List}
+use Prim.Native.Nat.{ℕ, _+_, _*_}
+use lib.ListN.{length, getD}
+use lib.IntN.{ℤ, pos}
+
+pub record Table : Type 0 where
+  pub m : ℕ
+  pub n : ℕ
+  pub q : ℕ → ℤ
+  -- a j i belongs to condition j and direction i
+  pub a : ℕ → ℕ → ℤ
+  pub w : ℕ → ℤ
+
+-- the table in lent lists: the coefficients row by row, m to a row
+abbrev pub tableOf : List ℤ → List ℤ → List ℤ → Table
+tableOf qs cs ws = record {
+  m = length qs;
+  n = length ws;
+  q = λ i. getD qs i (pos 0);
+  a = λ j i. getD cs (j * length qs + i) (pos 0);
+  w = λ j. getD ws j (pos 0);
+}

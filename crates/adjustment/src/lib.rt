@@ -1,0 +1,5 @@
+// Adjustment of a condition table.
+pub mod correct;
+pub mod correlate;
+pub mod reduce;
+pub mod table;

@@ -1,0 +1,109 @@
+// The input checks of a lent condition table, in their order: 2 for counts and lengths, 3 by direction, 4 and 5 by condition.
+ghost use mathlib.Core.Path.{_≡_};
+ghost use mathlib.Core.Bool.{_||_};
+ghost use Prim.Native.Nat.{ℕ, _+_, _*_, _≤_};
+ghost use lib.ListN.{length, getD};
+ghost use lib.IntN.{pos, natAbs};
+ghost use lib.Dec.{ltb};
+ghost use Rattle.exact.specs.First.{some-below};
+ghost use Rattle.adjustment.specs.Table.{tableOf};
+ghost use Rattle.adjustment.specs.Refusals.{countsAmiss, lengthsAmiss, conditionsReply};
+use reply::Refusal;
+use reply::Reply;
+
+// Directions: 1 to 64. Conditions: 1 to 24, and not more than directions.
+pub fn counts_amiss(m: usize, n: usize) -> bool
+    ensures { λ r. ⌜ r ≡ countsAmiss m n ⌝ }
+{
+    if m < 1 {
+        return true;
+    }
+    if 64 < m {
+        return true;
+    }
+    if n < 1 {
+        return true;
+    }
+    if 24 < n {
+        return true;
+    }
+    m < n
+}
+
+// Some length disagrees with the counts: q and the coefficients, the three answers by direction, the three by condition.
+pub fn lengths_amiss(
+    m: usize,
+    n: usize,
+    q: usize,
+    a: usize,
+    v: usize,
+    u: usize,
+    adjusted: usize,
+    k: usize,
+    r: usize,
+    s: usize,
+) -> bool
+    requires { ⌜ (m ≤ 64) × (n ≤ 24) ⌝ }
+    ensures { λ b. ⌜ b ≡ lengthsAmiss m n q a v u adjusted k r s ⌝ }
+{
+    if q != m {
+        return true;
+    }
+    if a != n * m {
+        return true;
+    }
+    if v != m {
+        return true;
+    }
+    if u != m {
+        return true;
+    }
+    if adjusted != m {
+        return true;
+    }
+    if k != n {
+        return true;
+    }
+    if r != n {
+        return true;
+    }
+    s != n
+}
+
+// Some of the m coefficients from `at` on is beyond 2,000.
+fn coefficient_fault(a: &[i64], at: usize, m: usize) -> bool
+    requires { ⌜ at + m ≤ length (now a) ⌝ }
+    ensures { λ r. ⌜ r ≡ some-below m (λ i. ltb 2000 (natAbs (getD (now (a .entry)) (at + i) (pos 0)))) ⌝ }
+{
+    let mut i = 0;
+    while i < m {
+        let x = a[at + i];
+        if 2000 < exact::magnitude(x) {
+            return true;
+        }
+        i += 1;
+    }
+    false
+}
+
+// Refuses the first condition with a coefficient or a misclosure beyond its range, the coefficients first.
+pub fn check_conditions(q: &[i64], a: &[i64], w: &[i64]) -> Reply
+    requires { ⌜ length (now a) ≡ length (now w) * length (now q) ⌝ }
+    ensures { λ r. ⌜ r ≡ conditionsReply (tableOf (now (q .entry)) (now (a .entry)) (now (w .entry))) ⌝ }
+{
+    let m = q.len();
+    let mut at = 0;
+    let mut j = 0;
+    while j < w.len() {
+        if coefficient_fault(a, at, m) {
+            return Reply::Refused(Refusal::Coefficient((j + 1) as u64));
+        }
+        let x = w[j];
+        if 1000000 < exact::magnitude(x) {
+            return Reply::Refused(Refusal::Misclosure((j + 1) as u64));
+        }
+        at += m;
+        j += 1;
+    }
+    Reply::Accepted
+}
