@@ -18,7 +18,7 @@ use Rattle.direction.specs.Ranges.{directionsReply}
 use Rattle.adjustment.specs.Table.{Table, tableOf}
 use Rattle.adjustment.specs.Solution.{N, reduced, D, L, M, weakRow, weak, back, K}
 use Rattle.adjustment.specs.Corrections.{V-of, R-of, u-of, adjusted-of, Q-of}
-use Rattle.adjustment.specs.Refusals.{countsAmiss, lengthsAmiss, coefficientFault, misclosureFault, conditionsReply, rowsReply, correlatesReply, remaindersReply, solutionReply, inputReply}
+use Rattle.adjustment.specs.Refusals.{countsAmiss, differs, lengthsAmiss, coefficientFault, misclosureFault, conditionsReply, rowsReply, correlatesReply, remaindersReply, solutionReply, inputReply}
 use Rattle.adjustment.specs.Promise.{Answers, adjustReply, answersOf}
 
 -- a whole number below 0
@@ -47,5 +47,5 @@ pub figure-1 :
     × (tabulate 1 (R-of figure1 (K figure1)) ≡ minus 2948 ∷ [])
     × (tabulate 3 (u-of figure1 (K figure1)) ≡ minus 1430 ∷ pos 3243 ∷ minus 4945 ∷ [])
     × (tabulate 1 (Q-of figure1 (K figure1)) ≡ pos 3200000 ∷ [])
-unfolding sum nearest first tabulate directionsReply N reduced D L M weakRow weak back K V-of R-of u-of Q-of countsAmiss lengthsAmiss coefficientFault misclosureFault conditionsReply rowsReply correlatesReply remaindersReply solutionReply inputReply adjustReply
+unfolding sum nearest first tabulate directionsReply N reduced D L M weakRow weak back K V-of R-of u-of Q-of countsAmiss differs lengthsAmiss coefficientFault misclosureFault conditionsReply rowsReply correlatesReply remaindersReply solutionReply inputReply adjustReply
 figure-1 = (refl, refl, refl, refl, refl, refl)

@@ -1,2 +1,5 @@
 pub mod Figures
 pub mod Sizes
+pub mod Weakness
+pub mod Reducing
+pub mod Correlating

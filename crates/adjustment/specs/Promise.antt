@@ -2,13 +2,13 @@
 use mathlib.Core.Path.{_≡_}
 use mathlib.Core.List.{List}
 use Prim.Native.Nat.{ℕ}
-use lib.ListN.{length, getD}
-use lib.IntN.{ℤ, pos}
+use lib.ListN.{length}
+use lib.IntN.{ℤ}
 use Rattle.exact.specs.Tabulate.{tabulate}
 use Rattle.reply.specs.declared.Reply.{Reply}
 use Rattle.reply.specs.declared.Reply.the-variants.{Accepted, Refused}
 use Rattle.reply.specs.Checks.{_andThen_}
-use Rattle.adjustment.specs.Table.{Table, tableOf}
+use Rattle.adjustment.specs.Table.{Table, at, tableOf}
 use Rattle.adjustment.specs.Solution.{K}
 use Rattle.adjustment.specs.Corrections.{V-of, R-of, u-of, adjusted-of, Q-of}
 use Rattle.adjustment.specs.Refusals.{inputReply, solutionReply}
@@ -44,10 +44,6 @@ answersOf t k direction = record {
 abbrev pub leaves : Reply → (answers lent : Answers) → Answers
 leaves Accepted answers lent = answers
 leaves (Refused why) answers lent = lent
-
--- a list as the numbers at its places
-abbrev pub at : List ℤ → ℕ → ℤ
-at xs i = getD xs i (pos 0)
 
 pub record Adjusts (ds qs cs ws : List ℤ) (lent : Answers) (reply : Reply) (left : Answers) : Type 0 where
   pub answer : reply ≡ adjustReply ds qs cs ws lent

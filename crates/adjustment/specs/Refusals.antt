@@ -20,12 +20,11 @@ unfoldable pub countsAmiss : ℕ → ℕ → Bool
 countsAmiss m n = ltb m 1 || (ltb 64 m || (ltb n 1 || (ltb 24 n || ltb m n)))
 
 -- lengths that disagree: of q and the coefficients, of the three answers by direction (V, u, adjusted), of the three by condition (K, R, Q)
+unfoldable pub differs : (count x y z : ℕ) → Bool
+differs count x y z = not (eqb x count) || (not (eqb y count) || not (eqb z count))
+
 unfoldable pub lengthsAmiss : (m n q a v u adjusted k r Q : ℕ) → Bool
-lengthsAmiss m n q a v u adjusted k r Q =
-    not (eqb q m)
-    || (not (eqb a (n * m))
-    || (not (eqb v m) || (not (eqb u m) || (not (eqb adjusted m)
-    || (not (eqb k n) || (not (eqb r n) || not (eqb Q n)))))))
+lengthsAmiss m n q a v u adjusted k r Q = not (eqb q m) || (not (eqb a (n * m)) || (differs m v u adjusted || differs n k r Q))
 
 -- 4: a coefficient beyond 2,000; 5: a misclosure beyond 1,000,000; by condition
 unfoldable pub coefficientFault : Table → ℕ → Bool

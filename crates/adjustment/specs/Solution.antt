@@ -55,12 +55,12 @@ unfoldable pub weak : Table → ℕ → Bool
 weak t j = weakRow (t .n) j (D t j) (L t j)
 
 -- Then from n down to 1: K(j) = nearest(-10^4*L(j) / D(j,j)) + sum over k>j of nearest(M(j,k)*K(k) / 10^6).
--- The correlates of the last b rows, those below them being found first.
-unfoldable pub back : Table → ℕ → List ℤ
-back t zero = []
-back t (suc b) =
-    let j = t .n - suc b in let below = back t b in
-    (nearest (negℤ (pos 10000 *ℤ L t j)) (D t j j) +ℤ sum b (λ e. carried (M t j (suc j + e)) (getD below e (pos 0)))) ∷ below
+-- The correlates of the last b rows for the reduced constants l, those of the rows below being found first.
+unfoldable pub back : Table → (ℕ → ℤ) → ℕ → List ℤ
+back t l zero = []
+back t l (suc b) =
+    let j = t .n - suc b in let below = back t l b in
+    (nearest (negℤ (pos 10000 *ℤ l j)) (D t j j) +ℤ sum b (λ e. carried (M t j (suc j + e)) (getD below e (pos 0)))) ∷ below
 
 unfoldable pub K : Table → ℕ → ℤ
-K t j = getD (back t (t .n)) j (pos 0)
+K t j = getD (back t (L t) (t .n)) j (pos 0)

@@ -13,12 +13,16 @@ pub record Table : Type 0 where
   pub a : ℕ → ℕ → ℤ
   pub w : ℕ → ℤ
 
+-- a list as the numbers at its places
+abbrev pub at : List ℤ → ℕ → ℤ
+at xs i = getD xs i (pos 0)
+
 -- the table in lent lists: the coefficients row by row, m to a row
 abbrev pub tableOf : List ℤ → List ℤ → List ℤ → Table
 tableOf qs cs ws = record {
   m = length qs;
   n = length ws;
-  q = λ i. getD qs i (pos 0);
+  q = at qs;
   a = λ j i. getD cs (j * length qs + i) (pos 0);
-  w = λ j. getD ws j (pos 0);
+  w = at ws;
 }

@@ -1,64 +1,205 @@
-// What follows from a table and its correlates alone: corrections V, remainders R, printed corrections u, adjusted directions, printed remainders Q.
+// What follows from a table and its correlates alone, whoever found them: corrections V, remainders R, printed corrections u, adjusted directions
+// and printed remainders Q. R is formed as the sum of a*V, which equals the sum of N*K, so no entry of N is formed twice.
+ghost use mathlib.Core.Path.{_≡_};
+ghost use Prim.Native.Nat.{ℕ, _+_, _*_, _≤_, _<_};
+ghost use lib.Dec.{ltb};
+ghost use lib.ListN.{length, getD};
+ghost use lib.IntN.{ℤ, pos, natAbs, _+ℤ_, _*ℤ_};
+ghost use Rattle.exact.specs.Sum.{sum};
+ghost use Rattle.exact.specs.Nearest.{nearest};
+ghost use Rattle.exact.specs.Circle.{C, modulo};
+ghost use Rattle.exact.specs.First.{first};
+ghost use Rattle.exact.specs.Tabulate.{tabulate};
+ghost use Rattle.adjustment.specs.Table.{at, tableOf};
+ghost use Rattle.adjustment.specs.Corrections.{V-of};
+ghost use Rattle.adjustment.specs.Demand.{seen};
+ghost use Rattle.adjustment.specs.Inner.{Small, Within, Sound, closing};
 use direction::CIRCLE;
 
-// sum + x*y.
-fn plus_product(sum: i64, x: i64, y: i64) -> i64 {
-    sum + x * y
+// The remainders up to the first that is too large.
+pub struct Remaining {
+    pub r: [i64; 24],
+    pub close: usize,
 }
 
-// The sum of a(j,i)*K(j) over the conditions, at direction i.
-fn combined(a: &[i64], k: [i64; 24], i: usize, m: usize, n: usize) -> i64 {
-    let mut sum = 0;
+// s + x*y.
+fn plus_product(s: i64, x: i64, y: i64) -> i64
+    requires { ⌜ (natAbs s ≤ 7000000000000000000) × (natAbs x ≤ 2000) × (natAbs y ≤ 50000000000000) ⌝ }
+    ensures { λ r. ⌜ r ≡ s +ℤ x *ℤ y ⌝ }
+{
+    s + x * y
+}
+
+// The sum of a(j,i)*K(j) over the n conditions, at direction i.
+fn combined(a: &[i64], k: [i64; 24], i: usize, m: usize, n: usize) -> i64
+    requires { ⌜ (i < m) × (m ≤ 64) × (n ≤ 24) × (length (now a) ≡ n * m) ⌝ }
+    requires { ⌜ ((j : ℕ) → j < n → natAbs (getD (now a) (j * m + i) (pos 0)) ≤ 2000) ⌝ }
+    requires { ⌜ Small 100000000 k n ⌝ }
+    ensures { λ r. ⌜ r ≡ sum n (λ j. getD (now (a .entry)) (j * m + i) (pos 0) *ℤ getD k j (pos 0)) ⌝ }
+{
+    let mut s = 0;
     let mut at = i;
     let mut j = 0;
     while j < n {
         let x = a[at];
         let y = k[j];
-        sum = plus_product(sum, x, y);
+        s = plus_product(s, x, y);
         at += m;
         j += 1;
     }
-    sum
+    s
 }
 
 // V(i) = q(i) times that sum.
-fn weighted(q: i64, sum: i64) -> i64 {
-    q * sum
+fn weighted(q: i64, s: i64) -> i64
+    requires { ⌜ (natAbs q ≤ 10) × (natAbs s ≤ 4800000000000) ⌝ }
+    ensures { λ r. ⌜ r ≡ q *ℤ s ⌝ }
+{
+    q * s
 }
 
 // The corrections V.
-pub fn corrections(q: &[i64], a: &[i64], k: [i64; 24], n: usize) -> [i64; 64] {
+pub fn corrections(q: &[i64], a: &[i64], w: &[i64], k: [i64; 24]) -> [i64; 64]
+    requires { ⌜ Sound (now q) (now a) (now w) ⌝ }
+    requires { ⌜ Small 100000000 k (length (now w)) ⌝ }
+    ensures { λ r. ⌜ ((i : ℕ) → i < length (now (q .entry)) → getD r i (pos 0) ≡ V-of (tableOf (now (q .entry)) (now (a .entry)) (now (w .entry))) (at k) i) ⌝ }
+{
     let m = q.len();
+    let n = w.len();
     let mut v = [0i64; 64];
     let mut i = 0;
     while i < m {
         let g = q[i];
-        let sum = combined(a, k, i, m, n);
-        v[i] = weighted(g, sum);
+        let s = combined(a, k, i, m, n);
+        v[i] = weighted(g, s);
         i += 1;
     }
     v
 }
 
 // The sum of a(j,i)*x(i) over the m directions, where row j begins at `at`.
-fn seen(a: &[i64], x: &[i64], at: usize, m: usize) -> i64 {
-    let mut sum = 0;
+fn sum_seen(a: &[i64], x: &[i64], at: usize, m: usize) -> i64
+    requires { ⌜ (m ≤ 64) × (at + m ≤ length (now a)) × (m ≤ length (now x)) ⌝ }
+    requires { ⌜ Within 2000 (now a) at m ⌝ }
+    requires { ⌜ Small 48000000000000 (now x) m ⌝ }
+    ensures { λ r. ⌜ r ≡ sum m (λ i. getD (now (a .entry)) (at + i) (pos 0) *ℤ getD (now (x .entry)) i (pos 0)) ⌝ }
+{
+    let mut s = 0;
     let mut i = 0;
     while i < m {
         let c = a[at + i];
         let y = x[i];
-        sum = plus_product(sum, c, y);
+        s = plus_product(s, c, y);
         i += 1;
     }
-    sum
+    s
 }
 
-// sum of a*V + 10^7*w(j), which is R(j).
-fn remainder(sum: i64, w: i64) -> i64 {
-    sum + 10000000 * w
+// R(j) from the sum of a*V.
+fn remainder(s: i64, w: i64) -> i64
+    requires { ⌜ (natAbs s ≤ 6144000000000000000) × (natAbs w ≤ 1000000) ⌝ }
+    ensures { λ r. ⌜ r ≡ s +ℤ pos 10000000 *ℤ w ⌝ }
+{
+    s + 10000000 * w
 }
 
-// 10^5 * sum of a*u + 10^7*w(j), which is Q(j).
-fn printed_remainder(sum: i64, w: i64) -> i64 {
-    100000 * sum + 10000000 * w
+// The remainders of the corrections V, up to the first beyond 50,000,000.
+pub fn remainders(q: &[i64], a: &[i64], w: &[i64], v: &[i64]) -> Remaining
+    requires { ⌜ Sound (now q) (now a) (now w) ⌝ }
+    requires { ⌜ (length (now q) ≤ length (now v)) × Small 48000000000000 (now v) (length (now q)) ⌝ }
+    ensures { λ r. ⌜ r .close ≡ first (length (now (w .entry))) (λ j. ltb 50000000 (natAbs (closing (tableOf (now (q .entry)) (now (a .entry)) (now (w .entry))) (at (now (v .entry))) j))) ⌝ }
+    ensures { λ r. ⌜ ((j : ℕ) → j < r .close → getD (r .r) j (pos 0) ≡ closing (tableOf (now (q .entry)) (now (a .entry)) (now (w .entry))) (at (now (v .entry))) j) ⌝ }
+{
+    let m = q.len();
+    let mut r = [0i64; 24];
+    let mut at = 0;
+    let mut j = 0;
+    while j < w.len() {
+        let s = sum_seen(a, v, at, m);
+        let x = w[j];
+        let z = remainder(s, x);
+        if 50000000 < exact::magnitude(z) {
+            return Remaining { r, close: j };
+        }
+        r[j] = z;
+        at += m;
+        j += 1;
+    }
+    Remaining { r, close: j }
+}
+
+// The first numbers of one list, into a lent one.
+pub fn store(from: &[i64], to: &mut [i64])
+    requires { ⌜ length (now to) ≤ length (now from) ⌝ }
+    ensures { λ _. ⌜ now (to .exit) ≡ tabulate (length (now (to .entry))) (at (now (from .entry))) ⌝ }
+{
+    let mut i = 0;
+    while i < to.len() {
+        let x = from[i];
+        to[i] = x;
+        i += 1;
+    }
+}
+
+// u = nearest(V / 10^5), into a lent list.
+pub fn print_corrections(v: &[i64], u: &mut [i64])
+    requires { ⌜ length (now u) ≤ length (now v) ⌝ }
+    ensures { λ _. ⌜ now (u .exit) ≡ tabulate (length (now (u .entry))) (λ i. nearest (getD (now (v .entry)) i (pos 0)) (pos 100000)) ⌝ }
+{
+    let mut i = 0;
+    while i < u.len() {
+        let x = v[i];
+        u[i] = exact::nearest(x, 100000);
+        i += 1;
+    }
+}
+
+// (direction + u) modulo C.
+fn turned(direction: i64, u: i64) -> i64
+    requires { ⌜ (natAbs direction ≤ 1296000000) × (natAbs u ≤ 480000001) ⌝ }
+    ensures { λ r. ⌜ r ≡ modulo (direction +ℤ u) C ⌝ }
+{
+    exact::modulo(direction + u, CIRCLE)
+}
+
+// The adjusted directions, into a lent list.
+pub fn adjust_directions(directions: &[i64], u: &[i64], adjusted: &mut [i64])
+    requires { ⌜ (length (now adjusted) ≤ length (now directions)) × (length (now adjusted) ≤ length (now u)) ⌝ }
+    requires { ⌜ Small 1296000000 (now directions) (length (now adjusted)) × Small 480000001 (now u) (length (now adjusted)) ⌝ }
+    ensures { λ _. ⌜ now (adjusted .exit) ≡ tabulate (length (now (adjusted .entry))) (λ i. modulo (getD (now (directions .entry)) i (pos 0) +ℤ getD (now (u .entry)) i (pos 0)) C) ⌝ }
+{
+    let mut i = 0;
+    while i < adjusted.len() {
+        let x = directions[i];
+        let y = u[i];
+        adjusted[i] = turned(x, y);
+        i += 1;
+    }
+}
+
+// Q(j) from the sum of a*u.
+fn printed_remainder(s: i64, w: i64) -> i64
+    requires { ⌜ (natAbs s ≤ 61440000128000) × (natAbs w ≤ 1000000) ⌝ }
+    ensures { λ r. ⌜ r ≡ pos 100000 *ℤ s +ℤ pos 10000000 *ℤ w ⌝ }
+{
+    100000 * s + 10000000 * w
+}
+
+// The printed remainders Q, into a lent list.
+pub fn print_remainders(q: &[i64], a: &[i64], w: &[i64], u: &[i64], printed: &mut [i64])
+    requires { ⌜ Sound (now q) (now a) (now w) ⌝ }
+    requires { ⌜ (length (now q) ≤ length (now u)) × (length (now printed) ≡ length (now w)) ⌝ }
+    requires { ⌜ Small 480000001 (now u) (length (now q)) ⌝ }
+    ensures { λ _. ⌜ now (printed .exit) ≡ tabulate (length (now (w .entry))) (λ j. pos 100000 *ℤ seen (tableOf (now (q .entry)) (now (a .entry)) (now (w .entry))) j (at (now (u .entry))) +ℤ pos 10000000 *ℤ getD (now (w .entry)) j (pos 0)) ⌝ }
+{
+    let m = q.len();
+    let mut start = 0;
+    let mut j = 0;
+    while j < w.len() {
+        let s = sum_seen(a, u, start, m);
+        let x = w[j];
+        printed[j] = printed_remainder(s, x);
+        start += m;
+        j += 1;
+    }
 }

@@ -1,35 +1,46 @@
 // The correlates K, from the last row up.
+ghost use mathlib.Core.Path.{_≡_};
+ghost use Prim.Native.Nat.{ℕ, _≤_, _<_};
+ghost use lib.ListN.{getD};
+ghost use lib.IntN.{pos, natAbs};
+ghost use Rattle.adjustment.specs.Table.{Table};
+ghost use Rattle.adjustment.specs.Inner.{Triangle, BackWithin, Solves, backOf, noRow};
 use crate::reduce::Row;
+use crate::reduce::by_pivot;
 use crate::reduce::plus_carried;
 
-// The correlates from row `from` on; where a correlate is too large, `from` is the row below it and `large` says so.
+// The correlates of the rows from `from` on. `from` is 0 where none is too large; else row `from`, counted from 1, is the first in back order that is.
 pub struct Correlated {
     pub k: [i64; 24],
     pub from: usize,
 }
 
-// nearest(-10^4*L(j) / D(j,j)).
-fn own_part(l: i64, pivot: i64) -> i64 {
-    exact::nearest(-(10000 * l), pivot)
-}
-
 // K(j), from the correlates of the rows below.
-fn correlate(row: Row, k: [i64; 24], j: usize, n: usize) -> i64 {
+fn correlate(row: Row, k: [i64; 24], j: usize, n: usize) -> i64
+    requires { ⌜ (j < n) × (n ≤ 24) ⌝ }
+    requires { ⌜ BackWithin j n row ⌝ }
+    requires { ⌜ ((e : ℕ) → j < e → e < n → natAbs (getD k e (pos 0)) ≤ 100000000) ⌝ }
+    ensures { λ r. ⌜ r ≡ backOf row k j n ⌝ }
+{
     let l = row.l;
     let pivot = row.d[j];
-    let mut sum = own_part(l, pivot);
+    let mut s = by_pivot(10000, l, pivot);
     let mut e = j + 1;
     while e < n {
         let m = row.m[e];
         let x = k[e];
-        sum = plus_carried(sum, m, x);
+        s = plus_carried(s, m, x);
         e += 1;
     }
-    sum
+    s
 }
 
-// All correlates in back order, down to the first that is beyond 10^8: `from` is 0 where there is none, else that row's number counted from 1.
-pub fn correlates(rows: [Row; 24], n: usize) -> Correlated {
+// All correlates in back order, up to the first that is beyond 10^8. Whatever table the rows are of, they are its correlates.
+pub fn correlates(rows: [Row; 24], n: usize) -> Correlated
+    requires { ⌜ n ≤ 24 ⌝ }
+    requires { ⌜ ((j : ℕ) → j < n → BackWithin j n (getD rows j noRow)) ⌝ }
+    ensures { λ r. ⌜ ((t : Table) → t .n ≡ n → Triangle t rows → Solves t (r .k) (r .from)) ⌝ }
+{
     let mut k = [0i64; 24];
     let mut left = n;
     while 0 < left {

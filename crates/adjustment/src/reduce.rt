@@ -3,14 +3,15 @@ ghost use mathlib.Core.Path.{_≡_};
 ghost use mathlib.Core.Bool.{true, false, _&&_};
 ghost use Prim.Native.Nat.{ℕ, _+_, _*_, _≤_, _<_};
 ghost use lib.ListN.{length, getD};
-ghost use lib.IntN.{ℤ, pos, natAbs, _+ℤ_, _*ℤ_};
+ghost use lib.IntN.{ℤ, pos, negℤ, natAbs, _+ℤ_, _*ℤ_};
 ghost use lib.Signed.{_<ℤ_};
 ghost use lib.Dec.{ltb, leb};
 ghost use Rattle.exact.specs.Sum.{sum};
+ghost use Rattle.exact.specs.Nearest.{nearest};
 ghost use Rattle.exact.specs.First.{first, some-below};
 ghost use Rattle.adjustment.specs.Table.{tableOf};
-ghost use Rattle.adjustment.specs.Solution.{carried, multiplier, weakRow, weak};
-ghost use Rattle.adjustment.specs.Inner.{Small, Within, Sound, RowWithin, IsNormalRow, TakesRow, Multiplies, IsRow, From, d-at, m-at, noRow};
+ghost use Rattle.adjustment.specs.Solution.{carried, weakRow, weak};
+ghost use Rattle.adjustment.specs.Inner.{Small, Within, Sound, RowWithin, Stage, TakesRow, Multiplies, IsRow, From, d-at, m-at, noRow};
 
 // A reduced row: its coefficients D(j,k) and multipliers M(j,k), for k from j on, and its constant L(j).
 pub struct Row {
@@ -71,7 +72,7 @@ fn constant(w: i64) -> i64
 fn normal_row(q: &[i64], a: &[i64], w: &[i64], j: usize, at: usize) -> Row
     requires { ⌜ Sound (now q) (now a) (now w) ⌝ }
     requires { ⌜ (j < length (now w)) × (at ≡ j * length (now q)) ⌝ }
-    ensures { λ r. ⌜ IsNormalRow (tableOf (now (q .entry)) (now (a .entry)) (now (w .entry))) j r ⌝ }
+    ensures { λ r. ⌜ Stage (tableOf (now (q .entry)) (now (a .entry)) (now (w .entry))) 0 j r ⌝ }
 {
     let x = w[j];
     let mut row = Row {
@@ -141,12 +142,12 @@ fn some_large(xs: &[i64; 24], from: usize, n: usize, limit: u64) -> bool
     false
 }
 
-// nearest(-10^6*x / D(j,j)).
-fn multiplier(x: i64, pivot: i64) -> i64
-    requires { ⌜ (natAbs x ≤ 2560000000) × (pos 0 <ℤ pivot) ⌝ }
-    ensures { λ r. ⌜ r ≡ multiplier x pivot ⌝ }
+// nearest(-factor*x / D(j,j)): a multiplier, or a row's own part of its correlate.
+pub fn by_pivot(factor: i64, x: i64, pivot: i64) -> i64
+    requires { ⌜ (natAbs factor ≤ 1000000) × (natAbs x ≤ 4000000000) × (pos 0 <ℤ pivot) ⌝ }
+    ensures { λ r. ⌜ r ≡ nearest (negℤ (factor *ℤ x)) pivot ⌝ }
 {
-    exact::nearest(-(1000000 * x), pivot)
+    exact::nearest(-(factor * x), pivot)
 }
 
 // Row j with its multipliers.
@@ -160,7 +161,7 @@ fn multiplied(row: Row, j: usize, n: usize) -> Row
     let mut k = j + 1;
     while k < n {
         let x = row.d[k];
-        next.m[k] = multiplier(x, pivot);
+        next.m[k] = by_pivot(1000000, x, pivot);
         k += 1;
     }
     next

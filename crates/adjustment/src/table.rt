@@ -7,7 +7,7 @@ ghost use lib.IntN.{pos, natAbs};
 ghost use lib.Dec.{ltb};
 ghost use Rattle.exact.specs.First.{some-below};
 ghost use Rattle.adjustment.specs.Table.{tableOf};
-ghost use Rattle.adjustment.specs.Refusals.{countsAmiss, lengthsAmiss, conditionsReply};
+ghost use Rattle.adjustment.specs.Refusals.{countsAmiss, differs, lengthsAmiss, conditionsReply};
 use reply::Refusal;
 use reply::Reply;
 
@@ -30,7 +30,20 @@ pub fn counts_amiss(m: usize, n: usize) -> bool
     m < n
 }
 
-// Some length disagrees with the counts: q and the coefficients, the three answers by direction, the three by condition.
+// One of three lengths is not what it should be.
+fn differ(count: usize, x: usize, y: usize, z: usize) -> bool
+    ensures { λ r. ⌜ r ≡ differs count x y z ⌝ }
+{
+    if x != count {
+        return true;
+    }
+    if y != count {
+        return true;
+    }
+    z != count
+}
+
+// Some length disagrees with the counts: q and the coefficients, the three answers by direction (V, u, adjusted), the three by condition (K, R, Q).
 pub fn lengths_amiss(
     m: usize,
     n: usize,
@@ -52,22 +65,10 @@ pub fn lengths_amiss(
     if a != n * m {
         return true;
     }
-    if v != m {
+    if differ(m, v, u, adjusted) {
         return true;
     }
-    if u != m {
-        return true;
-    }
-    if adjusted != m {
-        return true;
-    }
-    if k != n {
-        return true;
-    }
-    if r != n {
-        return true;
-    }
-    s != n
+    differ(n, k, r, s)
 }
 
 // Some of the m coefficients from `at` on is beyond 2,000.

@@ -3,15 +3,16 @@
 --   nearest-error            twice the error is at most the divisor
 --   nearest-odd              the negative of a number rounds to the negative
 --   nearest-multiple         a multiple of the divisor comes out exact
---   nearest-size             from the first: a bound of the number bounds what it rounds to
+--   nearest-size, nearest-smaller     from the first: a bound of the number bounds what it rounds to
 --   nearest-below, nearest-above, nearest-kept-below, nearest-kept-above
 --                            which neighbour it is, by the remainder of the machine's division: for the code of `nearest` alone
 use mathlib.Core.Path.{_≡_, refl, sym, _∙_, ap, subst}
 use mathlib.Core.Bool.{Bool, true, false, cond}
 use mathlib.Core.List.{List, [], _∷_}
 use Prim.Native.Nat.{ℕ, zero, suc, _+_, _*_, _/_, _%_, _<_, _≤_}
-use native.Mathlib.Nat.{div-add-mod, mod-lt, mul-div-cancel-left, mul-mod-right, zero-div, zero-mod}
+use native.Mathlib.Nat.{div-add-mod, mod-lt, mul-div-cancel-left, mul-le-mul-left, mul-le-mul-right, mul-mod-right, zero-div, zero-mod}
 use native.Mathlib.Omega.{arith}
+use native.Mathlib.Decide.{decLe}
 use borrow.Author.Tests.{le-leb, lt-leb, leb-true, leb-false}
 use lib.Dec.{leb, ltb→lt}
 use lib.IntN.{ℤ, pos, negsuc, negℤ, natAbs, _+ℤ_, _-ℤ_, _*ℤ_, negℤ-negℤ}
@@ -81,6 +82,22 @@ nearest-size z d h = scaled (nearest z d) (nearest-error z d h)
 
     scaled : (k : ℤ) → 2 * natAbs (d *ℤ k -ℤ z) ≤ natAbs d → 2 * (natAbs d * natAbs k) ≤ 2 * natAbs z + natAbs d
     scaled k e = omega (arith, abs-mul d k, abs-add (d *ℤ k -ℤ z) z, ap natAbs (regroup (d *ℤ k) z))
+
+-- a rounded quotient is at most one larger than the number
+pub nearest-smaller : (z d : ℤ) → pos 0 <ℤ d → natAbs (nearest z d) ≤ natAbs z + 1
+nearest-smaller z d h = by-order (decLe (natAbs (nearest z d)) (natAbs z + 1))
+  where
+    divisor : (d : ℤ) → pos 0 <ℤ d → 1 ≤ natAbs d
+    divisor (pos n) l = ltb→lt 0 n (l .lt)
+    divisor (negsuc n) l = absurd (l .lt)
+
+    -- otherwise d times it would be beyond z by more than half of d
+    beyond : (z d k : ℕ) → 1 ≤ d → z + 2 ≤ k → 2 * (d * k) ≤ 2 * z + d → ⊥
+    beyond z d k l m e = omega (arith, mul-le-mul-left d m, mul-le-mul-right z l)
+
+    by-order : Dec (natAbs (nearest z d) ≤ natAbs z + 1) → natAbs (nearest z d) ≤ natAbs z + 1
+    by-order (yes l) = l
+    by-order (no l) = absurd (beyond (natAbs z) (natAbs d) (natAbs (nearest z d)) (divisor d h) (omega arith) (nearest-size z d h))
 
 -- ---- which neighbour, by the remainder of the machine's division: for the code of `nearest`
 below-zero : {n : ℕ} → pos n <ℤ pos 0 → ⊥

@@ -3,12 +3,13 @@
 --   first-none          n where all fail; some-at, some-none the same of `some-below`
 --   first-before        whatever lies before it fails; all-failed: where none passes, all fail
 --   first-ext           of tests that agree below n
---   from-failed, from-test                 a search that begins at j: whatever lies before j fails; from j on the test decides
+--   from-failed, from-test, from-ext, from-none      a search that begins at j: whatever lies before j fails, from j on the test decides
 --   Failed, failed-none, failed-more       the loop's invariant: all below i fail
 use mathlib.Core.Path.{_≡_, refl, sym, _∙_, ap, subst}
 use mathlib.Core.Bool.{Bool, true, false, cond, _&&_}
 use Prim.Native.Nat.{ℕ, zero, suc, _+_, _<_, _≤_}
 use native.Mathlib.Omega.{arith}
+use native.Mathlib.Decide.{decLe}
 use borrow.Author.Tests.{lt-ltb, le-ltb, le-leb, lt-leb, ltb-false}
 use borrow.Author.Count.{below-more}
 use lib.Dec.{leb, ltb}
@@ -67,3 +68,17 @@ from-failed j p h l = rw (lt-leb j h l)
 
 pub from-test : (j k : ℕ) (p : ℕ → Bool) → j ≤ k → (leb j k && p k) ≡ p k
 from-test j k p l = rw (le-leb j k l)
+
+pub from-ext : (n j : ℕ) (p r : ℕ → Bool) → ((k : ℕ) → j ≤ k → k < n → p k ≡ r k) → first n (λ k. leb j k && p k) ≡ first n (λ k. leb j k && r k)
+from-ext n j p r e = first-ext n (λ k. leb j k && p k) (λ k. leb j k && r k) (λ k l. by-order k l (decLe j k))
+  where
+    under : (k : ℕ) → ¬ (j ≤ k) → k < j
+    under k h = omega arith
+
+    by-order : (k : ℕ) → k < n → Dec (j ≤ k) → (leb j k && p k) ≡ (leb j k && r k)
+    by-order k l (yes h) = from-test j k p h ∙ e k h l ∙ sym (from-test j k r h)
+    by-order k l (no h) = from-failed j p k (under k h) ∙ sym (from-failed j r k (under k h))
+
+-- where none passes, none from j on does
+pub from-none : (n j : ℕ) (p : ℕ → Bool) → some-below n (λ k. leb j k && p k) ≡ false → (k : ℕ) → j ≤ k → k < n → p k ≡ false
+from-none n j p e k h l = sym (from-test j k p h) ∙ all-failed n (λ k. leb j k && p k) e k l

@@ -1,58 +1,146 @@
+-- `correct::combined` meets its contract. Assumes nothing.
+use mathlib.Core.Path.{_≡_, refl, sym, _∙_, ap, ap₂, subst}
+use mathlib.Core.Bool.{Bool, true, false, _&&_, _||_, not, cond}
+use mathlib.Core.List.{List, [], _∷_}
+use mathlib.Core.Logic.{⊎-elim}
+use Prim.Native.Nat.{ℕ, suc, _+_, _*_, _-_, _≤_, _<_}
+use native.Mathlib.Omega.{arith}
+use native.Mathlib.Nat.{zero-mul}
+use native.Mathlib.Numerals.{add-one}
+use borrow.Author.Needs.{needs}
+use borrow.Author.Tests.{lt-ltb, le-ltb, le-leb, lt-leb, eq-eqb, ne-eqb}
+use denote.Ref.{now}
+use lib.Dec.{T, ltb, leb, eqb}
+use lib.ListN.{length, getD, set, replicate, length-set}
+use lib.Seq.{getD-set-same, getD-set-other}
+use lib.IntN.{ℤ, pos, negℤ, natAbs, _+ℤ_, _-ℤ_, _*ℤ_, +ℤ-idl}
+use lib.Signed.{_≤ℤ_, _<ℤ_}
+use mir.Syntax.{w64}
+use mir.Val.{SFits, toZ, ofZ}
+use mir.ValLaws.{toZ-ofZ}
+use Rattle.exact.specs.Sum.{sum}
+use Rattle.exact.specs.Nearest.{nearest}
+use Rattle.exact.specs.Circle.{C, modulo}
+use Rattle.exact.specs.First.{first, some-below}
+use Rattle.exact.specs.Tabulate.{tabulate}
+use Rattle.exact.proofs.Linear.{unknowns, machine, linear, orders, one-sided, lt-by, le-by, eq-by}
+use Rattle.exact.proofs.Order.{lt-true, lt-false, le-true, le-false}
+use Rattle.exact.proofs.Bound.{read, read-at, read-within, fits-of-mag, bounded, bounded-by, bounds, fits-in, fits-within}
+use Rattle.exact.proofs.Sum.{sum-none, sum-more, sum-ext}
+use Rattle.exact.proofs.Searching.{Failed, failed-none, failed-more, first-at, first-none, some-at, some-none, from-failed, from-test}
+use Rattle.exact.proofs.Filling.{Filled, filled-none, filled-more, filled-all}
+use Rattle.reply.specs.declared.Refusal.the-variants.{Count, Coefficient, Misclosure, WeakRow, Correlate, Remainder}
+use Rattle.reply.specs.declared.Reply.{Reply}
+use Rattle.reply.specs.declared.Reply.the-variants.{Accepted, Refused}
+use Rattle.reply.specs.Checks.{refuseIf, refuseFirst, _andThen_}
+use Rattle.reply.proofs.Checking.{refuse-at, refuse-none}
+use Rattle.adjustment.specs.declared.reduce.Row.{Row}
+use Rattle.adjustment.specs.Table.{Table, at, tableOf}
+use Rattle.adjustment.specs.Solution.{N, reduced, D, L, M, carried, multiplier, weakRow, weak, K}
+use Rattle.adjustment.specs.Corrections.{V-of, R-of, u-of, adjusted-of, Q-of}
+use Rattle.adjustment.specs.Refusals.{countsAmiss, lengthsAmiss, coefficientFault, misclosureFault, conditionsReply}
+use Rattle.adjustment.specs.Inner.{Small, Within, Sound, From, RowWithin, Stage, TakesRow, Multiplies, IsRow, d-at, m-at, noRow}
+use Rattle.adjustment.proofs.Sizes.{sum-within, combination-size, row-end, next-row}
 use Rattle.adjustment.proofs.correct.combined.Statement.{statement}
 use Rattle.adjustment.proofs.correct.combined.Tie as tie
-use Rattle.adjustment.proofs.correct.combined.Reads as reads
-use Rattle.adjustment.proofs.correct.combined.Lts as lts
-use Rattle.adjustment.proofs.correct.plus_product.Reads as plus-product-reads
+
+-- a term of the sum
+abbrev term : List ℤ → List ℤ → ℕ → ℕ → ℕ → ℤ
+term a k i m j = getD a (j * m + i) (pos 0) *ℤ getD k j (pos 0)
 
 abbrev Inv-loop : tie.InvT-loop
-Inv-loop a i m n k sum₀ at₀ j₀ sum at j = ?
+Inv-loop a i m n k s₀ at₀ j₀ s at j = (j ≤ n) × (at ≡ j * m + i) × (toZ w64 s ≡ sum j (term a k i m))
 
 abbrev μ-loop : tie.MeasureT-loop
-μ-loop a i m n k sum₀ at₀ j₀ sum at j = ?
+μ-loop a i m n k s₀ at₀ j₀ s at j = n - j
 
--- src/correct.rt:14:5
 loop-holds : tie.Need-loop-holds Inv-loop μ-loop
-loop-holds c = ?
+loop-holds c =
+    let s = c .args in
+    (omega arith, rw (zero-mul (s .m)) (omega arith), sym (sum-none (term (now (s .a)) (s .t2) (s .i) (s .m))))
 
--- src/correct.rt:15:17
+-- direction i of row j lies within the list
+within : (j n m i : ℕ) {len at : ℕ} → j < n → i < m → len ≡ n * m → at ≡ j * m + i → at < len
+within j n m i {len} {at} l k e f = omega (arith, f, row-end j n m {len = len} {at = j * m} l e refl)
+
+in-list : (c : tie.In-loop Inv-loop μ-loop) → c .before .loop .at < length (now (c .before .before .args .a))
+in-list c =
+    let l = c .before in let s = l .before in
+    within (l .loop .j) (s .args .n) (s .args .m) (s .args .i) (omega arith) (s .pre .0 .0) (s .pre .0 .3) (l .loop .inv .1)
+
 mul-x : tie.Need-mul-x Inv-loop μ-loop
-mul-x c = ?
+mul-x c = omega (arith, in-list c)
 
--- src/correct.rt:15:17
 shared-slice-copy-out-x : tie.Need-shared-slice-copy-out-x Inv-loop μ-loop
-shared-slice-copy-out-x c = ?
+shared-slice-copy-out-x c = in-list c
 
--- src/correct.rt:16:17
 mul-y : tie.Need-mul-y Inv-loop μ-loop
-mul-y c = ?
+mul-y c = search needs
 
--- src/correct.rt:16:17
 array-copy-out-y : tie.Need-array-copy-out-y Inv-loop μ-loop
-array-copy-out-y c = ?
+array-copy-out-y c = search needs
 
--- src/correct.rt:17:9
+-- in a turn
+module _ (c : tie.After-y Inv-loop μ-loop) where
+  abbrev loop : tie.At-loop Inv-loop μ-loop
+  loop = c .before .before .before
+
+  abbrev start : tie.Start Inv-loop μ-loop
+  start = loop .before
+
+  abbrev a : List ℤ
+  a = now (start .args .a)
+
+  abbrev terms : ℕ → ℤ
+  terms = term a (start .args .t2) (start .args .i) (start .args .m)
+
+  abbrev j : ℕ
+  j = loop .loop .j
+
+  sum-size : natAbs (toZ w64 (loop .loop .s)) ≤ 7000000000000000000
+  sum-size =
+      rw (loop .loop .inv .2)
+      (omega (
+        arith,
+        sum-within j 24 200000000000 terms (omega arith)
+            (λ h l. combination-size (getD a (h * start .args .m + start .args .i) (pos 0)) (getD (start .args .t2) h (pos 0)) (start .pre .1 .0 h (omega arith)) (start .pre .1 .1 h (omega arith))),
+      ))
+
+  -- the coefficient, as the code finds it
+  coefficient-is : toZ w64 (ofZ w64 (getD a (loop .loop .at) (pos 0))) ≡ getD a (j * start .args .m + start .args .i) (pos 0)
+  coefficient-is = read-at (getD a (loop .loop .at) (pos 0)) (c .before .x .given) ∙ ap (λ (k : ℕ). getD a k (pos 0)) (loop .loop .inv .1)
+
 plus-product-requires : tie.Need-plus-product-requires Inv-loop μ-loop
-plus-product-requires c κs = ?
+plus-product-requires c κs =
+    let s = start c in let l : j c < s .args .n = omega arith in (
+      sum-size c,
+      rw (coefficient-is c) (s .pre .1 .0 (j c) l),
+      omega (arith, read-within (getD (s .args .t2) (j c) (pos 0)) (c .y .given) (s .pre .1 .1 (j c) l)),
+    )
 
--- src/correct.rt:18:9
 add-at : tie.Need-add-at Inv-loop μ-loop
-add-at c = ?
+add-at c = let b = c .before in omega (arith, in-list (b .before .before), start b .pre .0 .1)
 
--- src/correct.rt:19:9
 add-j : tie.Need-add-j Inv-loop μ-loop
-add-j c = ?
+add-j c = search needs
 
--- src/correct.rt:14:5
 loop-less : tie.Need-loop-less Inv-loop μ-loop
-loop-less c = ?
+loop-less c = search needs
 
--- src/correct.rt:14:5
 loop-again : tie.Need-loop-again Inv-loop μ-loop
-loop-again c = ?
+loop-again c =
+    let b = c .before in let s = start b in (
+      omega arith,
+      omega (arith, loop b .loop .inv .1, next-row (j b) (s .args .m) {at = j b * s .args .m} refl),
+      read-at (c .plus-product .result) (c .plus-product .ok) ∙ c .plus-product .ensures
+          ∙ ap₂ _+ℤ_ (loop b .loop .inv .2) (ap₂ _*ℤ_ (coefficient-is b) (read-at (getD (s .args .t2) (j b) (pos 0)) (b .y .given)))
+          ∙ sym (sum-more (j b) (terms b)),
+    )
 
--- src/correct.rt:10:1
 returns : tie.Need-returns Inv-loop μ-loop
-returns c = ?
+returns c =
+    let s = c .before .before in let e : c .before .loop .j ≡ s .args .n = omega arith in
+    c .before .loop .inv .2 ∙ ap (λ (k : ℕ). sum k (term (now (s .args .a)) (s .args .t2) (s .args .i) (s .args .m))) e
 
 pub combined-spec : {M : Type 1} → statement M
 combined-spec =

@@ -1,59 +1,123 @@
+-- `correct::corrections` meets its contract. Assumes nothing.
+use mathlib.Core.Path.{_≡_, refl, sym, _∙_, ap, ap₂, subst}
+use mathlib.Core.Bool.{Bool, true, false, _&&_, _||_, not, cond}
+use mathlib.Core.List.{List, [], _∷_}
+use mathlib.Core.Logic.{⊎-elim}
+use Prim.Native.Nat.{ℕ, suc, _+_, _*_, _-_, _≤_, _<_, zero-le}
+use native.Mathlib.Omega.{arith}
+use native.Mathlib.Numerals.{add-one}
+use borrow.Author.Needs.{needs}
+use borrow.Author.Tests.{lt-ltb, le-ltb, le-leb, lt-leb, eq-eqb, ne-eqb}
+use denote.Ref.{now}
+use lib.Dec.{T, ltb, leb, eqb}
+use lib.ListN.{length, getD, set, replicate, length-set}
+use lib.Seq.{getD-set-same, getD-set-other}
+use lib.IntN.{ℤ, pos, negℤ, natAbs, _+ℤ_, _-ℤ_, _*ℤ_, +ℤ-idl}
+use lib.Signed.{_≤ℤ_, _<ℤ_}
+use mir.Syntax.{w64}
+use mir.Val.{SFits, toZ, ofZ}
+use mir.ValLaws.{toZ-ofZ}
+use Rattle.exact.specs.Sum.{sum}
+use Rattle.exact.specs.Nearest.{nearest}
+use Rattle.exact.specs.Circle.{C, modulo}
+use Rattle.exact.specs.First.{first, some-below}
+use Rattle.exact.specs.Tabulate.{tabulate}
+use Rattle.exact.proofs.Linear.{unknowns, machine, linear, orders, one-sided, lt-by, le-by, eq-by}
+use Rattle.exact.proofs.Order.{lt-true, lt-false, le-true, le-false}
+use Rattle.exact.proofs.Bound.{read, read-at, read-within, fits-of-mag, bounded, bounded-by, bounds, fits-in, fits-within}
+use Rattle.exact.proofs.Sum.{sum-none, sum-more, sum-ext}
+use Rattle.exact.proofs.Searching.{Failed, failed-none, failed-more, first-at, first-none, some-at, some-none, from-failed, from-test}
+use Rattle.exact.proofs.Filling.{Filled, filled-none, filled-more, filled-all}
+use Rattle.reply.specs.declared.Refusal.the-variants.{Count, Coefficient, Misclosure, WeakRow, Correlate, Remainder}
+use Rattle.reply.specs.declared.Reply.{Reply}
+use Rattle.reply.specs.declared.Reply.the-variants.{Accepted, Refused}
+use Rattle.reply.specs.Checks.{refuseIf, refuseFirst, _andThen_}
+use Rattle.reply.proofs.Checking.{refuse-at, refuse-none}
+use Rattle.adjustment.specs.declared.reduce.Row.{Row}
+use Rattle.adjustment.specs.Table.{Table, at, tableOf}
+use Rattle.adjustment.specs.Solution.{N, reduced, D, L, M, carried, multiplier, weakRow, weak, K}
+use Rattle.adjustment.specs.Corrections.{V-of, R-of, u-of, adjusted-of, Q-of}
+use Rattle.adjustment.specs.Refusals.{countsAmiss, lengthsAmiss, coefficientFault, misclosureFault, conditionsReply}
+use Rattle.adjustment.specs.Inner.{Small, Within, Sound, From, RowWithin, Stage, TakesRow, Multiplies, IsRow, d-at, m-at, noRow}
+use Rattle.adjustment.proofs.Sizes.{sum-within, combination-size}
 use Rattle.adjustment.proofs.correct.corrections.Statement.{statement}
 use Rattle.adjustment.proofs.correct.corrections.Tie as tie
-use Rattle.adjustment.proofs.correct.corrections.Reads as reads
-use Rattle.adjustment.proofs.correct.corrections.Lts as lts
-use Rattle.adjustment.proofs.correct.combined.Reads as combined-reads
-use Rattle.adjustment.proofs.correct.weighted.Reads as weighted-reads
 
 abbrev Inv-loop : tie.InvT-loop
-Inv-loop q a k n m v₀ i₀ v i = ?
+Inv-loop q a w k m n v₀ i₀ v i = (i ≤ length q) × Filled (pos 0) (V-of (tableOf q a w) (at k)) 0 i v₀ v
 
 abbrev μ-loop : tie.MeasureT-loop
-μ-loop q a k n m v₀ i₀ v i = ?
+μ-loop q a w k m n v₀ i₀ v i = length q - i
 
--- src/correct.rt:34:5
 loop-holds : tie.Need-loop-holds Inv-loop μ-loop
-loop-holds c = ?
+loop-holds c =
+    let a = c .args in
+    (omega arith, filled-none (pos 0) (V-of (tableOf (now (a .q)) (now (a .a)) (now (a .w))) (at (a .k))) 0 (replicate 64 (pos 0)))
 
--- src/correct.rt:35:17
 mul-g : tie.Need-mul-g Inv-loop μ-loop
-mul-g c = ?
+mul-g c = search needs
 
--- src/correct.rt:35:17
 shared-slice-copy-out-g : tie.Need-shared-slice-copy-out-g Inv-loop μ-loop
-shared-slice-copy-out-g c = ?
+shared-slice-copy-out-g c = search needs
 
--- src/correct.rt:36:13
 combined-requires : tie.Need-combined-requires Inv-loop μ-loop
-combined-requires c κs = ?
+combined-requires c κs =
+    let l = c .before .before in let s = l .before in let t = s .pre .0 in let h : l .loop .i < length (now (s .args .q)) = omega arith in
+    ((h, t .m-most, t .n-most, t .long), ((λ j e. t .a-most j e (l .loop .i) h), s .pre .1))
 
--- src/correct.rt:37:16
+-- in a turn
+module _ (c : tie.After-combined Inv-loop μ-loop) where
+  abbrev loop : tie.At-loop Inv-loop μ-loop
+  loop = c .before .before .before
+
+  abbrev start : tie.Start Inv-loop μ-loop
+  start = loop .before
+
+  abbrev t : Table
+  t = tableOf (now (start .args .q)) (now (start .args .a)) (now (start .args .w))
+
+  abbrev i : ℕ
+  i = loop .loop .i
+
+  below : i < length (now (start .args .q))
+  below = omega arith
+
+  sum-size : natAbs (c .combined .result) ≤ 4800000000000
+  sum-size =
+      rw (c .combined .ensures)
+      (sum-within (t .n) 24 200000000000 (λ j. t .a j i *ℤ at (start .args .k) j) (start .pre .0 .n-most)
+      (λ j e. combination-size (t .a j i) (at (start .args .k) j) (start .pre .0 .a-most j e i below) (start .pre .1 j e)))
+
 weighted-requires : tie.Need-weighted-requires Inv-loop μ-loop
-weighted-requires c κs = ?
+weighted-requires c κs = (
+  read-within (getD (now (start c .args .q)) (i c) (pos 0)) (c .before .g .given) (start c .pre .0 .q-most (i c) (below c)),
+  read-within (c .combined .result) (c .combined .ok) (sum-size c),
+)
 
--- src/correct.rt:37:9
 mul-v : tie.Need-mul-v Inv-loop μ-loop
-mul-v c = ?
+mul-v c = search needs
 
--- src/correct.rt:37:9
 array-set-from-v : tie.Need-array-set-from-v Inv-loop μ-loop
-array-set-from-v c = ?
+array-set-from-v c = search needs
 
--- src/correct.rt:38:9
 add-i : tie.Need-add-i Inv-loop μ-loop
-add-i c = ?
+add-i c = search needs
 
--- src/correct.rt:34:5
 loop-less : tie.Need-loop-less Inv-loop μ-loop
-loop-less c = ?
+loop-less c = search needs
 
--- src/correct.rt:34:5
 loop-again : tie.Need-loop-again Inv-loop μ-loop
-loop-again c = ?
+unfolding V-of
+loop-again c =
+    let b = c .before in let s = start b in (
+      omega arith,
+      filled-more (pos 0) (V-of (t b) (at (s .args .k))) 0 (i b) (replicate 64 (pos 0)) (loop b .loop .v) (toZ w64 (ofZ w64 (c .weighted .result))) (omega (arith, s .pre .0 .m-most, below b)) (loop b .loop .inv .1)
+          (read-at (c .weighted .result) (c .weighted .ok) ∙ c .weighted .ensures
+          ∙ ap₂ _*ℤ_ (read-at (getD (now (s .args .q)) (i b) (pos 0)) (b .before .g .given)) (read-at (b .combined .result) (b .combined .ok) ∙ b .combined .ensures)),
+    )
 
--- src/correct.rt:30:1
 returns : tie.Need-returns Inv-loop μ-loop
-returns c = ?
+returns c = λ i l. c .before .loop .inv .1 .done i zero-le (omega arith)
 
 pub corrections-spec : {M : Type 1} → statement M
 corrections-spec =

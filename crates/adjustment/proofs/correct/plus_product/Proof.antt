@@ -1,20 +1,18 @@
-use borrow.Author.Needs.{needs}
+-- `correct::plus_product` meets its contract. Assumes nothing.
+use Rattle.exact.proofs.Bound.{bounded, bounds, fits-in, read}
 use Rattle.adjustment.proofs.correct.plus_product.Statement.{statement}
 use Rattle.adjustment.proofs.correct.plus_product.Tie as tie
-use Rattle.adjustment.proofs.correct.plus_product.Reads as reads
-use Rattle.adjustment.proofs.correct.plus_product.Lts as lts
 
--- src/correct.rt:6:11
 mul-result : tie.Need-mul-result
-mul-result c = ?
+mul-result c = let x = bounded (c .args .x) (c .pre .1) in let y = bounded (c .args .y) (c .pre .2) in fits-in (search bounds) tt
 
--- src/correct.rt:6:5
 add-result : tie.Need-add-result
-add-result c = ?
+add-result c =
+    let s = bounded (c .args .s) (c .pre .0) in let x = bounded (c .args .x) (c .pre .1) in let y = bounded (c .args .y) (c .pre .2) in
+    let f = mul-result c in fits-in (search bounds depth 8) tt
 
--- src/correct.rt:5:1
 returns : tie.Need-returns
-returns c = search needs
+returns c = cc (read (c .fits .s), read (c .fits .x), read (c .fits .y), read (mul-result c), read (add-result c))
 
 pub plus-product-spec : {M : Type 1} → statement M
 plus-product-spec = tie.close (tie.spec mul-result add-result returns)

@@ -1,71 +1,162 @@
+-- `correlate::correlate` meets its contract. Assumes nothing.
+use mathlib.Core.Path.{_≡_, refl, sym, _∙_, ap, ap₂, subst}
+use mathlib.Core.Bool.{Bool, true, false, _&&_, _||_, not, cond}
+use mathlib.Core.List.{List, [], _∷_}
+use mathlib.Core.Logic.{⊎-elim}
+use Prim.Native.Nat.{ℕ, suc, _+_, _*_, _-_, _≤_, _<_, _^_}
+use native.Mathlib.Omega.{arith}
+use native.Mathlib.Numerals.{add-one}
+use borrow.Author.Needs.{needs}
+use borrow.Author.Tests.{lt-ltb, le-ltb, le-leb, lt-leb, eq-eqb, ne-eqb}
+use denote.Ref.{now}
+use lib.Dec.{T, ltb, leb, eqb}
+use lib.ListN.{length, getD, set, replicate, length-set}
+use lib.Seq.{getD-set-same, getD-set-other}
+use lib.IntN.{ℤ, pos, negℤ, natAbs, _+ℤ_, _-ℤ_, _*ℤ_, +ℤ-idl, +ℤ-idr, +ℤ-assoc}
+use lib.Signed.{mag, _≤ℤ_, _<ℤ_}
+use mir.Syntax.{w64}
+use mir.Val.{SFits, toZ, ofZ}
+use mir.ValLaws.{toZ-ofZ}
+use Rattle.exact.specs.Sum.{sum}
+use Rattle.exact.specs.Nearest.{nearest}
+use Rattle.exact.specs.Circle.{C, modulo}
+use Rattle.exact.specs.First.{first, some-below}
+use Rattle.exact.specs.Tabulate.{tabulate}
+use Rattle.exact.proofs.Linear.{unknowns, machine, linear, orders, one-sided, lt-by, le-by, eq-by}
+use Rattle.exact.proofs.Order.{lt-true, lt-false, le-true, le-false}
+use Rattle.exact.proofs.Bound.{read, read-at, read-within, fits-of-mag, bounded, bounded-by, bounds, fits-in, fits-within}
+use Rattle.exact.proofs.Sum.{sum-none, sum-more, sum-ext}
+use Rattle.exact.proofs.Searching.{Failed, failed-none, failed-more, first-at, first-none, some-at, some-none, from-failed, from-test}
+use Rattle.exact.proofs.Filling.{Filled, filled-none, filled-more, filled-all}
+use Rattle.reply.specs.declared.Refusal.the-variants.{Count, Coefficient, Misclosure, WeakRow, Correlate, Remainder}
+use Rattle.reply.specs.declared.Reply.{Reply}
+use Rattle.reply.specs.declared.Reply.the-variants.{Accepted, Refused}
+use Rattle.reply.specs.Checks.{refuseIf, refuseFirst, _andThen_}
+use Rattle.reply.proofs.Checking.{refuse-at, refuse-none}
+use Rattle.adjustment.specs.declared.reduce.Row.{Row}
+use Rattle.adjustment.specs.Table.{Table, tableOf}
+use Rattle.adjustment.specs.Solution.{N, reduced, D, L, M, carried, multiplier, weakRow, weak, K}
+use Rattle.adjustment.specs.Corrections.{V-of, R-of, u-of, adjusted-of, Q-of}
+use Rattle.adjustment.specs.Refusals.{countsAmiss, lengthsAmiss, coefficientFault, misclosureFault, conditionsReply}
+use Rattle.adjustment.specs.Inner.{Small, Within, Sound, From, RowWithin, Stage, TakesRow, Multiplies, IsRow, d-at, m-at, noRow}
+use Rattle.adjustment.proofs.Sizes.{carried-size, back-size}
 use Rattle.adjustment.proofs.correlate.correlate.Statement.{statement}
 use Rattle.adjustment.proofs.correlate.correlate.Tie as tie
-use Rattle.adjustment.proofs.correlate.correlate.Reads as reads
-use Rattle.adjustment.proofs.correlate.correlate.Lts as lts
-use Rattle.adjustment.proofs.correlate.own_part.Reads as own-part-reads
-use Rattle.adjustment.proofs.reduce.plus_carried.Reads as plus-carried-reads
+
+-- what row j adds for the correlate of row suc j + e
+abbrev part : Row → List ℤ → ℕ → ℕ → ℤ
+part row k j e = carried (m-at row (suc j + e)) (getD k (suc j + e) (pos 0))
+
+-- one part more
+more-parts : (own : ℤ) (f : ℕ → ℤ) (j e : ℕ) → j < e → (own +ℤ sum (e - suc j) f) +ℤ f (e - suc j) ≡ own +ℤ sum (e + 1 - suc j) f
+more-parts own f j e h =
+    let i : e + 1 - suc j ≡ e - suc j + 1 = omega arith in
+    +ℤ-assoc own (sum (e - suc j) f) (f (e - suc j)) ∙ ap (λ (z : ℤ). own +ℤ z) (sym (sum-more (e - suc j) f) ∙ ap (λ (k : ℕ). sum k f) (sym i))
 
 abbrev Inv-loop : tie.InvT-loop
-Inv-loop j n row k l pivot sum₀ e₀ sum e = ?
+Inv-loop j n row k l pivot s₀ e₀ s e = (j < e) × (e ≤ n) × (toZ w64 s ≡ nearest (negℤ (pos 10000 *ℤ row .l)) (d-at row j) +ℤ sum (e - suc j) (part row k j))
 
 abbrev μ-loop : tie.MeasureT-loop
-μ-loop j n row k l pivot sum₀ e₀ sum e = ?
+μ-loop j n row k l pivot s₀ e₀ s e = n - e
 
--- src/correlate.rt:19:17
 mul-pivot : tie.Need-mul-pivot Inv-loop μ-loop
-mul-pivot c = ?
+mul-pivot c = search needs
 
--- src/correlate.rt:19:17
 element-copy-out-pivot : tie.Need-element-copy-out-pivot Inv-loop μ-loop
-element-copy-out-pivot c = ?
+element-copy-out-pivot c = search needs
 
--- src/correlate.rt:20:9
-own-part-requires : tie.Need-own-part-requires Inv-loop μ-loop
-own-part-requires c κs = ?
+by-pivot-requires : tie.Need-by-pivot-requires Inv-loop μ-loop
+by-pivot-requires c κs = search needs
 
--- src/correlate.rt:21:17
 add-e : tie.Need-add-e Inv-loop μ-loop
-add-e c = ?
+add-e c = search needs
 
--- src/correlate.rt:22:5
 loop-holds : tie.Need-loop-holds Inv-loop μ-loop
-loop-holds c = ?
+loop-holds c =
+    let s = c .before .before .before in let row = s .args .t1 in let j = s .args .j in
+    let f : mag (row .l) < 2 ^ 63 = search needs in let i : j + 1 - suc j ≡ 0 = omega arith in (
+      omega arith,
+      omega arith,
+      read-at (c .by-pivot .result) (c .by-pivot .ok) ∙ c .by-pivot .ensures
+          ∙ ap₂ (λ (x y : ℤ). nearest (negℤ (pos 10000 *ℤ x)) y) (read-at (row .l) f) (read-at (d-at row j) (c .before .pivot .given))
+          ∙ sym (ap (λ (k : ℕ). nearest (negℤ (pos 10000 *ℤ row .l)) (d-at row j) +ℤ sum k (part row (s .args .t2) j)) i
+          ∙ ap (λ (z : ℤ). nearest (negℤ (pos 10000 *ℤ row .l)) (d-at row j) +ℤ z) (sum-none (part row (s .args .t2) j)) ∙ +ℤ-idr (nearest (negℤ (pos 10000 *ℤ row .l)) (d-at row j))),
+    )
 
--- src/correlate.rt:23:17
 mul-m : tie.Need-mul-m Inv-loop μ-loop
-mul-m c = ?
+mul-m c = search needs
 
--- src/correlate.rt:23:17
 element-copy-out-m : tie.Need-element-copy-out-m Inv-loop μ-loop
-element-copy-out-m c = ?
+element-copy-out-m c = search needs
 
--- src/correlate.rt:24:17
 mul-x : tie.Need-mul-x Inv-loop μ-loop
-mul-x c = ?
+mul-x c = search needs
 
--- src/correlate.rt:24:17
 array-copy-out-x : tie.Need-array-copy-out-x Inv-loop μ-loop
-array-copy-out-x c = ?
+array-copy-out-x c = search needs
 
--- src/correlate.rt:25:9
+-- in a turn
+module _ (c : tie.After-x Inv-loop μ-loop) where
+  abbrev loop : tie.At-loop Inv-loop μ-loop
+  loop = c .before .before .before
+
+  abbrev start : tie.Start Inv-loop μ-loop
+  start = loop .before .before .before .before
+
+  abbrev row : Row
+  row = start .args .t1
+
+  abbrev k : List ℤ
+  k = start .args .t2
+
+  abbrev j : ℕ
+  j = start .args .j
+
+  abbrev e : ℕ
+  e = loop .loop .e
+
+  m-within : (h : ℕ) → j < h → h < start .args .n → natAbs (m-at row h) ≤ 1000000000
+  m-within h a b = start .pre .1 .0 .m h a b
+
+  k-within : (h : ℕ) → j < h → h < start .args .n → natAbs (getD k h (pos 0)) ≤ 100000000
+  k-within h a b = start .pre .1 .1 h a b
+
+  sum-size : natAbs (toZ w64 (loop .loop .s)) ≤ 100000000000000
+  sum-size =
+      let w = start .pre .1 .0 in
+      rw (loop .loop .inv .2)
+      (back-size (row .l) (d-at row j) (e - suc j) (part row k j) (w .l) (w .pivot) (omega arith)
+      (λ h a. carried-size (m-at row (suc j + h)) (getD k (suc j + h) (pos 0)) 100000000 (m-within (suc j + h) (omega arith) (omega arith)) (k-within (suc j + h) (omega arith) (omega arith))))
+
 plus-carried-requires : tie.Need-plus-carried-requires Inv-loop μ-loop
-plus-carried-requires c κs = ?
+plus-carried-requires c κs = (
+  sum-size c,
+  read-within (m-at (row c) (e c)) (c .before .m .given) (m-within c (e c) (omega arith) (omega arith)),
+  omega (arith, read-within (getD (k c) (e c) (pos 0)) (c .x .given) (k-within c (e c) (omega arith) (omega arith))),
+)
 
--- src/correlate.rt:26:9
 add-e-2 : tie.Need-add-e-2 Inv-loop μ-loop
-add-e-2 c = ?
+add-e-2 c = search needs
 
--- src/correlate.rt:22:5
 loop-less : tie.Need-loop-less Inv-loop μ-loop
-loop-less c = ?
+loop-less c = search needs
 
--- src/correlate.rt:22:5
 loop-again : tie.Need-loop-again Inv-loop μ-loop
-loop-again c = ?
+loop-again c =
+    let b = c .before in let i : suc (j b) + (e b - suc (j b)) ≡ e b = omega arith in (
+      omega arith,
+      omega arith,
+      read-at (c .plus-carried .result) (c .plus-carried .ok) ∙ c .plus-carried .ensures
+          ∙ ap₂ _+ℤ_ (loop b .loop .inv .2)
+          (ap₂ carried (read-at (m-at (row b) (e b)) (b .before .m .given)) (read-at (getD (k b) (e b) (pos 0)) (b .x .given))
+          ∙ ap (λ (h : ℕ). carried (m-at (row b) h) (getD (k b) h (pos 0))) (sym i))
+          ∙ more-parts (nearest (negℤ (pos 10000 *ℤ row b .l)) (d-at (row b) (j b))) (part (row b) (k b) (j b)) (j b) (e b) (omega arith),
+    )
 
--- src/correlate.rt:17:1
 returns : tie.Need-returns Inv-loop μ-loop
-returns c = ?
+returns c =
+    let s = c .before .before .before .before .before in let row = s .args .t1 in let j = s .args .j in let i : c .before .loop .e ≡ s .args .n = omega arith in
+    c .before .loop .inv .2 ∙ ap (λ (e : ℕ). nearest (negℤ (pos 10000 *ℤ row .l)) (d-at row j) +ℤ sum (e - suc j) (part row (s .args .t2) j)) i
 
 pub correlate-spec : {M : Type 1} → statement M
 correlate-spec =
@@ -75,7 +166,7 @@ correlate-spec =
     μ-loop
     mul-pivot
     element-copy-out-pivot
-    own-part-requires
+    by-pivot-requires
     add-e
     loop-holds
     mul-m

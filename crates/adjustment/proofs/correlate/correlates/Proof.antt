@@ -1,63 +1,135 @@
+-- `correlate::correlates` meets its contract. Assumes nothing.
+use mathlib.Core.Path.{_≡_, refl, sym, _∙_, ap, ap₂, subst}
+use mathlib.Core.Bool.{Bool, true, false, _&&_, _||_, not, cond}
+use mathlib.Core.List.{List, [], _∷_}
+use mathlib.Core.Logic.{⊎-elim}
+use Prim.Native.Nat.{ℕ, suc, _+_, _*_, _-_, _≤_, _<_}
+use native.Mathlib.Omega.{arith}
+use native.Mathlib.Numerals.{add-one}
+use borrow.Author.Needs.{needs}
+use borrow.Author.Tests.{lt-ltb, le-ltb, le-leb, lt-leb, eq-eqb, ne-eqb}
+use denote.Ref.{now}
+use lib.Dec.{T, ltb, leb, eqb}
+use lib.ListN.{length, getD, set, replicate, length-set}
+use lib.Seq.{getD-set-same, getD-set-other}
+use lib.IntN.{ℤ, pos, negℤ, natAbs, _+ℤ_, _-ℤ_, _*ℤ_, +ℤ-idl}
+use lib.Signed.{_≤ℤ_, _<ℤ_}
+use mir.Syntax.{w64}
+use mir.Val.{SFits, toZ, ofZ}
+use mir.ValLaws.{toZ-ofZ}
+use Rattle.exact.specs.Sum.{sum}
+use Rattle.exact.specs.Nearest.{nearest}
+use Rattle.exact.specs.Circle.{C, modulo}
+use Rattle.exact.specs.First.{first, some-below}
+use Rattle.exact.specs.Tabulate.{tabulate}
+use Rattle.exact.proofs.Linear.{unknowns, machine, linear, orders, one-sided, lt-by, le-by, eq-by}
+use Rattle.exact.proofs.Order.{lt-true, lt-false, le-true, le-false}
+use Rattle.exact.proofs.Bound.{read, read-at, read-within, fits-of-mag, bounded, bounded-by, bounds, fits-in, fits-within}
+use Rattle.exact.proofs.Sum.{sum-none, sum-more, sum-ext}
+use Rattle.exact.proofs.Searching.{Failed, failed-none, failed-more, first-at, first-none, some-at, some-none, from-failed, from-test}
+use Rattle.exact.proofs.Filling.{Filled, filled-none, filled-more, filled-all}
+use Rattle.reply.specs.declared.Refusal.the-variants.{Count, Coefficient, Misclosure, WeakRow, Correlate, Remainder}
+use Rattle.reply.specs.declared.Reply.{Reply}
+use Rattle.reply.specs.declared.Reply.the-variants.{Accepted, Refused}
+use Rattle.reply.specs.Checks.{refuseIf, refuseFirst, _andThen_}
+use Rattle.reply.proofs.Checking.{refuse-at, refuse-none}
+use Rattle.adjustment.specs.declared.reduce.Row.{Row}
+use Rattle.adjustment.specs.Table.{Table, tableOf}
+use Rattle.adjustment.specs.Solution.{N, reduced, D, L, M, carried, multiplier, weakRow, weak, K}
+use Rattle.adjustment.specs.Corrections.{V-of, R-of, u-of, adjusted-of, Q-of}
+use Rattle.adjustment.specs.Refusals.{countsAmiss, lengthsAmiss, coefficientFault, misclosureFault, conditionsReply}
+use Rattle.adjustment.specs.Inner.{Triangle, BackWithin, Solves, backOf, Small, Within, Sound, From, RowWithin, Stage, TakesRow, Multiplies, IsRow, d-at, m-at, noRow}
+use Rattle.adjustment.proofs.Correlating.{next-correlate, first-large, none-large, one-before}
 use Rattle.adjustment.proofs.correlate.correlates.Statement.{statement}
 use Rattle.adjustment.proofs.correlate.correlates.Tie as tie
-use Rattle.adjustment.proofs.correlate.correlates.Reads as reads
-use Rattle.adjustment.proofs.correlate.correlates.Lts as lts
-use Rattle.adjustment.proofs.correlate.correlate.Reads as correlate-reads
-use Rattle.exact.proofs.magnitude.Reads as magnitude-reads
 
 abbrev Inv-loop : tie.InvT-loop
-Inv-loop n rows k₀ left₀ k left = ?
+Inv-loop n rows k₀ left₀ k left = (left ≤ n) × (length k ≡ 24) × From left n (λ j. natAbs (getD k j (pos 0)) ≤ 100000000) × ((t : Table) → t .n ≡ n → Triangle t rows → From left n (λ j. getD k j (pos 0) ≡ K t j))
 
 abbrev μ-loop : tie.MeasureT-loop
-μ-loop n rows k₀ left₀ k left = ?
+μ-loop n rows k₀ left₀ k left = left
 
--- src/correlate.rt:35:5
 loop-holds : tie.Need-loop-holds Inv-loop μ-loop
-loop-holds c = ?
+loop-holds c = (omega arith, refl, (λ j a b. absurd (omega arith)), λ t e r j a b. absurd (omega arith))
 
--- src/correlate.rt:36:17
 sub-j : tie.Need-sub-j Inv-loop μ-loop
-sub-j c = ?
+sub-j c = search needs
 
--- src/correlate.rt:37:19
 mul-row : tie.Need-mul-row Inv-loop μ-loop
-mul-row c = ?
+mul-row c = search needs
 
--- src/correlate.rt:37:19
 array-copy-out-row : tie.Need-array-copy-out-row Inv-loop μ-loop
-array-copy-out-row c = ?
+array-copy-out-row c = search needs
 
--- src/correlate.rt:38:13
 correlate-requires : tie.Need-correlate-requires Inv-loop μ-loop
-correlate-requires c κs = ?
+correlate-requires c κs =
+    let l = c .before .before in let s = l .before in
+    ((omega arith, s .pre .0), (s .pre .1 (l .loop .left - 1) (omega arith), λ e a b. l .loop .inv .2 e (omega arith) b))
 
--- src/correlate.rt:39:24
 magnitude-requires : tie.Need-magnitude-requires Inv-loop μ-loop
-magnitude-requires c κs = ?
+magnitude-requires c κs = search needs
 
--- src/correlate.rt:40:13
+-- in a turn: the correlate, of whatever table the rows are
+module _ (c : tie.After-magnitude Inv-loop μ-loop) where
+  abbrev loop : tie.At-loop Inv-loop μ-loop
+  loop = c .before .before .before .before
+
+  abbrev j : ℕ
+  j = loop .loop .left - 1
+
+  abbrev x : ℤ
+  x = c .before .correlate .result
+
+  size-is : c .magnitude .result ≡ natAbs x
+  size-is = c .magnitude .ensures ∙ ap natAbs (read-at x (c .before .correlate .ok))
+
+  correlate-is : (t : Table) → t .n ≡ loop .before .args .n → Triangle t (loop .before .args .t1) → x ≡ K t j
+  correlate-is t e r =
+      c .before .correlate .ensures ∙ ap (backOf (getD (loop .before .args .t1) j noRow) (loop .loop .k) j) (sym e)
+      ∙ next-correlate t (loop .before .args .t1) r j (loop .loop .k) (omega (arith, e)) (λ h a b. loop .loop .inv .3 t e r h (omega arith) (omega (arith, e)))
+
+  -- the correlates of the rows from `left` on are within 10^8
+  all-within : (t : Table) → t .n ≡ loop .before .args .n → Triangle t (loop .before .args .t1) → From (loop .loop .left) (t .n) (λ h. natAbs (K t h) ≤ 100000000)
+  all-within t e r h a b = rw (loop .loop .inv .3 t e r h a (omega (arith, e))) at (loop .loop .inv .2 h a (omega (arith, e)))
+
 returns : tie.Need-returns Inv-loop μ-loop
-returns c = ?
+returns c = λ t e r.
+    let b = c .before in let l = loop b in
+    record {
+      within = omega (arith, e, l .loop .inv .0);
+      large = first-large t (l .loop .left) (omega (arith, e, l .loop .inv .0)) (all-within b t e r) (j b) (omega arith) (subst (λ (z : ℕ). 100000000 < z) (size-is b ∙ ap natAbs (correlate-is b t e r)) (c .if1 .taken));
+      correlates = λ h a d. l .loop .inv .3 t e r h a (omega (arith, e));
+    }
 
--- src/correlate.rt:42:9
 mul-k : tie.Need-mul-k Inv-loop μ-loop
-mul-k c = ?
+mul-k c = search needs
 
--- src/correlate.rt:42:9
 array-set-from-k : tie.Need-array-set-from-k Inv-loop μ-loop
-array-set-from-k c = ?
+array-set-from-k c = search needs
 
--- src/correlate.rt:35:5
 loop-less : tie.Need-loop-less Inv-loop μ-loop
-loop-less c = ?
+loop-less c = search needs
 
--- src/correlate.rt:35:5
 loop-again : tie.Need-loop-again Inv-loop μ-loop
-loop-again c = ?
+loop-again c =
+    let b = c .before in let l = loop b in let i = l .loop .inv in let n = l .before .args .n in
+    let v = read-at (x b) (b .before .correlate .ok) in (
+      omega arith,
+      length-set (l .loop .k) (j b) (toZ w64 (ofZ w64 (x b))) ∙ i .1,
+      one-before (λ h z. natAbs z ≤ 100000000) (l .loop .k) (l .loop .left) n (toZ w64 (ofZ w64 (x b))) (omega arith) (omega (arith, i .0, i .1, l .before .pre .0)) (i .2)
+          (rw v (rw (size-is b) at (c .if1 .left))),
+      λ t e r.
+          one-before (λ h z. z ≡ K t h) (l .loop .k) (l .loop .left) n (toZ w64 (ofZ w64 (x b))) (omega arith) (omega (arith, i .0, i .1, l .before .pre .0)) (i .3 t e r) (v ∙ correlate-is b t e r),
+    )
 
--- src/correlate.rt:32:1
 returns-2 : tie.Need-returns-2 Inv-loop μ-loop
-returns-2 c = ?
+returns-2 c = λ t e r.
+    let l = c .before in let z : l .loop .left ≡ 0 = omega arith in
+    record {
+      within = omega arith;
+      large = none-large t (l .loop .left) (omega arith) (λ h a b. rw (l .loop .inv .3 t e r h a (omega (arith, e))) at (l .loop .inv .2 h a (omega (arith, e)))) z ∙ ap (λ (k : ℕ). t .n - k) z;
+      correlates = λ h a d. l .loop .inv .3 t e r h (omega arith) (omega (arith, e));
+    }
 
 pub correlates-spec : {M : Type 1} → statement M
 correlates-spec =

@@ -9,7 +9,7 @@ use native.Mathlib.Numerals.{add-one}
 use borrow.Author.Needs.{needs}
 use borrow.Author.Tests.{lt-ltb, le-ltb, le-leb, lt-leb, eq-eqb, ne-eqb}
 use denote.Ref.{now}
-use lib.Dec.{T, ltb, leb, eqb}
+use lib.Dec.{T, lit≤, ltb, leb, eqb}
 use lib.ListN.{length, getD, set, replicate, length-set}
 use lib.Seq.{getD-set-same, getD-set-other}
 use lib.IntN.{ℤ, pos, negℤ, natAbs, _+ℤ_, _-ℤ_, _*ℤ_, +ℤ-idl}
@@ -38,7 +38,7 @@ use Rattle.adjustment.specs.Table.{Table, tableOf}
 use Rattle.adjustment.specs.Solution.{N, reduced, D, L, M, carried, multiplier, weakRow, weak, K}
 use Rattle.adjustment.specs.Corrections.{V-of, R-of, u-of, adjusted-of, Q-of}
 use Rattle.adjustment.specs.Refusals.{countsAmiss, lengthsAmiss, coefficientFault, misclosureFault, conditionsReply}
-use Rattle.adjustment.specs.Inner.{Small, Within, Sound, From, RowWithin, IsNormalRow, TakesRow, Multiplies, IsRow, d-at, m-at, noRow}
+use Rattle.adjustment.specs.Inner.{Small, Within, Sound, From, RowWithin, Stage, TakesRow, Multiplies, IsRow, d-at, m-at, noRow}
 use Rattle.adjustment.proofs.Sizes.{carried-size, sum-within, term-size}
 use Rattle.adjustment.proofs.reduce.multiplied.Statement.{statement}
 use Rattle.adjustment.proofs.reduce.multiplied.Tie as tie
@@ -72,11 +72,12 @@ mul-x c = search needs
 element-copy-out-x : tie.Need-element-copy-out-x Inv-loop μ-loop
 element-copy-out-x c = search needs
 
-multiplier-requires : tie.Need-multiplier-requires Inv-loop μ-loop
-multiplier-requires c κs =
-    let s = c .before .before .before .before in let k = c .before .before .loop .k in let p = s .pre .1 in
-    ( read-within (d-at (s .args .t1) k) (c .x .given) (p .0 k (omega arith) (omega arith))
-    , rw (read-at (d-at (s .args .t1) (s .args .j)) (c .before .before .before .pivot .given)) (p .1)
+by-pivot-requires : tie.Need-by-pivot-requires Inv-loop μ-loop
+by-pivot-requires c κs =
+    let s = c .before .before .before .before in let k = c .before .before .loop .k in let p = s .pre .1 in (
+      lit≤ tt,
+      omega (arith, read-within (d-at (s .args .t1) k) (c .x .given) (p .0 k (omega arith) (omega arith))),
+      rw (read-at (d-at (s .args .t1) (s .args .j)) (c .before .before .before .pivot .given)) (p .1),
     )
 
 mul-t15 : tie.Need-mul-t15 Inv-loop μ-loop
@@ -96,15 +97,15 @@ row-long s = search needs
 
 loop-again : tie.Need-loop-again Inv-loop μ-loop
 loop-again c =
-    let l = c .before .before .before in let s = l .before .before in let i = l .loop .inv in let k = l .loop .k in let row = s .args .t1 in
-    ( omega arith
-    , omega arith
-    , i .2
-    , i .3
-    , filled-more (pos 0) (by-pivot row (s .args .j)) (s .args .j + 1) k (row .m) (l .loop .next .m) (toZ w64 (ofZ w64 (c .multiplier .result)))
-      (omega (arith, row-long s)) (i .4)
-      (read-at (c .multiplier .result) (c .multiplier .ok) ∙ c .multiplier .ensures
-      ∙ ap₂ multiplier (read-at (d-at row k) (c .before .x .given)) (read-at (d-at row (s .args .j)) (l .before .pivot .given)))
+    let l = c .before .before .before in let s = l .before .before in let i = l .loop .inv in let k = l .loop .k in let row = s .args .t1 in (
+      omega arith,
+      omega arith,
+      i .2,
+      i .3,
+      filled-more (pos 0) (by-pivot row (s .args .j)) (s .args .j + 1) k (row .m) (l .loop .next .m) (toZ w64 (ofZ w64 (c .by-pivot .result)))
+          (omega (arith, row-long s)) (i .4)
+          (read-at (c .by-pivot .result) (c .by-pivot .ok) ∙ c .by-pivot .ensures
+          ∙ ap₂ (λ (x y : ℤ). multiplier x y) (read-at (d-at row k) (c .before .x .given)) (read-at (d-at row (s .args .j)) (l .before .pivot .given))),
     )
 
 returns : tie.Need-returns Inv-loop μ-loop
@@ -124,7 +125,7 @@ multiplied-spec =
     loop-holds
     mul-x
     element-copy-out-x
-    multiplier-requires
+    by-pivot-requires
     mul-t15
     element-set-from-next
     add-k-2

@@ -38,7 +38,7 @@ use Rattle.adjustment.specs.Table.{Table, tableOf}
 use Rattle.adjustment.specs.Solution.{N, reduced, D, L, M, carried, multiplier, weakRow, weak, K}
 use Rattle.adjustment.specs.Corrections.{V-of, R-of, u-of, adjusted-of, Q-of}
 use Rattle.adjustment.specs.Refusals.{countsAmiss, lengthsAmiss, coefficientFault, misclosureFault, conditionsReply}
-use Rattle.adjustment.specs.Inner.{Small, Within, Sound, From, RowWithin, IsNormalRow, TakesRow, Multiplies, IsRow, d-at, m-at, noRow}
+use Rattle.adjustment.specs.Inner.{Small, Within, Sound, From, RowWithin, Stage, TakesRow, Multiplies, IsRow, d-at, m-at, noRow}
 use Rattle.adjustment.proofs.Sizes.{row-end, next-row}
 use Rattle.adjustment.proofs.reduce.normal_row.Statement.{statement}
 use Rattle.adjustment.proofs.reduce.normal_row.Tie as tie
@@ -61,28 +61,32 @@ constant-requires c κs =
 
 loop-holds : tie.Need-loop-holds Inv-loop μ-loop
 loop-holds c =
-    let s = c .before .before in
-    ( omega arith
-    , omega arith
-    , s .pre .1 .1
-    , refl
-    , filled-none (pos 0) (N (tableOf (now (s .args .q)) (now (s .args .a)) (now (s .args .w))) (s .args .j)) (s .args .j) (replicate 24 (pos 0))
+    let s = c .before .before in (
+      omega arith,
+      omega arith,
+      s .pre .1 .1,
+      refl,
+      filled-none (pos 0) (N (tableOf (now (s .args .q)) (now (s .args .a)) (now (s .args .w))) (s .args .j)) (s .args .j) (replicate 24 (pos 0)),
     )
 
 normal-requires : tie.Need-normal-requires Inv-loop μ-loop
 normal-requires c κs =
     let l = c .before in let s = l .before .before .before in let t = s .pre .0 in let i = l .loop .inv in let k = l .loop .k in
-    let m = length (now (s .args .q)) in let n = length (now (s .args .w)) in let h : k < n = omega arith in
-    ( t .m-most
-    , ( ( row-end (s .args .j) n m (s .pre .1 .0) (t .long) (s .pre .1 .1)
-        , row-end k n m h (t .long) (i .2)
-        )
-      , ( t .q-most
-        , ( subst (λ (at : ℕ). Within 2000 (now (s .args .a)) at m) (sym (s .pre .1 .1)) (t .a-most (s .args .j) (s .pre .1 .0))
-          , subst (λ (at : ℕ). Within 2000 (now (s .args .a)) at m) (sym (i .2)) (t .a-most k h)
-          )
-        )
-      )
+    let m = length (now (s .args .q)) in let n = length (now (s .args .w)) in let h : k < n = omega arith in (
+      t .m-most,
+      (
+        (
+          row-end (s .args .j) n m (s .pre .1 .0) (t .long) (s .pre .1 .1),
+          row-end k n m h (t .long) (i .2),
+        ),
+        (
+          t .q-most,
+          (
+            subst (λ (at : ℕ). Within 2000 (now (s .args .a)) at m) (sym (s .pre .1 .1)) (t .a-most (s .args .j) (s .pre .1 .0)),
+            subst (λ (at : ℕ). Within 2000 (now (s .args .a)) at m) (sym (i .2)) (t .a-most k h),
+          ),
+        ),
+      ),
     )
 
 mul-t15 : tie.Need-mul-t15 Inv-loop μ-loop
@@ -113,16 +117,17 @@ entry-is c =
 
 loop-again : tie.Need-loop-again Inv-loop μ-loop
 loop-again c =
-    let l = c .before .before in let s = l .before .before .before in let i = l .loop .inv in let k = l .loop .k in
-    ( omega arith
-    , omega arith
-    , next-row k (length (now (s .args .q))) (i .2)
-    , i .3
-    , filled-more (pos 0) (N (tableOf (now (s .args .q)) (now (s .args .a)) (now (s .args .w))) (s .args .j)) (s .args .j) k (replicate 24 (pos 0)) (l .loop .row .d)
-      (toZ w64 (ofZ w64 (c .normal .result))) (omega (arith, s .pre .0 .n-most)) (i .4) (read-at (c .normal .result) (c .normal .ok) ∙ entry-is c)
+    let l = c .before .before in let s = l .before .before .before in let i = l .loop .inv in let k = l .loop .k in (
+      omega arith,
+      omega arith,
+      next-row k (length (now (s .args .q))) (i .2),
+      i .3,
+      filled-more (pos 0) (N (tableOf (now (s .args .q)) (now (s .args .a)) (now (s .args .w))) (s .args .j)) (s .args .j) k (replicate 24 (pos 0)) (l .loop .row .d)
+          (toZ w64 (ofZ w64 (c .normal .result))) (omega (arith, s .pre .0 .n-most)) (i .4) (read-at (c .normal .result) (c .normal .ok) ∙ entry-is c),
     )
 
 returns : tie.Need-returns Inv-loop μ-loop
+unfolding reduced
 returns c =
     let l = c .before in let k = l .before in let s = k .before .before in let i = l .loop .inv in
     record {

@@ -38,7 +38,7 @@ use Rattle.adjustment.specs.Table.{Table, tableOf}
 use Rattle.adjustment.specs.Solution.{N, reduced, D, L, M, carried, multiplier, weakRow, weak, K}
 use Rattle.adjustment.specs.Corrections.{V-of, R-of, u-of, adjusted-of, Q-of}
 use Rattle.adjustment.specs.Refusals.{countsAmiss, lengthsAmiss, coefficientFault, misclosureFault, conditionsReply}
-use Rattle.adjustment.specs.Inner.{Small, Within, Sound, From, RowWithin, IsNormalRow, TakesRow, Multiplies, IsRow, d-at, m-at, noRow}
+use Rattle.adjustment.specs.Inner.{Small, Within, Sound, From, RowWithin, Stage, TakesRow, Multiplies, IsRow, d-at, m-at, noRow}
 use Rattle.adjustment.proofs.Sizes.{carried-size, sum-within, term-size}
 use Rattle.adjustment.proofs.reduce.reduced.Statement.{statement}
 use Rattle.adjustment.proofs.reduce.reduced.Tie as tie
@@ -81,10 +81,10 @@ element-copy-out-x c = search needs
 
 plus-carried-requires-2 : tie.Need-plus-carried-requires-2 Inv-loop μ-loop
 plus-carried-requires-2 c κs =
-    let l = c .before .before .before in let s = l .before .before .before .before .before in let k = l .loop .k in let p = s .pre .1 in
-    ( read-within (d-at (l .loop .next) k) (c .before .s .given) (rw (l .loop .inv .3 .rest k (omega arith)) (p .0 .0 .d k (omega arith) (omega arith)))
-    , read-within (m-at (s .args .t2) (s .args .j)) (l .before .before .before .before .m .given) (p .1)
-    , read-within (d-at (s .args .t2) k) (c .x .given) (p .0 .1 .d k (omega arith) (omega arith))
+    let l = c .before .before .before in let s = l .before .before .before .before .before in let k = l .loop .k in let p = s .pre .1 in (
+      read-within (d-at (l .loop .next) k) (c .before .s .given) (rw (l .loop .inv .3 .rest k (omega arith)) (p .0 .0 .d k (omega arith) (omega arith))),
+      read-within (m-at (s .args .t2) (s .args .j)) (l .before .before .before .before .m .given) (p .1),
+      read-within (d-at (s .args .t2) k) (c .x .given) (p .0 .1 .d k (omega arith) (omega arith)),
     )
 
 mul-t17 : tie.Need-mul-t17 Inv-loop μ-loop
@@ -105,15 +105,15 @@ row-long s = search needs
 loop-again : tie.Need-loop-again Inv-loop μ-loop
 loop-again c =
     let l = c .before .before .before .before in let s = l .before .before .before .before .before in let i = l .loop .inv in let k = l .loop .k in
-    let row = s .args .row in let above = s .args .t2 in
-    ( omega arith
-    , omega arith
-    , i .2
-    , filled-more (pos 0) (taken row above (s .args .j)) (s .args .j) k (row .d) (l .loop .next .d) (toZ w64 (ofZ w64 (c .plus-carried2 .result)))
-      (omega (arith, row-long s)) (i .3)
-      (read-at (c .plus-carried2 .result) (c .plus-carried2 .ok) ∙ c .plus-carried2 .ensures
-      ∙ ap₂ _+ℤ_ (read-at (d-at (l .loop .next) k) (c .before .before .s .given) ∙ i .3 .rest k (omega arith))
-      (ap₂ carried (read-at (m-at above (s .args .j)) (l .before .before .before .before .m .given)) (read-at (d-at above k) (c .before .x .given))))
+    let row = s .args .row in let above = s .args .t2 in (
+      omega arith,
+      omega arith,
+      i .2,
+      filled-more (pos 0) (taken row above (s .args .j)) (s .args .j) k (row .d) (l .loop .next .d) (toZ w64 (ofZ w64 (c .plus-carried2 .result)))
+          (omega (arith, row-long s)) (i .3)
+          (read-at (c .plus-carried2 .result) (c .plus-carried2 .ok) ∙ c .plus-carried2 .ensures
+          ∙ ap₂ _+ℤ_ (read-at (d-at (l .loop .next) k) (c .before .before .s .given) ∙ i .3 .rest k (omega arith))
+          (ap₂ carried (read-at (m-at above (s .args .j)) (l .before .before .before .before .m .given)) (read-at (d-at above k) (c .before .x .given)))),
     )
 
 returns : tie.Need-returns Inv-loop μ-loop

@@ -38,7 +38,7 @@ use Rattle.adjustment.specs.Table.{Table, tableOf}
 use Rattle.adjustment.specs.Solution.{N, reduced, D, L, M, carried, multiplier, weakRow, weak, K}
 use Rattle.adjustment.specs.Corrections.{V-of, R-of, u-of, adjusted-of, Q-of}
 use Rattle.adjustment.specs.Refusals.{countsAmiss, lengthsAmiss, coefficientFault, misclosureFault, conditionsReply}
-use Rattle.adjustment.specs.Inner.{Small, Within, Sound, From, RowWithin, IsNormalRow, TakesRow, Multiplies, IsRow, d-at, m-at, noRow}
+use Rattle.adjustment.specs.Inner.{Small, Within, Sound, From, RowWithin, Stage, TakesRow, Multiplies, IsRow, d-at, m-at, noRow}
 use Rattle.adjustment.proofs.Sizes.{carried-size, sum-within, term-size}
 use Rattle.adjustment.proofs.reduce.some_large.Statement.{statement}
 use Rattle.adjustment.proofs.reduce.some_large.Tie as tie
@@ -93,11 +93,11 @@ loop-less c = search needs
 
 loop-again : tie.Need-loop-again Inv-loop μ-loop
 loop-again c =
-    let b = c .before in let i = b .before .before .before .loop .inv in
-    ( omega arith
-    , omega arith
-    , failed-more (λ k. leb (start b .args .from) k && test b k) (k b) (i .2)
-      (from-test (start b .args .from) (k b) (test b) (i .0) ∙ le-ltb (start b .args .limit) _ (rw (size-is b) at (c .if1 .left)))
+    let b = c .before in let i = b .before .before .before .loop .inv in (
+      omega arith,
+      omega arith,
+      failed-more (λ k. leb (start b .args .from) k && test b k) (k b) (i .2)
+          (from-test (start b .args .from) (k b) (test b) (i .0) ∙ le-ltb (start b .args .limit) _ (rw (size-is b) at (c .if1 .left))),
     )
 
 returns-2 : tie.Need-returns-2 Inv-loop μ-loop

@@ -1,71 +1,150 @@
+-- `table::check_conditions` meets its contract. Assumes nothing.
+use mathlib.Core.Path.{_≡_, refl, sym, _∙_, ap, ap₂, subst}
+use mathlib.Core.Bool.{Bool, true, false, _&&_, _||_, not, cond}
+use mathlib.Core.List.{List, [], _∷_}
+use mathlib.Core.Logic.{⊎-elim}
+use Prim.Native.Nat.{ℕ, suc, _+_, _*_, _-_, _≤_, _<_}
+use native.Mathlib.Omega.{arith}
+use native.Mathlib.Nat.{zero-mul}
+use native.Mathlib.Numerals.{add-one}
+use borrow.Author.Needs.{needs}
+use borrow.Author.Tests.{lt-ltb, le-ltb, le-leb, lt-leb, eq-eqb, ne-eqb}
+use denote.Ref.{now}
+use lib.Dec.{T, ltb, leb, eqb}
+use lib.ListN.{length, getD, set, replicate, length-set}
+use lib.Seq.{getD-set-same, getD-set-other}
+use lib.IntN.{ℤ, pos, negℤ, natAbs, _+ℤ_, _-ℤ_, _*ℤ_, +ℤ-idl}
+use lib.Signed.{_≤ℤ_, _<ℤ_}
+use mir.Syntax.{w64}
+use mir.Val.{SFits, toZ, ofZ}
+use mir.ValLaws.{toZ-ofZ}
+use Rattle.exact.specs.Sum.{sum}
+use Rattle.exact.specs.Nearest.{nearest}
+use Rattle.exact.specs.Circle.{C, modulo}
+use Rattle.exact.specs.First.{first, some-below}
+use Rattle.exact.specs.Tabulate.{tabulate}
+use Rattle.exact.proofs.Linear.{unknowns, machine, linear, orders, one-sided, lt-by, le-by, eq-by}
+use Rattle.exact.proofs.Order.{lt-true, lt-false, le-true, le-false}
+use Rattle.exact.proofs.Bound.{read, read-at, read-within, fits-of-mag, bounded, bounded-by, bounds, fits-in, fits-within}
+use Rattle.exact.proofs.Sum.{sum-none, sum-more, sum-ext}
+use Rattle.exact.proofs.Searching.{Failed, failed-none, failed-more, first-at, first-none, some-at, some-none, from-failed, from-test}
+use Rattle.exact.proofs.Filling.{Filled, filled-none, filled-more, filled-all}
+use Rattle.reply.specs.declared.Refusal.{Refusal}
+use Rattle.reply.specs.declared.Refusal.the-variants.{Count, Coefficient, Misclosure, WeakRow, Correlate, Remainder}
+use Rattle.reply.specs.declared.Reply.{Reply}
+use Rattle.reply.specs.declared.Reply.the-variants.{Accepted, Refused}
+use Rattle.reply.specs.Checks.{refuseIf, refuseFirst, _andThen_}
+use Rattle.reply.proofs.Checking.{refuse-at, refuse-none}
+use Rattle.adjustment.specs.declared.reduce.Row.{Row}
+use Rattle.adjustment.specs.Table.{Table, at, tableOf}
+use Rattle.adjustment.specs.Solution.{N, reduced, D, L, M, carried, multiplier, weakRow, weak, K}
+use Rattle.adjustment.specs.Corrections.{V-of, R-of, u-of, adjusted-of, Q-of}
+use Rattle.adjustment.specs.Refusals.{countsAmiss, lengthsAmiss, coefficientFault, misclosureFault, conditionsReply}
+use Rattle.adjustment.specs.Inner.{Small, Within, Sound, From, RowWithin, Stage, TakesRow, Multiplies, IsRow, d-at, m-at, noRow}
+use Rattle.adjustment.proofs.Sizes.{row-end, next-row}
 use Rattle.adjustment.proofs.table.check_conditions.Statement.{statement}
 use Rattle.adjustment.proofs.table.check_conditions.Tie as tie
-use Rattle.adjustment.proofs.table.check_conditions.Reads as reads
-use Rattle.adjustment.proofs.table.check_conditions.Lts as lts
-use Rattle.adjustment.proofs.table.coefficient_fault.Reads as coefficient-fault-reads
-use Rattle.exact.proofs.magnitude.Reads as magnitude-reads
+
+-- condition j is at fault
+abbrev fault : Table → ℕ → Bool
+fault t j = coefficientFault t j || misclosureFault t j
 
 abbrev Inv-loop : tie.InvT-loop
-Inv-loop q a w m at₀ j₀ at j = ?
+Inv-loop q a w m at₀ j₀ at j = (j ≤ length w) × (at ≡ j * length q) × Failed (fault (tableOf q a w)) j
 
 abbrev μ-loop : tie.MeasureT-loop
-μ-loop q a w m at₀ j₀ at j = ?
+μ-loop q a w m at₀ j₀ at j = length w - j
 
--- src/table.rt:97:5
 loop-holds : tie.Need-loop-holds Inv-loop μ-loop
-loop-holds c = ?
+loop-holds c =
+    let a = c .args in (omega arith, sym (zero-mul (length (now (a .q)))), failed-none (fault (tableOf (now (a .q)) (now (a .a)) (now (a .w)))))
 
--- src/table.rt:98:12
+-- in a turn
+module _ (l : tie.At-loop Inv-loop μ-loop) where
+  abbrev t : Table
+  t = tableOf (now (l .before .args .q)) (now (l .before .args .a)) (now (l .before .args .w))
+
+  abbrev j : ℕ
+  j = l .loop .j
+
+  row-within : j < t .n → l .loop .at + t .m ≤ length (now (l .before .args .a))
+  row-within h = row-end j (t .n) (t .m) h (l .before .pre) (l .loop .inv .1)
+
 coefficient-fault-requires : tie.Need-coefficient-fault-requires Inv-loop μ-loop
-coefficient-fault-requires c κs = ?
+coefficient-fault-requires c κs = row-within (c .before) (omega arith)
 
--- src/table.rt:99:57
 add-t11 : tie.Need-add-t11 Inv-loop μ-loop
-add-t11 c = ?
+add-t11 c = search needs
 
--- src/table.rt:99:13
+coefficient-is : (c : tie.After-coefficient-fault Inv-loop μ-loop) → c .coefficient-fault .result ≡ coefficientFault (t (c .before .before)) (j (c .before .before))
+unfolding coefficientFault
+coefficient-is c =
+    let l = c .before .before in
+    c .coefficient-fault .ensures ∙ ap (λ (k : ℕ). some-below (t l .m) (λ i. ltb 2000 (natAbs (getD (now (l .before .args .a)) (k + i) (pos 0))))) (l .loop .inv .1)
+
+-- why condition j is refused
+abbrev why : Table → ℕ → Refusal
+why t j = cond (coefficientFault t j) (Coefficient (j + 1)) (Misclosure (j + 1))
+
 returns : tie.Need-returns Inv-loop μ-loop
-returns c = ?
+unfolding conditionsReply
+returns c =
+    let b = c .before in let l = b .before .before in let e : coefficientFault (t l) (j l) ≡ true = sym (coefficient-is b) ∙ c .if1 .taken in
+    sym (refuse-at (t l .n) (fault (t l)) (why (t l)) (j l) (omega arith) (l .loop .inv .2) (rw e) ∙ rw e)
 
--- src/table.rt:101:17
 mul-x : tie.Need-mul-x Inv-loop μ-loop
-mul-x c = ?
+mul-x c = search needs
 
--- src/table.rt:101:17
 shared-slice-copy-out-x : tie.Need-shared-slice-copy-out-x Inv-loop μ-loop
-shared-slice-copy-out-x c = ?
+shared-slice-copy-out-x c = search needs
 
--- src/table.rt:102:22
 magnitude-requires : tie.Need-magnitude-requires Inv-loop μ-loop
-magnitude-requires c κs = ?
+magnitude-requires c κs = search needs
 
--- src/table.rt:103:56
 add-t17 : tie.Need-add-t17 Inv-loop μ-loop
-add-t17 c = ?
+add-t17 c = search needs
 
--- src/table.rt:103:13
+-- the coefficients are sound; the misclosure
+module _ (c : tie.After-magnitude Inv-loop μ-loop) where
+  abbrev outer : tie.At-loop Inv-loop μ-loop
+  outer = c .before .before .before .before .before
+
+  coefficients-sound : coefficientFault (t outer) (j outer) ≡ false
+  coefficients-sound = sym (coefficient-is (c .before .before .before)) ∙ c .before .before .if1 .left
+
+  size-is : c .magnitude .result ≡ natAbs (t outer .w (j outer))
+  size-is = c .magnitude .ensures ∙ ap natAbs (read-at (t outer .w (j outer)) (c .before .x .given))
+
 returns-2 : tie.Need-returns-2 Inv-loop μ-loop
-returns-2 c = ?
+unfolding conditionsReply misclosureFault
+returns-2 c =
+    let b = c .before in let l = outer b in let e = coefficients-sound b in
+    let f : ltb 1000000 (natAbs (t l .w (j l))) ≡ true = lt-ltb 1000000 (natAbs (t l .w (j l))) (rw (size-is b) at (c .if2 .taken)) in
+    sym (refuse-at (t l .n) (fault (t l)) (why (t l)) (j l) (omega arith) (l .loop .inv .2) (rw e f) ∙ rw e)
 
--- src/table.rt:105:9
 add-at : tie.Need-add-at Inv-loop μ-loop
-add-at c = ?
+add-at c = let l = outer (c .before) in omega (arith, row-within l (omega arith))
 
--- src/table.rt:106:9
 add-j : tie.Need-add-j Inv-loop μ-loop
-add-j c = ?
+add-j c = search needs
 
--- src/table.rt:97:5
 loop-less : tie.Need-loop-less Inv-loop μ-loop
-loop-less c = ?
+loop-less c = search needs
 
--- src/table.rt:97:5
 loop-again : tie.Need-loop-again Inv-loop μ-loop
-loop-again c = ?
+unfolding misclosureFault
+loop-again c =
+    let b = c .before in let l = outer b in let e = coefficients-sound b in (
+      omega arith,
+      next-row (j l) (t l .m) (l .loop .inv .1),
+      failed-more (fault (t l)) (j l) (l .loop .inv .2) (rw e (le-ltb 1000000 (natAbs (t l .w (j l))) (rw (size-is b) at (c .if2 .left)))),
+    )
 
--- src/table.rt:90:1
 returns-3 : tie.Need-returns-3 Inv-loop μ-loop
-returns-3 c = ?
+unfolding conditionsReply
+returns-3 c =
+    let l = c .before in let e : j l ≡ t l .n = omega arith in
+    sym (refuse-none (t l .n) (fault (t l)) (why (t l)) (subst (Failed (fault (t l))) e (l .loop .inv .2)))
 
 pub check-conditions-spec : {M : Type 1} → statement M
 check-conditions-spec =

@@ -1,54 +1,78 @@
+-- `table::lengths_amiss` meets its contract. Assumes nothing.
+use mathlib.Core.Path.{_≡_, refl, sym, _∙_, ap, ap₂, subst}
+use mathlib.Core.Bool.{Bool, true, false, _&&_, _||_, not, cond}
+use mathlib.Core.List.{List, [], _∷_}
+use mathlib.Core.Logic.{⊎-elim}
+use Prim.Native.Nat.{ℕ, suc, _+_, _*_, _-_, _≤_, _<_}
+use native.Mathlib.Omega.{arith}
+use native.Mathlib.Numerals.{add-one}
+use borrow.Author.Needs.{needs}
+use borrow.Author.Tests.{lt-ltb, le-ltb, le-leb, lt-leb, eq-eqb, ne-eqb}
+use denote.Ref.{now}
+use lib.Dec.{T, ltb, leb, eqb}
+use lib.ListN.{length, getD, set, replicate, length-set}
+use lib.Seq.{getD-set-same, getD-set-other}
+use lib.IntN.{ℤ, pos, negℤ, natAbs, _+ℤ_, _-ℤ_, _*ℤ_, +ℤ-idl}
+use lib.Signed.{_≤ℤ_, _<ℤ_}
+use mir.Syntax.{w64}
+use mir.Val.{SFits, toZ, ofZ}
+use mir.ValLaws.{toZ-ofZ}
+use Rattle.exact.specs.Sum.{sum}
+use Rattle.exact.specs.Nearest.{nearest}
+use Rattle.exact.specs.Circle.{C, modulo}
+use Rattle.exact.specs.First.{first, some-below}
+use Rattle.exact.specs.Tabulate.{tabulate}
+use Rattle.exact.proofs.Linear.{unknowns, machine, linear, orders, one-sided, lt-by, le-by, eq-by}
+use Rattle.exact.proofs.Order.{lt-true, lt-false, le-true, le-false}
+use Rattle.exact.proofs.Bound.{mul-le, read, read-at, read-within, fits-of-mag, bounded, bounded-by, bounds, fits-in, fits-within}
+use Rattle.exact.proofs.Sum.{sum-none, sum-more, sum-ext}
+use Rattle.exact.proofs.Searching.{Failed, failed-none, failed-more, first-at, first-none, some-at, some-none, from-failed, from-test}
+use Rattle.exact.proofs.Filling.{Filled, filled-none, filled-more, filled-all}
+use Rattle.reply.specs.declared.Refusal.the-variants.{Count, Coefficient, Misclosure, WeakRow, Correlate, Remainder}
+use Rattle.reply.specs.declared.Reply.{Reply}
+use Rattle.reply.specs.declared.Reply.the-variants.{Accepted, Refused}
+use Rattle.reply.specs.Checks.{refuseIf, refuseFirst, _andThen_}
+use Rattle.reply.proofs.Checking.{refuse-at, refuse-none}
+use Rattle.adjustment.specs.declared.reduce.Row.{Row}
+use Rattle.adjustment.specs.Table.{Table, at, tableOf}
+use Rattle.adjustment.specs.Solution.{N, reduced, D, L, M, carried, multiplier, weakRow, weak, K}
+use Rattle.adjustment.specs.Corrections.{V-of, R-of, u-of, adjusted-of, Q-of}
+use Rattle.adjustment.specs.Refusals.{differs, countsAmiss, lengthsAmiss, coefficientFault, misclosureFault, conditionsReply}
+use Rattle.adjustment.specs.Inner.{Small, Within, Sound, From, RowWithin, Stage, TakesRow, Multiplies, IsRow, d-at, m-at, noRow}
+use Rattle.adjustment.proofs.Sizes.{carried-size, sum-within, term-size}
 use Rattle.adjustment.proofs.table.lengths_amiss.Statement.{statement}
 use Rattle.adjustment.proofs.table.lengths_amiss.Tie as tie
-use Rattle.adjustment.proofs.table.lengths_amiss.Reads as reads
-use Rattle.adjustment.proofs.table.lengths_amiss.Lts as lts
 
--- src/table.rt:50:9
 returns : tie.Need-returns
-returns c = ?
+unfolding lengthsAmiss
+returns c = let a = c .before .args in rw (ne-eqb (a .q) (a .m) (c .if1 .taken))
 
--- src/table.rt:52:13
 mul-if2 : tie.Need-mul-if2
-mul-if2 c = ?
+mul-if2 c = omega (arith, mul-le (c .before .pre .1) (c .before .pre .0))
 
--- src/table.rt:53:9
 returns-2 : tie.Need-returns-2
-returns-2 c = ?
+unfolding lengthsAmiss
+returns-2 c = let a = c .before .before .args in rw (eq-eqb (a .q) (a .m) (c .before .if1 .left), ne-eqb (a .a) (a .n * a .m) (c .if2 .taken))
 
--- src/table.rt:56:9
+differ-requires : tie.Need-differ-requires
+differ-requires c κs = search needs
+
 returns-3 : tie.Need-returns-3
-returns-3 c = ?
+unfolding lengthsAmiss
+returns-3 c =
+    let a = c .before .before .before .before .args in let d = sym (c .before .differ .ensures) ∙ c .if3 .taken in
+    rw (eq-eqb (a .q) (a .m) (c .before .before .before .if1 .left), eq-eqb (a .a) (a .n * a .m) (c .before .before .if2 .left), d)
 
--- src/table.rt:59:9
+differ-requires-2 : tie.Need-differ-requires-2
+differ-requires-2 c κs = search needs
+
 returns-4 : tie.Need-returns-4
-returns-4 c = ?
-
--- src/table.rt:62:9
-returns-5 : tie.Need-returns-5
-returns-5 c = ?
-
--- src/table.rt:65:9
-returns-6 : tie.Need-returns-6
-returns-6 c = ?
-
--- src/table.rt:68:9
-returns-7 : tie.Need-returns-7
-returns-7 c = ?
-
--- src/table.rt:34:1
-returns-8 : tie.Need-returns-8
-returns-8 c = ?
+unfolding lengthsAmiss
+returns-4 c =
+    let e = c .before in let a = e .before .before .before .before .args in let d = sym (e .before .differ .ensures) ∙ e .if3 .left in
+    rw (eq-eqb (a .q) (a .m) (e .before .before .before .if1 .left), eq-eqb (a .a) (a .n * a .m) (e .before .before .if2 .left), d) (c .differ2 .ensures)
 
 pub lengths-amiss-spec : {M : Type 1} → statement M
 lengths-amiss-spec =
     tie.close
-    (tie.spec
-    returns
-    mul-if2
-    returns-2
-    returns-3
-    returns-4
-    returns-5
-    returns-6
-    returns-7
-    returns-8)
+    (tie.spec returns mul-if2 returns-2 differ-requires returns-3 differ-requires-2 returns-4)

@@ -1,0 +1,164 @@
+-- `reduce::finished` meets its contract. Assumes nothing.
+use mathlib.Core.Path.{_≡_, refl, sym, _∙_, ap, ap₂, subst}
+use mathlib.Core.Bool.{Bool, true, false, _&&_, _||_, not, cond}
+use mathlib.Core.List.{List, [], _∷_}
+use mathlib.Core.Logic.{⊎-elim}
+use Prim.Native.Nat.{ℕ, suc, _+_, _*_, _-_, _≤_, _<_, _^_}
+use native.Mathlib.Omega.{arith}
+use native.Mathlib.Numerals.{add-one}
+use borrow.Author.Needs.{needs}
+use borrow.Author.Tests.{lt-ltb, le-ltb, le-leb, lt-leb, eq-eqb, ne-eqb, ltb-false}
+use denote.Ref.{now}
+use lib.Dec.{T, ltb, leb, eqb}
+use lib.ListN.{length, getD, set, replicate, length-set}
+use lib.Seq.{getD-set-same, getD-set-other}
+use lib.IntN.{ℤ, pos, negℤ, natAbs, _+ℤ_, _-ℤ_, _*ℤ_, +ℤ-idl}
+use lib.Signed.{mag, ltZ, _≤ℤ_, _<ℤ_}
+use mir.Syntax.{w64}
+use mir.Val.{SFits, toZ, ofZ}
+use mir.ValLaws.{toZ-ofZ}
+use Rattle.exact.specs.Sum.{sum}
+use Rattle.exact.specs.Nearest.{nearest}
+use Rattle.exact.specs.Circle.{C, modulo}
+use Rattle.exact.specs.First.{first, some-below}
+use Rattle.exact.specs.Tabulate.{tabulate}
+use Rattle.exact.proofs.Linear.{unknowns, machine, linear, orders, one-sided, lt-by, le-by, eq-by}
+use Rattle.exact.proofs.Order.{lt-true, lt-false, le-true, le-false}
+use Rattle.exact.proofs.Bound.{read, read-at, read-within, fits-of-mag, bounded, bounded-by, bounds, fits-in, fits-within}
+use Rattle.exact.proofs.Sum.{sum-none, sum-more, sum-ext}
+use Rattle.exact.proofs.Searching.{Failed, failed-none, failed-more, first-at, first-none, some-at, some-none, from-failed, from-test, from-ext, from-none}
+use Rattle.exact.proofs.Filling.{Filled, filled-none, filled-more, filled-all}
+use Rattle.reply.specs.declared.Refusal.the-variants.{Count, Coefficient, Misclosure, WeakRow, Correlate, Remainder}
+use Rattle.reply.specs.declared.Reply.{Reply}
+use Rattle.reply.specs.declared.Reply.the-variants.{Accepted, Refused}
+use Rattle.reply.specs.Checks.{refuseIf, refuseFirst, _andThen_}
+use Rattle.reply.proofs.Checking.{refuse-at, refuse-none}
+use Rattle.adjustment.specs.declared.reduce.Row.{Row}
+use Rattle.adjustment.specs.Table.{Table, tableOf}
+use Rattle.adjustment.specs.Solution.{N, reduced, D, L, M, carried, multiplier, weakRow, weak, K}
+use Rattle.adjustment.specs.Corrections.{V-of, R-of, u-of, adjusted-of, Q-of}
+use Rattle.adjustment.specs.Refusals.{countsAmiss, lengthsAmiss, coefficientFault, misclosureFault, conditionsReply}
+use Rattle.adjustment.specs.Inner.{Small, Within, Sound, From, RowWithin, Stage, TakesRow, Multiplies, IsRow, d-at, m-at, noRow}
+use Rattle.adjustment.proofs.Weakness.{largeD, weak-by-coefficient, weak-by-constant, weak-by-pivot, weak-by-multiplier}
+use Rattle.adjustment.proofs.Sizes.{carried-size, sum-within, term-size}
+use Rattle.adjustment.proofs.reduce.finished.Statement.{statement}
+use Rattle.adjustment.proofs.reduce.finished.Tie as tie
+
+some-large-requires : tie.Need-some-large-requires
+some-large-requires c κs = search needs
+
+not-true : {A : Type 0} → true ≡ false → A
+not-true e = let z : _≡_ {A = ℕ} 0 1 = cc in absurd (omega arith)
+
+-- the row, and the first test
+module _ (s : tie.Start) where
+  abbrev row : Row
+  row = s .args .t1
+
+  abbrev j : ℕ
+  j = s .args .j
+
+  abbrev n : ℕ
+  n = s .args .n
+
+large-is : (c : tie.After-some-large) → c .some-large .result ≡ largeD (n (c .before .before .before)) (j (c .before .before .before)) (d-at (row (c .before .before .before)))
+large-is c = c .some-large .ensures
+
+returns : tie.Need-returns
+returns c =
+    let s = c .before .before .before .before in
+    (sym (weak-by-coefficient (n s) (j s) (d-at (row s)) (row s .l) (sym (large-is (c .before)) ∙ c .if1 .taken)), not-true)
+
+magnitude-requires : tie.Need-magnitude-requires
+magnitude-requires c κs = search needs
+
+-- the coefficients are not large; the size of the constant
+module _ (c : tie.After-magnitude) where
+  abbrev start2 : tie.Start
+  start2 = c .before .before .before .before .before .before
+
+  small-d : largeD (n start2) (j start2) (d-at (row start2)) ≡ false
+  small-d = sym (large-is (c .before .before .before)) ∙ c .before .before .if1 .left
+
+  size-is : c .magnitude .result ≡ natAbs (row start2 .l)
+  size-is = let f : mag (row start2 .l) < 2 ^ 63 = search needs in c .magnitude .ensures ∙ ap natAbs (read-at (row start2 .l) f)
+
+returns-2 : tie.Need-returns-2
+returns-2 c =
+    let b = c .before in let s = start2 b in
+    (sym (weak-by-constant (n s) (j s) (d-at (row s)) (row s .l) (small-d b) (rw (size-is b) at (c .if2 .taken))), not-true)
+
+mul-pivot : tie.Need-mul-pivot
+mul-pivot c = search needs
+
+element-copy-out-pivot : tie.Need-element-copy-out-pivot
+element-copy-out-pivot c = search needs
+
+-- the constant is not large; the pivot as the machine reads it
+module _ (c : tie.After-pivot) where
+  abbrev start3 : tie.Start
+  start3 = c .before .before .before .before .before .before .before .before
+
+  small-l : natAbs (row start3 .l) ≤ 4000000000
+  small-l = rw (size-is (c .before .before)) at (c .before .if2 .left)
+
+  pivot-read : toZ w64 (ofZ w64 (d-at (row start3) (j start3))) ≡ d-at (row start3) (j start3)
+  pivot-read = read-at (d-at (row start3) (j start3)) (c .pivot .given)
+
+returns-3 : tie.Need-returns-3
+returns-3 c =
+    let b = c .before in let s = start3 b in (
+      sym (weak-by-pivot (n s) (j s) (d-at (row s)) (row s .l) (small-d (b .before .before)) (small-l b) (ap (λ (z : ℤ). ltZ z (pos 100)) (sym (pivot-read b)) ∙ c .if3 .taken)),
+      not-true,
+    )
+
+-- the pivot is 100 or more
+sound-pivot : (c : tie.Else3) → ltZ (d-at (row (start3 (c .before))) (j (start3 (c .before)))) (pos 100) ≡ false
+sound-pivot c = ap (λ (z : ℤ). ltZ z (pos 100)) (sym (pivot-read (c .before))) ∙ c .if3 .left
+
+multiplied-requires : tie.Need-multiplied-requires
+multiplied-requires c κs =
+    let b = c .before in let s = start3 b in (
+      s .pre,
+      (
+        (λ k h l. ltb-false 2560000000 (natAbs (d-at (row s) k)) (from-none (n s) (j s) (λ k. ltb 2560000000 (natAbs (d-at (row s) k))) (small-d (b .before .before)) k h l)),
+        above-zero (d-at (row s) (j s)) (lt-false (sound-pivot c) refl refl),
+      ),
+    )
+  where
+    above-zero : (x : ℤ) → pos 100 ≤ℤ x → pos 0 <ℤ x
+    above-zero x h = let v = unknowns (x ∷ []) in lt-by (search linear) (search linear) (omega (arith, orders))
+
+add-some-large : tie.Need-add-some-large
+add-some-large c = search needs
+
+some-large-requires-2 : tie.Need-some-large-requires-2
+some-large-requires-2 c κs = search needs
+
+returns-4 : tie.Need-returns-4
+returns-4 c =
+    let e = c .before .before .before .before in let b = e .before in let s = start3 b in let whole = c .before .before .before .multiplied .ensures in (
+      c .some-large2 .ensures
+          ∙ ap (λ (k : ℕ). ltb k (n s))
+          (ap (λ (i : ℕ). first (n s) (λ k. leb i k && ltb 1000000000 (natAbs (m-at (c .before .before .before .multiplied .result) k)))) (add-one (j s))
+          ∙ from-ext (n s) (suc (j s)) (λ k. ltb 1000000000 (natAbs (m-at (c .before .before .before .multiplied .result) k))) (λ k. ltb 1000000000 (natAbs (multiplier (d-at (row s) k) (d-at (row s) (j s)))))
+          (λ k h l. ap (λ (z : ℤ). ltb 1000000000 (natAbs z)) (whole .m k h l)))
+          ∙ sym (weak-by-multiplier (n s) (j s) (d-at (row s)) (row s .l) (small-d (b .before .before)) (small-l b) (sound-pivot e)),
+      (λ f. whole),
+    )
+
+pub finished-spec : {M : Type 1} → statement M
+finished-spec =
+    tie.close
+    (tie.spec
+    some-large-requires
+    returns
+    magnitude-requires
+    returns-2
+    mul-pivot
+    element-copy-out-pivot
+    returns-3
+    multiplied-requires
+    add-some-large
+    some-large-requires-2
+    returns-4)
