@@ -33,7 +33,7 @@ lent m n = record {
   adjusted = replicate m (pos 0);
   correlates = replicate n (pos 0);
   remainders = replicate n (pos 0);
-  printedRemainders = replicate n (pos 0);
+  misses = replicate n (pos 0);
 }
 
 -- condition 1

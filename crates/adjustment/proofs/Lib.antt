@@ -3,3 +3,4 @@ pub mod Sizes
 pub mod Weakness
 pub mod Reducing
 pub mod Correlating
+pub mod Demands

@@ -12,6 +12,7 @@ use Rattle.exact.specs.Nearest.{nearest}
 use Rattle.exact.specs.First.{first}
 use Rattle.adjustment.specs.declared.reduce.Row.{Row}
 use Rattle.adjustment.specs.Table.{Table, tableOf}
+use Rattle.adjustment.specs.Corrections.{V-of, R-of}
 use Rattle.adjustment.specs.Demand.{seen}
 use Rattle.adjustment.specs.Solution.{N, reduced, D, L, M, multiplier, carried, weak, K}
 
@@ -100,3 +101,10 @@ pub record Solves (t : Table) (k : List ℤ) (from : ℕ) : Type 0 where
 -- R(j) by a and V: sum of a*V + 10^7*w(j)
 abbrev pub closing : Table → (ℕ → ℤ) → ℕ → ℤ
 closing t v j = seen t j v +ℤ pos 10000000 *ℤ t .w j
+
+-- the correlates, corrections and remainders of a table
+pub record Solved (t : Table) (ks vs rs : List ℤ) : Type 0 where
+  pub k : (j : ℕ) → j < t .n → getD ks j (pos 0) ≡ K t j
+  pub v : (i : ℕ) → i < t .m → getD vs i (pos 0) ≡ V-of t (K t) i
+  pub r : (j : ℕ) → j < t .n → getD rs j (pos 0) ≡ R-of t (K t) j
+  pub k-most : (j : ℕ) → j < t .n → natAbs (K t j) ≤ 100000000

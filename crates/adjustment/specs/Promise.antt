@@ -21,12 +21,12 @@ pub record Answers : Type 0 where
   pub adjusted : List ℤ
   pub correlates : List ℤ
   pub remainders : List ℤ
-  pub printedRemainders : List ℤ
+  pub misses : List ℤ
 
 -- the reply to a lent table, with the answer lists as they were lent
 unfoldable pub adjustReply : (directions qs cs ws : List ℤ) → Answers → Reply
 adjustReply ds qs cs ws lent =
-    inputReply ds qs cs ws (length (lent .corrections)) (length (lent .printed)) (length (lent .adjusted)) (length (lent .correlates)) (length (lent .remainders)) (length (lent .printedRemainders))
+    inputReply ds qs cs ws (length (lent .corrections)) (length (lent .printed)) (length (lent .adjusted)) (length (lent .correlates)) (length (lent .remainders)) (length (lent .misses))
     andThen solutionReply (tableOf qs cs ws)
 
 -- the answer lists of a table and its correlates
@@ -37,7 +37,7 @@ answersOf t k direction = record {
   adjusted = tabulate (t .m) (adjusted-of t k direction);
   correlates = tabulate (t .n) k;
   remainders = tabulate (t .n) (R-of t k);
-  printedRemainders = tabulate (t .n) (Q-of t k);
+  misses = tabulate (t .n) (Q-of t k);
 }
 
 -- the lent lists afterwards: the answers, or in a refusal what was lent
@@ -48,4 +48,4 @@ leaves (Refused why) answers lent = lent
 pub record Adjusts (ds qs cs ws : List ℤ) (lent : Answers) (reply : Reply) (left : Answers) : Type 0 where
   pub answer : reply ≡ adjustReply ds qs cs ws lent
   pub lists : left ≡ leaves reply (answersOf (tableOf qs cs ws) (K (tableOf qs cs ws)) (at ds)) lent
-  pub demand3 : reply ≡ Accepted → Demand3 (tableOf qs cs ws) (at (left .corrections)) (at (left .remainders)) (at (left .printedRemainders))
+  pub demand3 : reply ≡ Accepted → Demand3 (tableOf qs cs ws) (at (left .corrections)) (at (left .remainders)) (at (left .misses))
