@@ -4,3 +4,5 @@ pub mod Weakness
 pub mod Reducing
 pub mod Correlating
 pub mod Demands
+pub mod Solving
+pub mod Answering

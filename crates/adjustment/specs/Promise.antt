@@ -23,6 +23,9 @@ pub record Answers : Type 0 where
   pub remainders : List ℤ
   pub misses : List ℤ
 
+abbrev pub lists : (v u adjusted k r Q : List ℤ) → Answers
+lists v u adjusted k r Q = record { corrections = v; printed = u; adjusted = adjusted; correlates = k; remainders = r; misses = Q }
+
 -- the reply to a lent table, with the answer lists as they were lent
 unfoldable pub adjustReply : (directions qs cs ws : List ℤ) → Answers → Reply
 adjustReply ds qs cs ws lent =

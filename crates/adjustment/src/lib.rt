@@ -13,7 +13,7 @@ ghost use Rattle.adjustment.specs.Table.{at, tableOf};
 ghost use Rattle.adjustment.specs.Solution.{K};
 ghost use Rattle.adjustment.specs.Corrections.{V-of, R-of, u-of, adjusted-of, Q-of};
 ghost use Rattle.adjustment.specs.Refusals.{solutionReply};
-ghost use Rattle.adjustment.specs.Promise.{Adjusts, answersOf};
+ghost use Rattle.adjustment.specs.Promise.{Adjusts, lists, answersOf};
 ghost use Rattle.adjustment.specs.Inner.{Small, Sound, Solved};
 use reply::Refusal;
 use reply::Reply;
@@ -69,4 +69,104 @@ fn solve(q: &[i64], a: &[i64], w: &[i64]) -> Solution
         v,
         r,
     }
+}
+
+// The answers, into the lent lists.
+fn answer(
+    directions: &[i64],
+    q: &[i64],
+    a: &[i64],
+    w: &[i64],
+    k: [i64; 24],
+    v: [i64; 64],
+    r: [i64; 24],
+    corrections: &mut [i64],
+    printed: &mut [i64],
+    adjusted: &mut [i64],
+    correlates: &mut [i64],
+    remainders: &mut [i64],
+    misses: &mut [i64],
+)
+    requires { ⌜ Sound (now q) (now a) (now w) ⌝ }
+    requires { ⌜ Solved (tableOf (now q) (now a) (now w)) k v r ⌝ }
+    requires { ⌜ (length (now directions) ≡ length (now q)) × Small 1296000000 (now directions) (length (now q)) ⌝ }
+    requires { ⌜ (length (now corrections) ≡ length (now q)) × (length (now printed) ≡ length (now q)) × (length (now adjusted) ≡ length (now q)) ⌝ }
+    requires { ⌜ (length (now correlates) ≡ length (now w)) × (length (now remainders) ≡ length (now w)) × (length (now misses) ≡ length (now w)) ⌝ }
+    ensures { λ _. ⌜ lists (now (corrections .exit)) (now (printed .exit)) (now (adjusted .exit)) (now (correlates .exit)) (now (remainders .exit)) (now (misses .exit)) ≡ answersOf (tableOf (now (q .entry)) (now (a .entry)) (now (w .entry))) (K (tableOf (now (q .entry)) (now (a .entry)) (now (w .entry)))) (at (now (directions .entry))) ⌝ }
+{
+    correct::store(&v, corrections);
+    correct::store(&k, correlates);
+    correct::store(&r, remainders);
+    correct::print_corrections(&v, printed);
+    correct::adjust_directions(directions, printed, adjusted);
+    correct::print_remainders(q, a, w, printed, misses);
+}
+
+// Adjusts a lent condition table: m directions with their inverse weights q, n rows of m coefficients, n misclosures. The answers V, u, adjusted
+// directions, K, R and Q go into the lent lists; a refusal leaves them as they were.
+pub fn adjust(
+    directions: &[i64],
+    q: &[i64],
+    a: &[i64],
+    w: &[i64],
+    corrections: &mut [i64],
+    printed: &mut [i64],
+    adjusted: &mut [i64],
+    correlates: &mut [i64],
+    remainders: &mut [i64],
+    misses: &mut [i64],
+) -> Reply
+    ensures { λ reply. ⌜ Adjusts (now (directions .entry)) (now (q .entry)) (now (a .entry)) (now (w .entry)) (lists (now (corrections .entry)) (now (printed .entry)) (now (adjusted .entry)) (now (correlates .entry)) (now (remainders .entry)) (now (misses .entry))) reply (lists (now (corrections .exit)) (now (printed .exit)) (now (adjusted .exit)) (now (correlates .exit)) (now (remainders .exit)) (now (misses .exit))) ⌝ }
+{
+    let m = directions.len();
+    let n = w.len();
+    if table::counts_amiss(m, n) {
+        return Reply::Refused(Refusal::Count(0));
+    }
+    if table::lengths_amiss(
+        m,
+        n,
+        q.len(),
+        a.len(),
+        corrections.len(),
+        printed.len(),
+        adjusted.len(),
+        correlates.len(),
+        remainders.len(),
+        misses.len(),
+    ) {
+        return Reply::Refused(Refusal::Count(0));
+    }
+    let by_direction = direction::check(directions, q);
+    if let Reply::Refused(why) = by_direction {
+        return Reply::Refused(why);
+    }
+    let by_condition = table::check_conditions(q, a, w);
+    if let Reply::Refused(why) = by_condition {
+        return Reply::Refused(why);
+    }
+    let solution = solve(q, a, w);
+    let reply = solution.reply;
+    if let Reply::Refused(why) = reply {
+        return Reply::Refused(why);
+    }
+    let k = solution.k;
+    let v = solution.v;
+    let r = solution.r;
+    answer(
+        directions,
+        q,
+        a,
+        w,
+        k,
+        v,
+        r,
+        corrections,
+        printed,
+        adjusted,
+        correlates,
+        remainders,
+        misses,
+    );
+    Reply::Accepted
 }

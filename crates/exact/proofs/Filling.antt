@@ -1,5 +1,5 @@
 -- A list whose elements are replaced in their order, one a turn, from some place on. Assumes nothing.
---   tabulate-length, tabulate-at       a list by its elements
+--   tabulate-length, tabulate-at, tabulate-ext       a list by its elements
 --   Filled                             from place `from` to place i the elements are those of g; from i on they are as they were
 --   filled-none, filled-more           before the first turn, and after one more
 --   filled-all                         after the last, from place 0
@@ -23,6 +23,11 @@ module _ {A : Type 0} where
   tabulate-at zero g i d l = absurd (omega arith)
   tabulate-at (suc n) g zero d l = refl
   tabulate-at (suc n) g (suc i) d l = tabulate-at n (λ i. g (suc i)) i d (omega arith)
+
+  pub tabulate-ext : (n : ℕ) (g h : ℕ → A) → ((i : ℕ) → i < n → g i ≡ h i) → tabulate n g ≡ tabulate n h
+  unfolding tabulate
+  tabulate-ext zero g h e = refl
+  tabulate-ext (suc n) g h e = λ t. e 0 (omega arith) t ∷ tabulate-ext n (λ i. g (suc i)) (λ i. h (suc i)) (λ i l. e (suc i) (omega arith)) t
 
 module _ {A : Type 0} (d : A) where
   pub record Filled (g : ℕ → A) (from i : ℕ) (xs ys : List A) : Type 0 where

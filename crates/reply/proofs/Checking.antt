@@ -1,11 +1,13 @@
 -- The laws of a fixed order of checks. Assumes nothing.
 --   refuse-at, refuse-none        a check over n things in their order: what it replies, from what a loop has found
+--   refuse-first, accept-first    the same, from the first at fault
 --   none-refused                  where it accepts, no thing is at fault
 --   both-accepted                 where two checks accept one after the other, each does
 use mathlib.Core.Path.{_≡_, refl, sym, _∙_, ap}
 use mathlib.Core.Bool.{Bool, true, false}
-use Prim.Native.Nat.{ℕ, _<_}
+use Prim.Native.Nat.{ℕ, _≤_, _<_}
 use native.Mathlib.Omega.{arith}
+use borrow.Author.Tests.{lt-ltb, le-ltb}
 use lib.Dec.{ltb}
 use Rattle.exact.specs.First.{first, some-below}
 use Rattle.exact.proofs.Searching.{Failed, first-at, some-at, some-none, all-failed}
@@ -20,6 +22,13 @@ module _ (n : ℕ) (fault : ℕ → Bool) (why : ℕ → Refusal) where
 
   pub refuse-none : Failed fault n → refuseFirst n fault why ≡ Accepted
   refuse-none f = rw (some-none n fault f)
+
+  -- the same, where the first at fault has been found
+  pub refuse-first : (i : ℕ) → i ≡ first n fault → i < n → refuseFirst n fault why ≡ Refused (why i)
+  refuse-first i e l = rw (← e, lt-ltb i n l)
+
+  pub accept-first : n ≤ first n fault → refuseFirst n fault why ≡ Accepted
+  accept-first l = rw (le-ltb (first n fault) n l)
 
   pub none-refused : refuseFirst n fault why ≡ Accepted → Failed fault n
   none-refused e = all-failed n fault (not-some (some-below n fault) refl e)

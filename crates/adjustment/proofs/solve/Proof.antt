@@ -1,69 +1,169 @@
+-- `solve` meets its contract. Assumes nothing.
+use mathlib.Core.Path.{_≡_, refl, sym, _∙_, ap, ap₂, subst}
+use mathlib.Core.Bool.{Bool, true, false, _&&_, _||_, not, cond}
+use mathlib.Core.List.{List, [], _∷_}
+use mathlib.Core.Logic.{⊎-elim}
+use Prim.Native.Nat.{ℕ, suc, _+_, _*_, _-_, _≤_, _<_}
+use native.Mathlib.Omega.{arith}
+use native.Mathlib.Numerals.{add-one}
 use borrow.Author.Needs.{needs}
+use borrow.Author.Tests.{lt-ltb, le-ltb, le-leb, lt-leb, eq-eqb, ne-eqb}
+use denote.Ref.{now}
+use lib.Dec.{T, ltb, leb, eqb}
+use lib.ListN.{length, getD, set, replicate, length-set}
+use lib.Seq.{getD-set-same, getD-set-other}
+use lib.IntN.{ℤ, pos, negℤ, natAbs, _+ℤ_, _-ℤ_, _*ℤ_, +ℤ-idl}
+use lib.Signed.{_≤ℤ_, _<ℤ_}
+use mir.Syntax.{w64}
+use mir.Val.{SFits, toZ, ofZ}
+use mir.ValLaws.{toZ-ofZ}
+use Rattle.exact.specs.Sum.{sum}
+use Rattle.exact.specs.Nearest.{nearest}
+use Rattle.exact.specs.Circle.{C, modulo}
+use Rattle.exact.specs.First.{first, some-below}
+use Rattle.exact.specs.Tabulate.{tabulate}
+use Rattle.exact.proofs.Linear.{unknowns, machine, linear, orders, one-sided, lt-by, le-by, eq-by}
+use Rattle.exact.proofs.Order.{lt-true, lt-false, le-true, le-false}
+use Rattle.exact.proofs.Bound.{read, read-at, read-within, fits-of-mag, bounded, bounded-by, bounds, fits-in, fits-within}
+use Rattle.exact.proofs.Sum.{sum-none, sum-more, sum-ext}
+use Rattle.exact.proofs.Searching.{Failed, failed-none, failed-more, first-at, first-none, some-at, some-none, from-failed, from-test}
+use Rattle.exact.proofs.Filling.{Filled, filled-none, filled-more, filled-all}
+use Rattle.reply.specs.declared.Refusal.{Refusal}
+use Rattle.reply.specs.declared.Refusal.the-variants.{Count, Coefficient, Misclosure, WeakRow, Correlate, Remainder}
+use Rattle.reply.specs.declared.Reply.{Reply}
+use Rattle.reply.specs.declared.Reply.the-variants.{Accepted, Refused}
+use Rattle.reply.specs.Checks.{refuseIf, refuseFirst, _andThen_}
+use Rattle.reply.proofs.Checking.{refuse-at, refuse-none}
+use Rattle.adjustment.specs.declared.reduce.Row.{Row}
+use Rattle.adjustment.specs.Table.{Table, at, tableOf}
+use Rattle.adjustment.specs.Solution.{N, reduced, D, L, M, carried, multiplier, weakRow, weak, K}
+use Rattle.adjustment.specs.Corrections.{V-of, R-of, u-of, adjusted-of, Q-of}
+use Rattle.adjustment.specs.Refusals.{rowsReply, correlatesReply, countsAmiss, lengthsAmiss, coefficientFault, misclosureFault, conditionsReply}
+use Rattle.adjustment.specs.Inner.{Triangle, Solves, Solved, Small, Within, Sound, From, RowWithin, Stage, TakesRow, Multiplies, IsRow, d-at, m-at, noRow}
+use Rattle.adjustment.proofs.Correlating.{triangle-within}
+use Rattle.adjustment.proofs.Solving.{V-size, V-ext, closing-is, weak-refused, none-weak, large-refused, none-too-large, open-refused, none-open}
 use Rattle.adjustment.proofs.solve.Statement.{statement}
 use Rattle.adjustment.proofs.solve.Tie as tie
-use Rattle.adjustment.proofs.solve.Reads as reads
-use Rattle.adjustment.proofs.solve.Lts as lts
-use Rattle.adjustment.proofs.correct.corrections.Reads as corrections-reads
-use Rattle.adjustment.proofs.correct.remainders.Reads as remainders-reads
-use Rattle.adjustment.proofs.correlate.correlates.Reads as correlates-reads
-use Rattle.adjustment.proofs.reduce.reduce.Reads as reduce-reads
-use Rattle.adjustment.proofs.refused.Reads as refused-reads
 
--- src/lib.rt:47:9
+-- a refusal is no solution
+no-solution : {A : Type 0} {r : Reply} {why : Refusal} → r ≡ Refused why → r ≡ Accepted → A
+no-solution e f = let z : _≡_ {A = ℕ} 0 1 = cc in absurd (omega arith)
+
+-- ---- what each place knows of the table
+abbrev table : tie.Start → Table
+table s = tableOf (now (s .args .q)) (now (s .args .a)) (now (s .args .w))
+
+module _ (c : tie.Else1) where
+  abbrev start1 : tie.Start
+  start1 = c .before .before
+
+  no-weak : (rowsReply (table start1) ≡ Accepted) × Failed (weak (table start1)) (table start1 .n)
+  no-weak = none-weak (table start1) (c .before .reduce .result .sound) (c .before .reduce .ensures .0) (c .if1 .left)
+
+  triangle : Triangle (table start1) (c .before .reduce .result .rows)
+  triangle = record { row = λ j l. c .before .reduce .ensures .1 j (omega arith); sound = no-weak .1 }
+
+module _ (c : tie.After-correlates) where
+  abbrev start2 : tie.Start
+  start2 = c .before .before .before .before
+
+  solves : Solves (table start2) (c .correlates .result .k) (c .correlates .result .from)
+  solves = c .correlates .ensures (table start2) refl (triangle (c .before .before))
+
+module _ (c : tie.Else2) where
+  abbrev start3 : tie.Start
+  start3 = start2 (c .before)
+
+  none-large : (correlatesReply (table start3) ≡ Accepted) × ((j : ℕ) → j < table start3 .n → natAbs (K (table start3) j) ≤ 100000000)
+  none-large =
+      let s = solves (c .before) in
+      none-too-large (table start3) (no-weak (c .before .before .before) .0) (c .before .correlates .result .from) (s .large) (s .within) (omega arith)
+
+  k-is : (j : ℕ) → j < table start3 .n → getD (c .before .correlates .result .k) j (pos 0) ≡ K (table start3) j
+  k-is j l = solves (c .before) .correlates j (omega arith) l
+
+  k-small : Small 100000000 (c .before .correlates .result .k) (table start3 .n)
+  k-small j l = rw (k-is j l) (none-large .1 j l)
+
+module _ (c : tie.After-corrections) where
+  abbrev start4 : tie.Start
+  start4 = start3 (c .before .before)
+
+  v-is : (i : ℕ) → i < table start4 .m → getD (c .corrections .result) i (pos 0) ≡ V-of (table start4) (K (table start4)) i
+  v-is i l =
+      c .corrections .ensures i l ∙ V-ext (table start4) (at (c .before .before .before .correlates .result .k)) (K (table start4)) (k-is (c .before .before)) i
+
 reduce-requires : tie.Need-reduce-requires
 reduce-requires c κs = search needs
 
--- src/lib.rt:50:42
 add-t16 : tie.Need-add-t16
 add-t16 c = search needs
 
--- src/lib.rt:50:9
 refused-requires : tie.Need-refused-requires
 refused-requires c κs = search needs
 
--- src/lib.rt:50:9
 returns : tie.Need-returns
-returns c = ?
+returns c =
+    let b = c .before .before in (
+      c .refused .ensures ∙ weak-refused (table (b .before)) (b .reduce .result .sound) (b .reduce .ensures .0) (c .before .if1 .taken),
+      no-solution (c .refused .ensures),
+    )
 
--- src/lib.rt:53:9
 correlates-requires : tie.Need-correlates-requires
-correlates-requires c κs = ?
+correlates-requires c κs =
+    let s = start1 (c .before) in (s .pre .n-most, λ j l. triangle-within (table s) (c .before .before .reduce .result .rows) (triangle (c .before)) j l)
 
--- src/lib.rt:56:9
 refused-requires-2 : tie.Need-refused-requires-2
 refused-requires-2 c κs = search needs
 
--- src/lib.rt:56:9
 returns-2 : tie.Need-returns-2
-returns-2 c = ?
+returns-2 c =
+    let b = c .before .before in let s = solves b in (
+      c .refused2 .ensures ∙ large-refused (table (start2 b)) (no-weak (b .before .before) .0) (b .correlates .result .from) (s .large) (s .within) (c .before .if2 .taken),
+      no-solution (c .refused2 .ensures),
+    )
 
--- src/lib.rt:59:13
 corrections-requires : tie.Need-corrections-requires
-corrections-requires c κs = ?
+corrections-requires c κs = let e = c .before in (start3 e .pre, k-small e)
 
--- src/lib.rt:60:50
 slice-aggregate-remainders : tie.Need-slice-aggregate-remainders
 slice-aggregate-remainders c = search needs
 
--- src/lib.rt:60:9
 remainders-requires : tie.Need-remainders-requires
-remainders-requires c κs = ?
+remainders-requires c κs =
+    let b = c .before in let s = start4 b in let long : length (b .corrections .result) ≡ 64 = search needs in (
+      s .pre,
+      (
+        omega (arith, long, s .pre .m-most),
+        λ i l. rw (v-is b i l) (V-size (now (s .args .q)) (now (s .args .a)) (now (s .args .w)) (s .pre) (K (table s)) (none-large (b .before .before) .1) i l),
+      ),
+    )
 
--- src/lib.rt:63:44
 add-t24 : tie.Need-add-t24
 add-t24 c = search needs
 
--- src/lib.rt:63:9
 refused-requires-3 : tie.Need-refused-requires-3
 refused-requires-3 c κs = search needs
 
--- src/lib.rt:63:9
 returns-3 : tie.Need-returns-3
-returns-3 c = ?
+returns-3 c =
+    let r = c .before .before in let b = r .before .before in let s = start4 b in let e = b .before .before in (
+      c .refused3 .ensures
+          ∙ open-refused (table s) (b .corrections .result) (v-is b) (r .remainders .result .close) (r .remainders .ensures .0) (no-weak (e .before .before .before) .0) (none-large e .0) (c .before .if3 .taken),
+      no-solution (c .refused3 .ensures),
+    )
 
--- src/lib.rt:41:1
 returns-4 : tie.Need-returns-4
-returns-4 c = ?
+returns-4 c =
+    let r = c .before .before in let b = r .before .before in let s = start4 b in let e = b .before .before in (
+      none-open (table s) (b .corrections .result) (v-is b) (r .remainders .result .close) (r .remainders .ensures .0) (no-weak (e .before .before .before) .0) (none-large e .0) (c .before .if3 .left),
+      λ f. record {
+        k = k-is e;
+        v = v-is b;
+        r = λ j l. r .remainders .ensures .1 j (omega arith) ∙ closing-is (table s) (b .corrections .result) (v-is b) j;
+        k-most = none-large e .1;
+      },
+    )
 
 pub solve-spec : {M : Type 1} → statement M
 solve-spec =

@@ -1,0 +1,97 @@
+-- The refusals of the solution, from what the code has found. Assumes nothing.
+--   V-size, V-ext                    the corrections of correlates within 10^8, and of equal correlates
+--   closing-is                       the remainders of a list that holds the corrections are R
+--   weak-refused, large-refused, open-refused      6, 7 and 8 at their places
+--   none-weak, none-too-large, none-open           where nothing is found, the checks accept
+use mathlib.Core.Path.{_≡_, refl, sym, _∙_, ap, subst}
+use mathlib.Core.Bool.{Bool, false}
+use mathlib.Core.List.{List}
+use Prim.Native.Nat.{ℕ, suc, _+_, _-_, _*_, _≤_, _<_}
+use native.Mathlib.Omega.{arith}
+use lib.Dec.{ltb}
+use borrow.Author.Tests.{ltb-false}
+use lib.ListN.{length}
+use lib.IntN.{ℤ, pos, natAbs, _+ℤ_, _*ℤ_}
+use Rattle.exact.specs.Sum.{sum}
+use Rattle.exact.specs.First.{first}
+use Rattle.exact.proofs.Bound.{abs-mul, mul-le}
+use Rattle.exact.proofs.Sum.{sum-ext}
+use Rattle.exact.proofs.Searching.{Failed, first-before, first-ext}
+use Rattle.reply.specs.declared.Refusal.the-variants.{WeakRow, Correlate, Remainder}
+use Rattle.reply.specs.declared.Reply.the-variants.{Accepted, Refused}
+use Rattle.reply.specs.Checks.{refuseFirst, _andThen_}
+use Rattle.reply.proofs.Checking.{refuse-first, accept-first}
+use Rattle.adjustment.specs.Table.{Table, at, tableOf}
+use Rattle.adjustment.specs.Solution.{weak, K}
+use Rattle.adjustment.specs.Corrections.{V-of, R-of}
+use Rattle.adjustment.specs.Refusals.{rowsReply, correlatesReply, remaindersReply, solutionReply}
+use Rattle.adjustment.specs.Demand.{seen}
+use Rattle.adjustment.specs.Inner.{Sound, Small, closing}
+use Rattle.adjustment.proofs.Sizes.{sum-within, combination-size}
+use Rattle.adjustment.proofs.Demands.{remainder-forms}
+
+pub V-size : (qs cs ws : List ℤ) → Sound qs cs ws → (k : ℕ → ℤ) → ((j : ℕ) → j < length ws → natAbs (k j) ≤ 100000000) → (i : ℕ) → i < length qs → natAbs (V-of (tableOf qs cs ws) k i) ≤ 48000000000000
+unfolding V-of
+V-size qs cs ws s k h i l =
+    let t = tableOf qs cs ws in
+    rw (abs-mul (t .q i) (sum (t .n) (λ j. t .a j i *ℤ k j)))
+    (mul-le (s .q-most i l)
+    (sum-within (t .n) 24 200000000000 (λ j. t .a j i *ℤ k j) (s .n-most) (λ j e. combination-size (t .a j i) (k j) (s .a-most j e i l) (h j e))))
+
+-- V reads the correlates of the n conditions alone
+pub V-ext : (t : Table) (k k' : ℕ → ℤ) → ((j : ℕ) → j < t .n → k j ≡ k' j) → (i : ℕ) → V-of t k i ≡ V-of t k' i
+unfolding V-of
+V-ext t k k' e i = ap (λ (z : ℤ). t .q i *ℤ z) (sum-ext (t .n) (λ j. t .a j i *ℤ k j) (λ j. t .a j i *ℤ k' j) (λ j l. ap (λ (z : ℤ). t .a j i *ℤ z) (e j l)))
+
+module _ (t : Table) where
+  -- ---- 6
+  module _ (sound : ℕ) (e : sound ≡ first (t .n) (weak t)) where
+    pub weak-refused : sound < t .n → Refused (WeakRow (sound + 1)) ≡ solutionReply t
+    unfolding solutionReply rowsReply
+    weak-refused l = rw (refuse-first (t .n) (weak t) (λ j. WeakRow (j + 1)) sound e l)
+
+    pub none-weak : t .n ≤ sound → (rowsReply t ≡ Accepted) × Failed (weak t) (t .n)
+    unfolding rowsReply
+    none-weak l = (accept-first (t .n) (weak t) (λ j. WeakRow (j + 1)) (omega arith), λ h k. first-before (t .n) (weak t) h (omega arith))
+
+  -- ---- 7
+  abbrev large : ℕ → Bool
+  large b = ltb 100000000 (natAbs (K t (t .n - suc b)))
+
+  module _ (a : rowsReply t ≡ Accepted) (from : ℕ) (f : first (t .n) large ≡ t .n - from) (g : from ≤ t .n) where
+    pub large-refused : 0 < from → Refused (Correlate from) ≡ solutionReply t
+    unfolding solutionReply correlatesReply
+    large-refused l =
+        let place : t .n - (t .n - from) ≡ from = omega arith in
+        rw (a, refuse-first (t .n) large (λ b. Correlate (t .n - b)) (t .n - from) (sym f) (omega arith), place)
+
+    pub none-too-large : from ≡ 0 → (correlatesReply t ≡ Accepted) × ((j : ℕ) → j < t .n → natAbs (K t j) ≤ 100000000)
+    unfolding correlatesReply
+    none-too-large z = (accept-first (t .n) large (λ b. Correlate (t .n - b)) (omega arith), within)
+      where
+        within : (j : ℕ) → j < t .n → natAbs (K t j) ≤ 100000000
+        within j l =
+            let i : t .n - suc (t .n - suc j) ≡ j = omega arith in
+            subst (λ (h : ℕ). natAbs (K t h) ≤ 100000000) i (ltb-false 100000000 (natAbs (K t (t .n - suc (t .n - suc j)))) (first-before (t .n) large (t .n - suc j) (omega arith)))
+
+  -- ---- 8
+  module _ (vs : List ℤ) (v : (i : ℕ) → i < t .m → at vs i ≡ V-of t (K t) i) where
+    pub closing-is : (j : ℕ) → closing t (at vs) j ≡ R-of t (K t) j
+    closing-is j =
+        ap (λ (z : ℤ). z +ℤ pos 10000000 *ℤ t .w j)
+        (sum-ext (t .m) (λ i. t .a j i *ℤ at vs i) (λ i. t .a j i *ℤ V-of t (K t) i) (λ i l. ap (λ (z : ℤ). t .a j i *ℤ z) (v i l)))
+        ∙ sym (remainder-forms t (K t) j)
+
+    module _ (close : ℕ) (e : close ≡ first (t .n) (λ j. ltb 50000000 (natAbs (closing t (at vs) j)))) where
+      same-first : close ≡ first (t .n) (λ j. ltb 50000000 (natAbs (R-of t (K t) j)))
+      same-first =
+          e ∙ first-ext (t .n) (λ j. ltb 50000000 (natAbs (closing t (at vs) j))) (λ j. ltb 50000000 (natAbs (R-of t (K t) j)))
+          (λ j l. ap (λ (z : ℤ). ltb 50000000 (natAbs z)) (closing-is j))
+
+      pub open-refused : rowsReply t ≡ Accepted → correlatesReply t ≡ Accepted → close < t .n → Refused (Remainder (close + 1)) ≡ solutionReply t
+      unfolding solutionReply remaindersReply
+      open-refused a b l = rw (a, b, refuse-first (t .n) (λ j. ltb 50000000 (natAbs (R-of t (K t) j))) (λ j. Remainder (j + 1)) close same-first l)
+
+      pub none-open : rowsReply t ≡ Accepted → correlatesReply t ≡ Accepted → t .n ≤ close → Accepted ≡ solutionReply t
+      unfolding solutionReply remaindersReply
+      none-open a b l = rw (a, b, accept-first (t .n) (λ j. ltb 50000000 (natAbs (R-of t (K t) j))) (λ j. Remainder (j + 1)) (omega (arith, same-first)))
