@@ -1,13 +1,12 @@
 -- The answer lists of a solved table, from what the code writes. Assumes nothing.
 --   u-size                            the printed corrections are within 480,000,001
 --   corrections-list, correlates-list, remainders-list, printed-list, adjusted-list, misses-list      each list is the rules' one
-use mathlib.Core.Path.{_≡_, refl, sym, _∙_, ap}
+use mathlib.Core.Path.{_≡_, _∙_, ap}
 use mathlib.Core.List.{List}
 use Prim.Native.Nat.{ℕ, _*_, _+_, _≤_, _<_}
 use native.Mathlib.Omega.{arith}
-use lib.ListN.{length, getD}
-use lib.IntN.{ℤ, pos, natAbs, _+ℤ_, _*ℤ_}
-use Rattle.exact.specs.Sum.{sum}
+use lib.ListN.{getD}
+use lib.IntN.{ℤ, pos, _+ℤ_, _*ℤ_}
 use Rattle.exact.specs.Nearest.{nearest}
 use Rattle.exact.specs.Circle.{C, modulo}
 use Rattle.exact.specs.Tabulate.{tabulate}

@@ -4,8 +4,8 @@
 --   next-correlate          a row and the correlates below it give the next one
 --   none-large, first-large what a loop in back order has found
 --   one-before              a list written from the back
-use mathlib.Core.Path.{_≡_, refl, sym, _∙_, ap, ap₂, subst}
-use mathlib.Core.Bool.{Bool, true, false}
+use mathlib.Core.Path.{_≡_, sym, _∙_, ap, ap₂, subst}
+use mathlib.Core.Bool.{Bool}
 use mathlib.Core.List.{List, [], _∷_}
 use Prim.Native.Nat.{ℕ, zero, suc, _+_, _-_, _≤_, _<_}
 use native.Mathlib.Nat.{zero-add, suc-add, le-refl}
@@ -25,8 +25,8 @@ use Rattle.exact.proofs.Sum.{sum-ext}
 use Rattle.exact.proofs.Searching.{Failed, first-at, first-none}
 use Rattle.adjustment.specs.declared.reduce.Row.{Row}
 use Rattle.adjustment.specs.Table.{Table}
-use Rattle.adjustment.specs.Solution.{D, L, M, carried, multiplier, weak, back, K}
-use Rattle.adjustment.specs.Inner.{Triangle, BackWithin, Solves, IsRow, From, backOf, d-at, m-at, noRow}
+use Rattle.adjustment.specs.Solution.{D, L, M, carried, back, K}
+use Rattle.adjustment.specs.Inner.{Triangle, BackWithin, From, backOf, m-at, noRow}
 use Rattle.adjustment.proofs.Reducing.{sound-at}
 
 -- a list written from the back: what holds of all places after j and of the value at j holds from j on

@@ -4,20 +4,18 @@
 --   weights                 2,520/q times q is 2,520, and 2,520/q is above 0
 --   demand-3                all of demand 3, of correlates whose remainders are within 50,000,000
 --   demand-ext              demand 3 of lists that hold those numbers
-use mathlib.Core.Path.{_≡_, refl, sym, _∙_, ap, ap₂, subst}
-use mathlib.Core.List.{List, [], _∷_}
-use Prim.Native.Nat.{ℕ, suc, _+_, _*_, _/_, _≤_, _<_}
+use mathlib.Core.Path.{_≡_, refl, sym, _∙_, ap, subst}
+use mathlib.Core.List.{[], _∷_}
+use Prim.Native.Nat.{ℕ, _*_, _/_, _≤_, _<_}
 use native.Mathlib.Nat.{mul-le-mul-left, mul-comm}
 use native.Mathlib.Omega.{arith}
-use lib.Dec.{ltb→lt}
-use lib.IntN.{ℤ, pos, negsuc, negℤ, natAbs, _+ℤ_, _-ℤ_, _*ℤ_, +ℤ-assoc}
+use lib.IntN.{ℤ, pos, negsuc, natAbs, _+ℤ_, _-ℤ_, _*ℤ_}
 use lib.Signed.{_≤ℤ_, _<ℤ_, ≤ℤ-refl}
 use Rattle.exact.specs.Sum.{sum}
-use Rattle.exact.specs.Nearest.{nearest}
-use Rattle.exact.proofs.Linear.{unknowns, linear, orders, one-sided, eq-by, le-by, lt-by, eq-of}
+use Rattle.exact.proofs.Linear.{unknowns, linear, orders, one-sided, le-by, lt-by}
 use Rattle.exact.proofs.Identity.{letters, polynomials, ring-by}
 use Rattle.exact.proofs.Order.{le-trans, add-le}
-use Rattle.exact.proofs.Bound.{abs-add, abs-mul, mul-le}
+use Rattle.exact.proofs.Bound.{abs-add, abs-mul}
 use Rattle.exact.proofs.Sum.{sum-ext, sum-add, sum-mul, sum-swap, sum-le, sum-abs-sum}
 use Rattle.exact.proofs.Rounding.{nearest-error}
 use Rattle.exact.proofs.Weights.{weight-exact, weight-pos}

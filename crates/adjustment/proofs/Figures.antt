@@ -2,24 +2,21 @@
 --   figure-1, figure-2       accepted tables with N, K, R, u and Q
 --   figure-4 to figure-8     two equal conditions, a correlate at its limit and past it, a weak pivot, a remainder past its limit and at it
 use mathlib.Core.Path.{_≡_, refl}
-use mathlib.Core.Bool.{true, false}
-use mathlib.Core.List.{List, [], _∷_}
-use Prim.Native.Nat.{ℕ, suc}
+use mathlib.Core.List.{[], _∷_}
+use Prim.Native.Nat.{ℕ}
 use lib.ListN.{replicate}
-use lib.IntN.{ℤ, pos, negsuc, negℤ}
+use lib.IntN.{ℤ, pos, negℤ}
 use Rattle.exact.specs.Sum.{sum}
 use Rattle.exact.specs.Nearest.{nearest}
 use Rattle.exact.specs.First.{first}
 use Rattle.exact.specs.Tabulate.{tabulate}
-use Rattle.exact.specs.Circle.{floor, modulo}
-use Rattle.reply.specs.declared.Refusal.the-variants.{WeakRow, Correlate, Remainder}
-use Rattle.reply.specs.declared.Reply.the-variants.{Accepted, Refused}
+use Rattle.reply.specs.declared.Reply.the-variants.{Accepted}
 use Rattle.direction.specs.Ranges.{directionsReply}
 use Rattle.adjustment.specs.Table.{Table, tableOf}
 use Rattle.adjustment.specs.Solution.{N, reduced, D, L, M, weakRow, weak, back, K}
-use Rattle.adjustment.specs.Corrections.{V-of, R-of, u-of, adjusted-of, Q-of}
+use Rattle.adjustment.specs.Corrections.{V-of, R-of, u-of, Q-of}
 use Rattle.adjustment.specs.Refusals.{countsAmiss, differs, lengthsAmiss, coefficientFault, misclosureFault, conditionsReply, rowsReply, correlatesReply, remaindersReply, solutionReply, inputReply}
-use Rattle.adjustment.specs.Promise.{Answers, adjustReply, answersOf}
+use Rattle.adjustment.specs.Promise.{Answers, adjustReply}
 
 -- a whole number below 0
 abbrev minus : ℕ → ℤ

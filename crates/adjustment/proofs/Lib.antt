@@ -6,3 +6,5 @@ pub mod Correlating
 pub mod Demands
 pub mod Solving
 pub mod Answering
+pub mod Admitting
+pub mod Promising

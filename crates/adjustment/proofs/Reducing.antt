@@ -6,9 +6,9 @@
 --   stage-within, row-within        so what the code adds and multiplies fits
 --   stage-next, stage-weak, stage-row       one more row taken; all taken: the test of the row, and the row
 --   rows-more                       one more row in the triangle
-use mathlib.Core.Path.{_≡_, refl, sym, _∙_, ap, ap₂, subst}
-use mathlib.Core.Bool.{Bool, true, false}
-use mathlib.Core.List.{List, [], _∷_}
+use mathlib.Core.Path.{_≡_, sym, _∙_, ap, ap₂, subst}
+use mathlib.Core.Bool.{false}
+use mathlib.Core.List.{List}
 use Prim.Native.Nat.{ℕ, zero, suc, _+_, _*_, _≤_, _<_}
 use native.Mathlib.Nat.{le-refl, suc-mul}
 use native.Mathlib.Numerals.{add-one}
@@ -17,15 +17,14 @@ use borrow.Author.Count.{below-more}
 use lib.ListN.{length, getD, set}
 use lib.Seq.{getD-set-same, getD-set-other}
 use lib.IntN.{ℤ, pos, natAbs, _+ℤ_, _*ℤ_, +ℤ-idr, +ℤ-assoc}
-use lib.Signed.{_≤ℤ_}
 use Rattle.exact.specs.Sum.{sum}
 use Rattle.exact.proofs.Bound.{abs-add, abs-mul}
-use Rattle.exact.proofs.Sum.{sum-ext, sum-mul, sum-swap, sum-none, sum-next}
+use Rattle.exact.proofs.Sum.{sum-ext, sum-mul, sum-swap}
 use Rattle.exact.proofs.Searching.{Failed}
 use Rattle.adjustment.specs.declared.reduce.Row.{Row}
 use Rattle.adjustment.specs.Table.{Table, tableOf}
 use Rattle.adjustment.specs.Solution.{N, reduced, D, L, M, carried, multiplier, weakRow, weak}
-use Rattle.adjustment.specs.Inner.{Within, Sound, From, RowWithin, Stage, TakesRow, Multiplies, IsRow, d-at, m-at, noRow}
+use Rattle.adjustment.specs.Inner.{Sound, RowWithin, Stage, TakesRow, Multiplies, IsRow, d-at, m-at, noRow}
 use Rattle.adjustment.proofs.Sizes.{carried-size, sum-within, term-size}
 use Rattle.adjustment.proofs.Weakness.{SoundRow, sound-row, weak-ext}
 

@@ -4,7 +4,7 @@
 --   term-size, product-size, printed-size, combination-size      a term of N(j,k), of the sums of a*V, a*u and a*K
 --   back-size          K(j), or what a loop has added up of it
 --   row-end, next-row  where row j of a flat list ends, and where the next begins
-use mathlib.Core.Path.{_≡_, refl, sym, _∙_, ap}
+use mathlib.Core.Path.{_≡_}
 use Prim.Native.Nat.{ℕ, _+_, _*_, _≤_, _<_}
 use native.Mathlib.Nat.{le-trans, le-refl, mul-le-mul-right, suc-mul}
 use native.Mathlib.Numerals.{add-one}

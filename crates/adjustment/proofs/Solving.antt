@@ -3,10 +3,10 @@
 --   closing-is                       the remainders of a list that holds the corrections are R
 --   weak-refused, large-refused, open-refused      6, 7 and 8 at their places
 --   none-weak, none-too-large, none-open           where nothing is found, the checks accept
-use mathlib.Core.Path.{_≡_, refl, sym, _∙_, ap, subst}
-use mathlib.Core.Bool.{Bool, false}
+use mathlib.Core.Path.{_≡_, sym, _∙_, ap, subst}
+use mathlib.Core.Bool.{Bool}
 use mathlib.Core.List.{List}
-use Prim.Native.Nat.{ℕ, suc, _+_, _-_, _*_, _≤_, _<_}
+use Prim.Native.Nat.{ℕ, suc, _+_, _-_, _≤_, _<_}
 use native.Mathlib.Omega.{arith}
 use lib.Dec.{ltb}
 use borrow.Author.Tests.{ltb-false}
@@ -19,14 +19,12 @@ use Rattle.exact.proofs.Sum.{sum-ext}
 use Rattle.exact.proofs.Searching.{Failed, first-before, first-ext}
 use Rattle.reply.specs.declared.Refusal.the-variants.{WeakRow, Correlate, Remainder}
 use Rattle.reply.specs.declared.Reply.the-variants.{Accepted, Refused}
-use Rattle.reply.specs.Checks.{refuseFirst, _andThen_}
 use Rattle.reply.proofs.Checking.{refuse-first, accept-first}
 use Rattle.adjustment.specs.Table.{Table, at, tableOf}
 use Rattle.adjustment.specs.Solution.{weak, K}
 use Rattle.adjustment.specs.Corrections.{V-of, R-of}
 use Rattle.adjustment.specs.Refusals.{rowsReply, correlatesReply, remaindersReply, solutionReply}
-use Rattle.adjustment.specs.Demand.{seen}
-use Rattle.adjustment.specs.Inner.{Sound, Small, closing}
+use Rattle.adjustment.specs.Inner.{Sound, closing}
 use Rattle.adjustment.proofs.Sizes.{sum-within, combination-size}
 use Rattle.adjustment.proofs.Demands.{remainder-forms}
 

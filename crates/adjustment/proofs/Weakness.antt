@@ -2,20 +2,19 @@
 --   weak-by-coefficient, weak-by-constant, weak-by-pivot, weak-by-multiplier      what the test says, from its parts in their order
 --   SoundRow, sound-row           what is known of a row that is not weak
 --   weak-ext                      the test reads the coefficients from j to n alone
-use mathlib.Core.Path.{_≡_, refl, sym, _∙_, ap, ap₂, subst}
+use mathlib.Core.Path.{_≡_, refl, ap, ap₂}
 use mathlib.Core.Bool.{Bool, true, false, _||_, _&&_}
-use mathlib.Core.List.{List, [], _∷_}
-use Prim.Native.Nat.{ℕ, suc, _+_, _≤_, _<_}
+use Prim.Native.Nat.{ℕ, suc, _≤_, _<_}
 use native.Mathlib.Nat.{le-refl}
 use native.Mathlib.Omega.{arith}
 use borrow.Author.Tests.{lt-ltb, le-ltb, ltb-false}
 use lib.Dec.{ltb, leb}
 use lib.IntN.{ℤ, pos, natAbs}
-use lib.Signed.{ltZ, _≤ℤ_, _<ℤ_}
-use Rattle.exact.specs.First.{first, some-below}
-use Rattle.exact.proofs.Linear.{unknowns, linear, orders, le-by, lt-by}
+use lib.Signed.{ltZ, _≤ℤ_}
+use Rattle.exact.specs.First.{some-below}
 use Rattle.exact.proofs.Order.{lt-false}
 use Rattle.exact.proofs.Searching.{from-ext, from-none}
+use Rattle.reply.proofs.Checking.{neither}
 use Rattle.adjustment.specs.Solution.{multiplier, weakRow}
 use Rattle.adjustment.specs.Inner.{From}
 
@@ -51,10 +50,6 @@ pub record SoundRow (n j : ℕ) (d : ℕ → ℤ) (l : ℤ) : Type 0 where
   pub constant : natAbs l ≤ 4000000000
   pub pivot : pos 100 ≤ℤ d j
   pub multipliers : From (suc j) n (λ k. natAbs (multiplier (d k) (d j)) ≤ 1000000000)
-
-neither : (a b : Bool) → (a || b) ≡ false → (a ≡ false) × (b ≡ false)
-neither true b h = let z : _≡_ {A = ℕ} 0 1 = cc in absurd (omega arith)
-neither false b h = (refl, h)
 
 pub sound-row : (n j : ℕ) (d : ℕ → ℤ) (l : ℤ) → weakRow n j d l ≡ false → SoundRow n j d l
 unfolding weakRow

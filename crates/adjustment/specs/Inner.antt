@@ -11,7 +11,7 @@ use Rattle.exact.specs.Sum.{sum}
 use Rattle.exact.specs.Nearest.{nearest}
 use Rattle.exact.specs.First.{first}
 use Rattle.adjustment.specs.declared.reduce.Row.{Row}
-use Rattle.adjustment.specs.Table.{Table, tableOf}
+use Rattle.adjustment.specs.Table.{Table}
 use Rattle.adjustment.specs.Corrections.{V-of, R-of}
 use Rattle.adjustment.specs.Demand.{seen}
 use Rattle.adjustment.specs.Solution.{N, reduced, D, L, M, multiplier, carried, weak, K}

@@ -6,7 +6,6 @@ use lib.Dec.{ltb, eqb}
 use lib.ListN.{length}
 use lib.IntN.{ℤ, natAbs}
 use Rattle.exact.specs.First.{some-below}
-use Rattle.reply.specs.declared.Refusal.{Refusal}
 use Rattle.reply.specs.declared.Refusal.the-variants.{Count, Coefficient, Misclosure, WeakRow, Correlate, Remainder}
 use Rattle.reply.specs.declared.Reply.{Reply}
 use Rattle.reply.specs.Checks.{refuseIf, refuseFirst, _andThen_}

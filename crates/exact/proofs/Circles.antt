@@ -5,18 +5,17 @@
 --   modulo-only                    and is the only such number that differs from z by whole m
 --   floor-kept, floor-down, modulo-kept, modulo-up
 --                                  by the remainder of the machine's division: for the code of `floor` and `modulo`
-use mathlib.Core.Path.{_≡_, refl, sym, _∙_, ap, subst}
-use mathlib.Core.List.{List, [], _∷_}
+use mathlib.Core.Path.{_≡_, sym, _∙_, ap}
+use mathlib.Core.List.{[], _∷_}
 use mathlib.Core.Logic.{_⊎_, inl, inr}
-use Prim.Native.Nat.{ℕ, zero, suc, _+_, _*_, _-_, _/_, _%_, _<_, _≤_}
-use native.Mathlib.Nat.{div-add-mod, mod-lt, div-eq-of-lt-le, mul-comm, mul-le-mul-left}
+use Prim.Native.Nat.{_<_}
+use native.Mathlib.Nat.{div-add-mod, mod-lt}
 use native.Mathlib.Omega.{arith}
-use native.Mathlib.Decide.{decLe}
 use lib.Dec.{ltb→lt}
-use lib.IntN.{ℤ, pos, negsuc, negℤ, natAbs, _+ℤ_, _-ℤ_, _*ℤ_}
+use lib.IntN.{ℤ, pos, negsuc, natAbs, _+ℤ_, _-ℤ_, _*ℤ_}
 use lib.Signed.{quotZ, remZ, _≤ℤ_, _<ℤ_}
 use Rattle.exact.specs.Circle.{floor, modulo}
-use Rattle.exact.proofs.Linear.{Difference, unknowns, linear, orders, one-sided, eq-by, le-by, lt-by, abs-by, le-of, lt-of, eq-of}
+use Rattle.exact.proofs.Linear.{unknowns, linear, orders, one-sided, eq-by, le-by, lt-by, le-of, lt-of, eq-of}
 use Rattle.exact.proofs.Order.{lt-or-le, lt-le, le-antisym, mul-le-left, sub-nonneg}
 use Rattle.exact.proofs.Division.{quot-rem, rem-below}
 

@@ -5,9 +5,9 @@
 --   quot-fits, rem-fits             both fit where the number does
 --   rem-sum-fits, rem-negated-fits, rem-lack-fits      d + r and -r at a remainder r below 0, d - r at any other
 --   quot-less-fits, quot-more-fits  one less than the quotient, where r is below 0; one more, where half of d or more is left over
-use mathlib.Core.Path.{_≡_, refl, sym, _∙_, ap, subst}
-use mathlib.Core.List.{List, [], _∷_}
-use Prim.Native.Nat.{ℕ, zero, suc, _+_, _*_, _/_, _%_, _≤_, _<_, _^_, zero-le}
+use mathlib.Core.Path.{_≡_, ap}
+use mathlib.Core.List.{[], _∷_}
+use Prim.Native.Nat.{ℕ, zero, suc, _+_, _*_, _/_, _%_, _≤_, _<_, zero-le}
 use native.Mathlib.Nat.{div-add-mod, mod-lt, div-le-self, lt-of-le-of-lt, le-of-suc-le-suc, mul-le-mul-right}
 use native.Mathlib.Omega.{arith}
 use lib.Dec.{ltb→lt}

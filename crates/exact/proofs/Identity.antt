@@ -5,13 +5,13 @@
 --   polynomials             the set for `search`
 --   ring-by                 two expressions with one polynomial are equal:
 --                           `let ρ = a ∷ b ∷ [] in let e = letters ρ in ring-by ρ (search polynomials) (search polynomials) refl`
-use mathlib.Core.Path.{_≡_, refl, sym, _∙_, ap, subst}
-use mathlib.Core.Bool.{Bool, true, false, not, cond, _&&_}
+use mathlib.Core.Path.{_≡_, refl, sym, _∙_, ap}
+use mathlib.Core.Bool.{Bool, true, false, cond, _&&_}
 use mathlib.Core.List.{List, [], _∷_}
-use Prim.Native.Nat.{ℕ, zero, suc, _+_}
+use Prim.Native.Nat.{ℕ, zero, suc}
 use lib.Dec.{T, ltb, leb, eqb, eqb→eq}
-use lib.IntN.{ℤ, pos, negsuc, negℤ, _+ℤ_, _-ℤ_, _*ℤ_, +ℤ-idl, +ℤ-idr, +ℤ-assoc, +ℤ-comm, zero-*ℤ, *ℤ-zero, *ℤ-comm}
-use Rattle.exact.proofs.Ring.{ring, one-*ℤ, *ℤ-by-one, neg-*ℤ, *ℤ-assoc, *ℤ-left-comm, *ℤ-dist-r, *ℤ-dist-l, +ℤ-left-comm}
+use lib.IntN.{ℤ, pos, negsuc, negℤ, _+ℤ_, _*ℤ_, +ℤ-idl, +ℤ-idr, +ℤ-assoc, zero-*ℤ, *ℤ-zero}
+use Rattle.exact.proofs.Ring.{ring, one-*ℤ, *ℤ-by-one, neg-*ℤ, *ℤ-assoc, *ℤ-left-comm, *ℤ-dist-r, +ℤ-left-comm}
 
 -- a product of variables, each by its place in ρ
 abbrev pub Monomial : Type 0

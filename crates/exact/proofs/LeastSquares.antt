@@ -5,7 +5,7 @@
 --   least                c*c * sum of g*v*v is not above the sum of g*x*x
 --   only                 where the two are equal, each x(i) is c*v(i)
 use mathlib.Core.Path.{_≡_, refl, sym, _∙_, ap}
-use mathlib.Core.List.{List, [], _∷_}
+use mathlib.Core.List.{[], _∷_}
 use mathlib.Core.Logic.{⊎-elim}
 use Prim.Native.Nat.{ℕ, _<_}
 use native.Mathlib.Omega.{arith}

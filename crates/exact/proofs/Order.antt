@@ -4,17 +4,17 @@
 --   mul-nonneg, mul-le-left, square-nonneg      with products
 --   mul-zero                                    a product is 0 only where a factor is
 --   lt-true, lt-false, le-true, le-false        what a test of two signed numbers told
-use mathlib.Core.Path.{_≡_, refl, sym, _∙_, ap, subst, subst₂}
+use mathlib.Core.Path.{_≡_, refl, sym, ap, subst, subst₂}
 use mathlib.Core.Bool.{Bool, true, false, not}
-use mathlib.Core.List.{List, [], _∷_}
+use mathlib.Core.List.{[], _∷_}
 use mathlib.Core.Logic.{_⊎_, inl, inr}
-use Prim.Native.Nat.{ℕ, zero, suc, _+_, _*_, _<_, _≤_, zero-le}
+use Prim.Native.Nat.{zero, suc, _+_, _*_, _≤_, zero-le}
 use native.Mathlib.Omega.{arith}
 use native.Mathlib.Decide.{decLe}
-use lib.Dec.{T, leb, le→leb, leb→le}
-use lib.IntN.{ℤ, pos, negsuc, negℤ, natAbs, _+ℤ_, _-ℤ_, _*ℤ_, zero-*ℤ}
+use lib.Dec.{T, le→leb}
+use lib.IntN.{ℤ, pos, negsuc, negℤ, natAbs, _+ℤ_, _-ℤ_, _*ℤ_}
 use lib.Signed.{ltZ, leZ, _≤ℤ_, _<ℤ_, ltZ-yes, ltZ-no, leZ-yes}
-use Rattle.exact.proofs.Linear.{Difference, above, below, difference-neg, difference-pos, unknowns, linear, orders, one-sided, eq-by, le-by, lt-by, le-of, eq-of}
+use Rattle.exact.proofs.Linear.{above, below, difference-neg, difference-pos, unknowns, linear, orders, eq-by, le-by, lt-by, le-of, eq-of}
 
 pub le-trans : {a b c : ℤ} → a ≤ℤ b → b ≤ℤ c → a ≤ℤ c
 le-trans {a} {b} {c} h k = let v = unknowns (a ∷ b ∷ c ∷ []) in le-by (search linear) (search linear) (omega (arith, orders))

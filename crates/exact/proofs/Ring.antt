@@ -4,9 +4,9 @@
 --   neg-*ℤ, *ℤ-neg              a sign moves out of a product
 --   one-*ℤ, *ℤ-by-one           the unit
 --   ring                        a set for `simp`: multiplied out, brackets to the right, terms and factors in one order
-use mathlib.Core.Path.{_≡_, refl, sym, _∙_, ap}
-use Prim.Native.Nat.{ℕ, zero, suc}
-use lib.IntN.{ℤ, pos, negsuc, sucℤ, predℤ, negℤ, _+ℤ_, _-ℤ_, _*ℤ_, +ℤ-assoc, +ℤ-comm, +ℤ-idl, +ℤ-idr, +ℤ-invl, +ℤ-invr, zero-*ℤ, *ℤ-zero, *ℤ-comm, sucℤ-+ℤ, predℤ-+ℤ, sucℤ-*ℤ, predℤ-*ℤ, negℤ-+ℤ, negℤ-negℤ}
+use mathlib.Core.Path.{_≡_, sym, _∙_, ap}
+use Prim.Native.Nat.{zero, suc}
+use lib.IntN.{ℤ, pos, negsuc, sucℤ, predℤ, negℤ, _+ℤ_, _-ℤ_, _*ℤ_, +ℤ-assoc, +ℤ-comm, +ℤ-idl, +ℤ-idr, +ℤ-invl, +ℤ-invr, zero-*ℤ, *ℤ-comm, sucℤ-+ℤ, predℤ-+ℤ, sucℤ-*ℤ, predℤ-*ℤ, negℤ-+ℤ, negℤ-negℤ}
 
 pub +ℤ-left-comm : (a b c : ℤ) → a +ℤ (b +ℤ c) ≡ b +ℤ (a +ℤ c)
 +ℤ-left-comm a b c = sym (+ℤ-assoc a b c) ∙ ap (λ (x : ℤ). x +ℤ c) (+ℤ-comm a b) ∙ +ℤ-assoc b a c

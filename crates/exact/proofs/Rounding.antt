@@ -6,9 +6,9 @@
 --   nearest-size, nearest-smaller     from the first: a bound of the number bounds what it rounds to
 --   nearest-below, nearest-above, nearest-kept-below, nearest-kept-above
 --                            which neighbour it is, by the remainder of the machine's division: for the code of `nearest` alone
-use mathlib.Core.Path.{_≡_, refl, sym, _∙_, ap, subst}
+use mathlib.Core.Path.{_≡_, refl, sym, _∙_, ap}
 use mathlib.Core.Bool.{Bool, true, false, cond}
-use mathlib.Core.List.{List, [], _∷_}
+use mathlib.Core.List.{[], _∷_}
 use Prim.Native.Nat.{ℕ, zero, suc, _+_, _*_, _/_, _%_, _<_, _≤_}
 use native.Mathlib.Nat.{div-add-mod, mod-lt, mul-div-cancel-left, mul-le-mul-left, mul-le-mul-right, mul-mod-right, zero-div, zero-mod}
 use native.Mathlib.Omega.{arith}
@@ -18,7 +18,7 @@ use lib.Dec.{leb, ltb→lt}
 use lib.IntN.{ℤ, pos, negsuc, negℤ, natAbs, _+ℤ_, _-ℤ_, _*ℤ_, negℤ-negℤ}
 use lib.Signed.{quotZ, remZ, _≤ℤ_, _<ℤ_}
 use Rattle.exact.specs.Nearest.{nearest, nearestℕ}
-use Rattle.exact.proofs.Linear.{Difference, unknowns, linear, orders, one-sided, eq-by, le-by, abs-by, le-of, lt-of}
+use Rattle.exact.proofs.Linear.{Difference, unknowns, linear, orders, one-sided, eq-by, le-of, lt-of}
 use Rattle.exact.proofs.Bound.{abs-add, abs-mul}
 
 -- ---- of naturals

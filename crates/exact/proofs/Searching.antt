@@ -5,14 +5,14 @@
 --   first-ext           of tests that agree below n
 --   from-failed, from-test, from-ext, from-none      a search that begins at j: whatever lies before j fails, from j on the test decides
 --   Failed, failed-none, failed-more       the loop's invariant: all below i fail
-use mathlib.Core.Path.{_≡_, refl, sym, _∙_, ap, subst}
+use mathlib.Core.Path.{_≡_, refl, sym, _∙_, ap}
 use mathlib.Core.Bool.{Bool, true, false, cond, _&&_}
 use Prim.Native.Nat.{ℕ, zero, suc, _+_, _<_, _≤_}
 use native.Mathlib.Omega.{arith}
 use native.Mathlib.Decide.{decLe}
 use borrow.Author.Tests.{lt-ltb, le-ltb, le-leb, lt-leb, ltb-false}
 use borrow.Author.Count.{below-more}
-use lib.Dec.{leb, ltb}
+use lib.Dec.{leb}
 use Rattle.exact.specs.First.{first, some-below}
 
 -- all numbers below i fail the test

@@ -6,17 +6,16 @@
 --   sum-nonneg, sum-zeros             terms not below 0; where such terms add up to 0, each is 0
 --   sum-abs, sum-abs-sum              the size of a sum: each term within B; at most the sum of the sizes
 use mathlib.Core.Path.{_≡_, refl, sym, _∙_, ap, subst}
-use mathlib.Core.List.{List, [], _∷_}
+use mathlib.Core.List.{[], _∷_}
 use Prim.Native.Nat.{ℕ, zero, suc, _+_, _*_, _<_, _≤_}
 use native.Mathlib.Numerals.{add-one}
-use native.Mathlib.Nat.{mul-suc, suc-mul}
 use native.Mathlib.Omega.{arith}
 use native.Mathlib.Decide.{decLt}
-use lib.IntN.{ℤ, pos, negsuc, negℤ, natAbs, _+ℤ_, _-ℤ_, _*ℤ_, *ℤ-zero, +ℤ-idl}
-use lib.Signed.{_≤ℤ_, _<ℤ_, ≤ℤ-refl}
+use lib.IntN.{ℤ, pos, natAbs, _+ℤ_, _*ℤ_, *ℤ-zero}
+use lib.Signed.{_≤ℤ_, ≤ℤ-refl}
 use Rattle.exact.specs.Sum.{sum}
 use Rattle.exact.proofs.Ring.{ring, *ℤ-dist-l}
-use Rattle.exact.proofs.Linear.{Difference, unknowns, linear, orders, eq-by, le-by, eq-of}
+use Rattle.exact.proofs.Linear.{unknowns, linear, orders, eq-by, le-by, eq-of}
 use Rattle.exact.proofs.Bound.{abs-add}
 use Rattle.exact.proofs.Order.{add-le}
 

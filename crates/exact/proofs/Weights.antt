@@ -2,11 +2,9 @@
 --   weight-exact         2,520 / q times q is 2,520
 --   weight-pos           2,520 / q is above 0
 use mathlib.Core.Path.{_≡_, refl}
-use mathlib.Core.Bool.{Bool, true, false, cond, _&&_}
 use Prim.Native.Nat.{ℕ, zero, suc, _*_, _/_, _%_, _≤_, _<_}
 use native.Mathlib.Nat.{div-add-mod', le-div-iff-mul-le}
 use native.Mathlib.Omega.{arith}
-use lib.Dec.{lit<}
 
 -- 2,520 leaves nothing over at any of them
 whole : (q : ℕ) → 0 < q → q ≤ 10 → 2520 % q ≡ 0

@@ -2,19 +2,23 @@
 --   refuse-at, refuse-none        a check over n things in their order: what it replies, from what a loop has found
 --   refuse-first, accept-first    the same, from the first at fault
 --   none-refused                  where it accepts, no thing is at fault
+--   neither                       where one or the other is no fault, neither is
 --   both-accepted                 where two checks accept one after the other, each does
-use mathlib.Core.Path.{_≡_, refl, sym, _∙_, ap}
-use mathlib.Core.Bool.{Bool, true, false}
+use mathlib.Core.Path.{_≡_, refl}
+use mathlib.Core.Bool.{Bool, true, false, _||_}
 use Prim.Native.Nat.{ℕ, _≤_, _<_}
 use native.Mathlib.Omega.{arith}
 use borrow.Author.Tests.{lt-ltb, le-ltb}
-use lib.Dec.{ltb}
 use Rattle.exact.specs.First.{first, some-below}
 use Rattle.exact.proofs.Searching.{Failed, first-at, some-at, some-none, all-failed}
 use Rattle.reply.specs.declared.Refusal.{Refusal}
 use Rattle.reply.specs.declared.Reply.{Reply}
 use Rattle.reply.specs.declared.Reply.the-variants.{Accepted, Refused}
 use Rattle.reply.specs.Checks.{refuseIf, refuseFirst, _andThen_}
+
+pub neither : (a b : Bool) → (a || b) ≡ false → (a ≡ false) × (b ≡ false)
+neither true b h = let z : _≡_ {A = ℕ} 0 1 = cc in absurd (omega arith)
+neither false b h = (refl, h)
 
 module _ (n : ℕ) (fault : ℕ → Bool) (why : ℕ → Refusal) where
   pub refuse-at : (i : ℕ) → i < n → Failed fault i → fault i ≡ true → refuseFirst n fault why ≡ Refused (why i)

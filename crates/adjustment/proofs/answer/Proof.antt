@@ -1,45 +1,21 @@
 -- `answer` meets its contract. Assumes nothing.
-use mathlib.Core.Path.{_≡_, refl, sym, _∙_, ap, ap₂, subst}
-use mathlib.Core.Bool.{Bool, true, false, _&&_, _||_, not, cond}
-use mathlib.Core.List.{List, [], _∷_}
-use mathlib.Core.Logic.{⊎-elim}
-use Prim.Native.Nat.{ℕ, suc, _+_, _*_, _-_, _≤_, _<_}
+use mathlib.Core.Path.{_≡_, _∙_, ap}
+use mathlib.Core.List.{List}
+use Prim.Native.Nat.{ℕ}
 use native.Mathlib.Omega.{arith}
-use native.Mathlib.Numerals.{add-one}
 use borrow.Author.Needs.{needs}
-use borrow.Author.Tests.{lt-ltb, le-ltb, le-leb, lt-leb, eq-eqb, ne-eqb}
 use denote.Ref.{now}
-use lib.Dec.{T, ltb, leb, eqb}
-use lib.ListN.{length, getD, set, replicate, length-set}
-use lib.Seq.{getD-set-same, getD-set-other}
-use lib.IntN.{ℤ, pos, negℤ, natAbs, _+ℤ_, _-ℤ_, _*ℤ_, +ℤ-idl}
-use lib.Signed.{_≤ℤ_, _<ℤ_}
-use mir.Syntax.{w64}
-use mir.Val.{SFits, toZ, ofZ}
-use mir.ValLaws.{toZ-ofZ}
-use Rattle.exact.specs.Sum.{sum}
+use lib.ListN.{length, getD}
+use lib.IntN.{ℤ, pos, _+ℤ_}
 use Rattle.exact.specs.Nearest.{nearest}
 use Rattle.exact.specs.Circle.{C, modulo}
-use Rattle.exact.specs.First.{first, some-below}
 use Rattle.exact.specs.Tabulate.{tabulate}
-use Rattle.exact.proofs.Linear.{unknowns, machine, linear, orders, one-sided, lt-by, le-by, eq-by}
-use Rattle.exact.proofs.Order.{lt-true, lt-false, le-true, le-false}
-use Rattle.exact.proofs.Bound.{read, read-at, read-within, fits-of-mag, bounded, bounded-by, bounds, fits-in, fits-within}
-use Rattle.exact.proofs.Sum.{sum-none, sum-more, sum-ext}
-use Rattle.exact.proofs.Searching.{Failed, failed-none, failed-more, first-at, first-none, some-at, some-none, from-failed, from-test}
-use Rattle.exact.proofs.Filling.{tabulate-length, Filled, filled-none, filled-more, filled-all}
-use Rattle.reply.specs.declared.Refusal.the-variants.{Count, Coefficient, Misclosure, WeakRow, Correlate, Remainder}
-use Rattle.reply.specs.declared.Reply.{Reply}
-use Rattle.reply.specs.declared.Reply.the-variants.{Accepted, Refused}
-use Rattle.reply.specs.Checks.{refuseIf, refuseFirst, _andThen_}
-use Rattle.reply.proofs.Checking.{refuse-at, refuse-none}
-use Rattle.adjustment.specs.declared.reduce.Row.{Row}
+use Rattle.exact.proofs.Filling.{tabulate-length}
 use Rattle.adjustment.specs.Table.{Table, at, tableOf}
-use Rattle.adjustment.specs.Solution.{N, reduced, D, L, M, carried, multiplier, weakRow, weak, K}
-use Rattle.adjustment.specs.Corrections.{V-of, R-of, u-of, adjusted-of, Q-of}
-use Rattle.adjustment.specs.Refusals.{countsAmiss, lengthsAmiss, coefficientFault, misclosureFault, conditionsReply}
+use Rattle.adjustment.specs.Solution.{M, K}
+use Rattle.adjustment.specs.Corrections.{u-of}
 use Rattle.adjustment.specs.Promise.{lists}
-use Rattle.adjustment.specs.Inner.{Small, Within, Sound, From, RowWithin, Stage, TakesRow, Multiplies, IsRow, d-at, m-at, noRow}
+use Rattle.adjustment.specs.Inner.{Small}
 use Rattle.adjustment.proofs.Answering.{corrections-list, correlates-list, remainders-list, printed-list, adjusted-list, misses-list, u-size}
 use Rattle.adjustment.proofs.answer.Statement.{statement}
 use Rattle.adjustment.proofs.answer.Tie as tie
@@ -103,9 +79,9 @@ module _ (c : tie.After-print-corrections) where
 
 adjust-directions-requires : tie.Need-adjust-directions-requires
 adjust-directions-requires c κs =
-    let b = c .before .before .before in let s = start b in let p = s .pre .1 .1 in let e = p .1 .0 .2 in
-    ( (omega (arith, e, p .0 .0), omega (arith, e, us-long b))
-    , ((λ i l. p .0 .1 i (omega (arith, e))), λ i l. us-size b i (omega (arith, e)))
+    let b = c .before .before .before in let s = start b in let p = s .pre .1 .1 in let e = p .1 .0 .2 in (
+      (omega (arith, e, p .0 .0), omega (arith, e, us-long b)),
+      ((λ i l. p .0 .1 i (omega (arith, e))), λ i l. us-size b i (omega (arith, e))),
     )
 
 print-remainders-requires : tie.Need-print-remainders-requires

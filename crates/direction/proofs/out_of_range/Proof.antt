@@ -1,5 +1,4 @@
 -- `direction::out_of_range` meets its contract. Assumes nothing.
-use mathlib.Core.Path.{_≡_, sym, ap}
 use mir.ValLaws.{toZ-ofZ}
 use Rattle.direction.proofs.out_of_range.Statement.{statement}
 use Rattle.direction.proofs.out_of_range.Tie as tie

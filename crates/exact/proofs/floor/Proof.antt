@@ -1,6 +1,6 @@
 -- `exact::floor` meets its contract, by the remainder of the machine's division (proofs/Circles). Assumes nothing.
-use mathlib.Core.Path.{_≡_, refl, sym, _∙_}
-use lib.IntN.{ℤ, pos, _-ℤ_}
+use mathlib.Core.Path.{_≡_, refl, sym}
+use lib.IntN.{pos, _-ℤ_}
 use lib.Signed.{quotZ, remZ, _≤ℤ_, _<ℤ_}
 use mir.Syntax.{w64}
 use mir.Val.{SFits, toZ, ofZ}

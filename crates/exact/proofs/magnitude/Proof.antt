@@ -1,6 +1,6 @@
 -- `exact::magnitude` meets its contract: of a number below 0 the code forms -(z + 1) first, which fits also at the least number. Assumes nothing.
 use mathlib.Core.Path.{_≡_, refl, _∙_, ap}
-use Prim.Native.Nat.{_+_, _<_, _≤_, _^_}
+use Prim.Native.Nat.{_+_, _<_, _^_}
 use native.Mathlib.Omega.{arith}
 use lib.IntN.{ℤ, pos, natAbs, _+ℤ_, _-ℤ_}
 use lib.Signed.{_≤ℤ_, _<ℤ_, yes-nonNeg}

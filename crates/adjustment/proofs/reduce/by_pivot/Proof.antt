@@ -1,5 +1,5 @@
 -- `reduce::by_pivot` meets its contract. Assumes nothing.
-use mathlib.Core.Path.{_≡_, _∙_, ap, ap₂}
+use mathlib.Core.Path.{_∙_, ap, ap₂}
 use borrow.Author.Needs.{needs}
 use lib.IntN.{negℤ, _*ℤ_, +ℤ-idl}
 use Rattle.exact.specs.Nearest.{nearest}

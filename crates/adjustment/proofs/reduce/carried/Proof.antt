@@ -1,5 +1,4 @@
 -- `reduce::carried` meets its contract. Assumes nothing.
-use mathlib.Core.Path.{_∙_, ap}
 use borrow.Author.Needs.{needs}
 use Rattle.exact.proofs.Bound.{bounded, bounds, fits-in, fits-of-mag, read}
 use Rattle.adjustment.proofs.reduce.carried.Statement.{statement}

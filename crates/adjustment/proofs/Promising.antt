@@ -1,0 +1,90 @@
+-- The promise of `adjust`, from what its checks have said. Assumes nothing.
+--   by-counts, by-lengths, by-directions, by-conditions, by-solution      the reply, where the checks before have accepted
+--   refused-adjusts          a refusal that is the rule's reply, with the lists as they were lent, keeps the promise
+--   accepted-adjusts         so does an accepted table whose lists are the rules' answers: demand 3 holds of them
+--   only-reply               two replies that keep the promise are equal, and leave equal lists
+use mathlib.Core.Path.{_≡_, refl, sym, _∙_, ap}
+use mathlib.Core.Bool.{true, false}
+use mathlib.Core.List.{List}
+use Prim.Native.Nat.{ℕ, _+_, _≤_, _<_}
+use native.Mathlib.Omega.{arith}
+use borrow.Author.Tests.{ltb-false}
+use lib.Dec.{ltb}
+use lib.ListN.{length}
+use lib.IntN.{ℤ, pos, natAbs}
+use Rattle.exact.proofs.Filling.{tabulate-at}
+use Rattle.reply.specs.declared.Refusal.{Refusal}
+use Rattle.reply.specs.declared.Refusal.the-variants.{Count, Remainder}
+use Rattle.reply.specs.declared.Reply.{Reply}
+use Rattle.reply.specs.declared.Reply.the-variants.{Accepted, Refused}
+use Rattle.reply.specs.Checks.{_andThen_}
+use Rattle.reply.proofs.Checking.{none-refused, both-accepted}
+use Rattle.direction.specs.Ranges.{directionsReply}
+use Rattle.adjustment.specs.Table.{Table, at, tableOf}
+use Rattle.adjustment.specs.Solution.{K}
+use Rattle.adjustment.specs.Corrections.{V-of, R-of, Q-of}
+use Rattle.adjustment.specs.Refusals.{countsAmiss, lengthsAmiss, conditionsReply, rowsReply, correlatesReply, remaindersReply, solutionReply, inputReply}
+use Rattle.adjustment.specs.Demand.{Demand3}
+use Rattle.adjustment.specs.Promise.{Answers, adjustReply, answersOf, leaves, Adjusts}
+use Rattle.adjustment.specs.Inner.{Sound}
+use Rattle.adjustment.proofs.Demands.{demand-3, demand-ext}
+
+module _ (ds qs cs ws : List ℤ) (lent : Answers) where
+  abbrev t : Table
+  t = tableOf qs cs ws
+
+  -- ---- the reply
+  pub by-counts : countsAmiss (length ds) (length ws) ≡ true → adjustReply ds qs cs ws lent ≡ Refused (Count 0)
+  unfolding adjustReply inputReply
+  by-counts e = rw e
+
+  module _ (a : countsAmiss (length ds) (length ws) ≡ false) where
+    abbrev lengths-amiss : mathlib.Core.Bool.Bool
+    lengths-amiss = lengthsAmiss (length ds) (length ws) (length qs) (length cs) (length (lent .corrections)) (length (lent .printed)) (length (lent .adjusted)) (length (lent .correlates)) (length (lent .remainders)) (length (lent .misses))
+
+    pub by-lengths : lengths-amiss ≡ true → adjustReply ds qs cs ws lent ≡ Refused (Count 0)
+    unfolding adjustReply inputReply
+    by-lengths e = rw (a, e)
+
+    module _ (b : lengths-amiss ≡ false) where
+      pub by-directions : {why : Refusal} → directionsReply ds qs ≡ Refused why → adjustReply ds qs cs ws lent ≡ Refused why
+      unfolding adjustReply inputReply
+      by-directions e = rw (a, b, e)
+
+      module _ (c : directionsReply ds qs ≡ Accepted) where
+        pub by-conditions : {why : Refusal} → conditionsReply t ≡ Refused why → adjustReply ds qs cs ws lent ≡ Refused why
+        unfolding adjustReply inputReply
+        by-conditions e = rw (a, b, c, e)
+
+        pub by-solution : conditionsReply t ≡ Accepted → adjustReply ds qs cs ws lent ≡ solutionReply t
+        unfolding adjustReply inputReply
+        by-solution e = rw (a, b, c, e)
+
+  -- ---- the promise
+  pub refused-adjusts : (why : Refusal) → adjustReply ds qs cs ws lent ≡ Refused why → Adjusts ds qs cs ws lent (Refused why) lent
+  refused-adjusts why e = record { answer = sym e; lists = refl; demand3 = λ f. let z : _≡_ {A = ℕ} 0 1 = cc in absurd (omega arith) }
+
+  module _ (s : Sound qs cs ws) (e : solutionReply t ≡ Accepted) where
+    close : (j : ℕ) → j < t .n → natAbs (R-of t (K t) j) ≤ 50000000
+    unfolding solutionReply remaindersReply
+    close j l =
+        let after = both-accepted (rowsReply t) (correlatesReply t andThen remaindersReply t (K t)) e in
+        let last = both-accepted (correlatesReply t) (remaindersReply t (K t)) (after .1) in
+        ltb-false 50000000 (natAbs (R-of t (K t) j)) (none-refused (t .n) (λ j. ltb 50000000 (natAbs (R-of t (K t) j))) (λ j. Remainder (j + 1)) (last .1) j l)
+
+    pub accepted-adjusts : adjustReply ds qs cs ws lent ≡ solutionReply t → (left : Answers) → left ≡ answersOf t (K t) (at ds) → Adjusts ds qs cs ws lent Accepted left
+    accepted-adjusts f left g = record { answer = sym (f ∙ e); lists = g; demand3 = λ h. demand }
+      where
+        demand : Demand3 t (at (left .corrections)) (at (left .remainders)) (at (left .misses))
+        demand =
+            demand-ext t (V-of t (K t)) (at (left .corrections)) (R-of t (K t)) (at (left .remainders)) (Q-of t (K t)) (at (left .misses))
+            (λ i l. sym (ap (λ (x : Answers). at (x .corrections) i) g ∙ tabulate-at (t .m) (V-of t (K t)) i (pos 0) l))
+            (λ j l. sym (ap (λ (x : Answers). at (x .remainders) j) g ∙ tabulate-at (t .n) (R-of t (K t)) j (pos 0) l))
+            (λ j l. sym (ap (λ (x : Answers). at (x .misses) j) g ∙ tabulate-at (t .n) (Q-of t (K t)) j (pos 0) l))
+            (demand-3 t (K t) (s .q-least) (s .q-most) close)
+
+  -- ---- and there is only one
+  pub only-reply : (r r' : Reply) (left left' : Answers) → Adjusts ds qs cs ws lent r left → Adjusts ds qs cs ws lent r' left' → (r ≡ r') × (left ≡ left')
+  only-reply r r' left left' a b =
+      let e : r ≡ r' = a .answer ∙ sym (b .answer) in
+      (e, a .lists ∙ ap (λ (x : Reply). leaves x (answersOf t (K t) (at ds)) lent) e ∙ sym (b .lists))
