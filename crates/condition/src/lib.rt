@@ -1,0 +1,7 @@
+// One condition's lent terms: its coefficients and its misclosure.
+mod term;
+
+pub enum Kind {
+    Angle,
+    Side,
+}
