@@ -63,11 +63,14 @@ countsCheck l =
     (Count 0)
 
 -- 3, "going by direction number": "direction 0 to C-1", "Inverse weight q: 1 to 10"
-abbrev pub directionFault : List ℤ → List ℤ → ℕ → Bool
-directionFault directions q h = outside (pos 0) (C -ℤ pos 1) (getD directions h (pos 0)) || outside (pos 1) (pos 10) (getD q h (pos 0))
+abbrev pub directionFault : ℤ → ℤ → Bool
+directionFault direction q = outside (pos 0) (C -ℤ pos 1) direction || outside (pos 1) (pos 10) q
+
+abbrev pub directionFaultAt : List ℤ → List ℤ → ℕ → Bool
+directionFaultAt directions q h = directionFault (getD directions h (pos 0)) (getD q h (pos 0))
 
 unfoldable pub directionsCheck : List ℤ → List ℤ → Reply
-directionsCheck directions q = refuseFirst (length directions) (directionFault directions q) (λ h. OutOfRange (h + 1))
+directionsCheck directions q = refuseFirst (length directions) (directionFaultAt directions q) (λ h. OutOfRange (h + 1))
 
 -- 3, place 0: the target of an angle condition, "0 to 12C"; "a side condition's target [is] not read"
 abbrev pub targetCheck : Kind → ℤ → Reply

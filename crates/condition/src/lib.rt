@@ -1,4 +1,5 @@
 // One condition's lent terms: its coefficients and its misclosure.
+mod checks;
 mod term;
 
 pub enum Kind {

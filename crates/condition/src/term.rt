@@ -112,6 +112,8 @@ fn side_fault(m: i64, t: Term) -> bool
 {
     let value = t.value;
     let d = t.d;
+    let i = t.i;
+    let k = t.k;
     if outside(0, 200_000_000, value) {
         return true;
     }
@@ -121,8 +123,6 @@ fn side_fault(m: i64, t: Term) -> bool
     if astray(m, t) {
         return true;
     }
-    let i = t.i;
-    let k = t.k;
     if i != k {
         return false;
     }

@@ -1,69 +1,67 @@
+-- `condition::term::fault` meets its contract, kind by kind. Assumes nothing.
+use mathlib.Core.Path.{_≡_, sym, _∙_}
 use borrow.Author.Needs.{needs}
+use mir.ValLaws.{toZ-ofZ}
+use Rattle.exact.proofs.Bound.{fits-of-mag}
+use Rattle.condition.specs.Terms.{astray}
+use Rattle.condition.proofs.Testing.{bits-test}
 use Rattle.condition.proofs.term.fault.Statement.{statement}
 use Rattle.condition.proofs.term.fault.Tie as tie
-use Rattle.condition.proofs.term.fault.Reads as reads
-use Rattle.condition.proofs.term.fault.Lts as lts
-use Rattle.condition.proofs.term.astray.Reads as astray-reads
-use Rattle.condition.proofs.term.outside.Reads as outside-reads
-use Rattle.condition.proofs.term.side_fault.Reads as side-fault-reads
 
--- src/term.rt:142:16
 enum-told : tie.Need-enum-told
 enum-told c = search needs
 
--- src/term.rt:142:16
 astray-requires : tie.Need-astray-requires
 astray-requires c κs = search needs
 
--- src/term.rt:143:17
-returns : tie.Need-returns
-returns c = ?
+astray-test : (c : tie.After-astray) → c .astray .result ≡ astray (c .before .before .before .args .m) (c .before .before .before .args .t)
+astray-test c = let f = c .before .before .before .fits .m in c .astray .ensures ∙ simp toZ-ofZ
 
--- src/term.rt:148:17
+returns : tie.Need-returns
+returns c = rw (c .before .before .enum-told .given .1, sym (astray-test (c .before)) ∙ c .if1 .taken)
+
 enum-told-2 : tie.Need-enum-told-2
 enum-told-2 c = search needs
 
--- src/term.rt:149:13
 outside-requires : tie.Need-outside-requires
 outside-requires c κs = search needs
 
--- src/term.rt:151:22
 enum-told-3 : tie.Need-enum-told-3
 enum-told-3 c = search needs
 
--- src/term.rt:151:22
 side-fault-requires : tie.Need-side-fault-requires
 side-fault-requires c κs = search needs
 
--- src/term.rt:152:22
 enum-told-4 : tie.Need-enum-told-4
 enum-told-4 c = search needs
 
--- src/term.rt:152:22
 side-fault-requires-2 : tie.Need-side-fault-requires-2
 side-fault-requires-2 c κs = search needs
 
--- src/term.rt:153:28
 enum-told-5 : tie.Need-enum-told-5
 enum-told-5 c = search needs
 
--- src/term.rt:136:1
 returns-2 : tie.Need-returns-2
-returns-2 c = ?
+returns-2 c =
+    let e = c .before .before in let t = e .before .before .before .before .args .t in
+    rw (e .before .before .enum-told .given .1, sym (astray-test (e .before)) ∙ e .if1 .left)
+    (bits-test (fits-of-mag (t .i) (c .struct-told .given .1 .1 .1 .0 .1)) (fits-of-mag (t .k) (c .struct-told .given .1 .1 .1 .1 .0 .1)))
 
--- src/term.rt:136:1
 returns-3 : tie.Need-returns-3
-returns-3 c = ?
+returns-3 c =
+    let f = fits-of-mag (c .before .before .before .before .args .t .value) (c .before .struct-told2 .given .1 .0 .1) in
+    rw (c .before .before .enum-told2 .given .1) (c .outside .ensures ∙ simp toZ-ofZ)
 
--- src/term.rt:136:1
 returns-4 : tie.Need-returns-4
-returns-4 c = ?
+returns-4 c =
+    let f = c .before .before .before .fits .m in
+    rw (c .before .enum-told3 .given .1) (c .side-fault .ensures ∙ simp toZ-ofZ)
 
--- src/term.rt:136:1
 returns-5 : tie.Need-returns-5
-returns-5 c = ?
+returns-5 c =
+    let f = c .before .before .before .fits .m in
+    rw (c .before .enum-told4 .given .1) (c .side-fault2 .ensures ∙ simp toZ-ofZ)
 
--- src/term.rt:136:1
 returns-6 : tie.Need-returns-6
 returns-6 c = search needs
 
