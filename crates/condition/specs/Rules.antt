@@ -56,11 +56,9 @@ unfoldable pub miscounted : ℕ → ℕ → ℕ → ℕ → ℕ → ℕ → ℕ 
 miscounted m q n values d i k =
     ltb m 1 || ltb 64 m || unequal q m || ltb n 1 || ltb 12 n || unequal values n || unequal d n || unequal i n || unequal k n
 
-abbrev pub countsCheck : Lent → Reply
-countsCheck l =
-    refuseIf
-    (miscounted (length (l .directions)) (length (l .q)) (length (l .kinds)) (length (l .values)) (length (l .d)) (length (l .i)) (length (l .k)))
-    (Count 0)
+abbrev pub countsFault : Lent → Bool
+countsFault l =
+    miscounted (length (l .directions)) (length (l .q)) (length (l .kinds)) (length (l .values)) (length (l .d)) (length (l .i)) (length (l .k))
 
 -- 3, "going by direction number": "direction 0 to C-1", "Inverse weight q: 1 to 10"
 abbrev pub directionFault : ℤ → ℤ → Bool
@@ -92,7 +90,7 @@ termsCheck kind m n term = inTurn n (λ j. termCheck kind m (j + 1) (term j))
 -- "2 (place 0) for counts or unequal lengths, then 3 for directions and q [..], 3 (place 0) for an angle condition's target, then by term"
 unfoldable pub checks : Lent → Reply
 checks l =
-    countsCheck l
+    refuseIf (countsFault l) (Count 0)
     andThen directionsCheck (l .directions) (l .q)
     andThen targetCheck (l .kind) (l .target)
     andThen termsCheck (l .kind) (pos (length (l .directions))) (length (l .kinds)) (term l)

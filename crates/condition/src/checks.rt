@@ -96,3 +96,23 @@ fn terms_check(kind: Kind, m: i64, kinds: &[i64], values: &[i64], d: &[i64], i: 
     }
     Reply::Accepted
 }
+
+// All checks, in the order of the rules. Both operations make them, and these alone decide refusals 1 to 3.
+pub fn all(directions: &[i64], q: &[i64], kind: Kind, target: i64, kinds: &[i64], values: &[i64], d: &[i64], i: &[i64], k: &[i64]) -> Reply
+    ensures { λ r. ⌜ r ≡ checks (lent (now (directions .entry)) (now (q .entry)) kind target (now (kinds .entry)) (now (values .entry)) (now (d .entry)) (now (i .entry)) (now (k .entry))) ⌝ }
+{
+    if miscounted(directions.len(), q.len(), kinds.len(), values.len(), d.len(), i.len(), k.len()) {
+        return Reply::Refused(Refusal::Count(0));
+    }
+    let of_directions = directions_check(directions, q);
+    match of_directions {
+        Reply::Accepted => {}
+        Reply::Refused(why) => return Reply::Refused(why),
+    }
+    let of_target = target_check(kind, target);
+    match of_target {
+        Reply::Accepted => {}
+        Reply::Refused(why) => return Reply::Refused(why),
+    }
+    terms_check(kind, directions.len() as i64, kinds, values, d, i, k)
+}
