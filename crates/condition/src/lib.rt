@@ -1,5 +1,6 @@
 // One condition's lent terms: its coefficients and its misclosure.
 mod checks;
+mod closing;
 mod term;
 
 pub enum Kind {
