@@ -1,3 +1,4 @@
 pub mod Testing
 pub mod Checking
 pub mod Accepting
+pub mod Parts

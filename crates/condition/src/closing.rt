@@ -14,10 +14,11 @@ fn direction(directions: &[i64], number: i64) -> i64
     requires { ⌜ Number (length (now directions)) number ⌝ }
     ensures { λ r. ⌜ r ≡ directionAt (now (directions .entry)) (natAbs number) ⌝ }
 {
-    if number == 0 {
+    let h = number as usize;
+    if h == 0 {
         return 0;
     }
-    directions[(number - 1) as usize]
+    directions[h - 1]
 }
 
 // The angle from direction i to direction k.
@@ -54,12 +55,12 @@ pub fn total(directions: &[i64], kinds: &[i64], values: &[i64], d: &[i64], i: &[
     requires terms { ⌜ AllSound (length (now directions)) (length (now kinds)) (termAt (now kinds) (now values) (now d) (now i) (now k)) ⌝ }
     ensures { λ r. ⌜ r ≡ sum (length (now (kinds .entry))) (λ j. part (now (directions .entry)) (termAt (now (kinds .entry)) (now (values .entry)) (now (d .entry)) (now (i .entry)) (now (k .entry)) j)) ⌝ }
 {
-    let mut sum: i64 = 0;
+    let mut so_far: i64 = 0;
     let mut j: usize = 0;
     while j < kinds.len() {
         let t = term::at(kinds, values, d, i, k, j);
-        sum = sum + part(directions, t);
+        so_far = so_far + part(directions, t);
         j += 1;
     }
-    sum
+    so_far
 }

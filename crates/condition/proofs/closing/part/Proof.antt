@@ -1,57 +1,79 @@
+-- `condition::closing::part` meets its contract, kind by kind. Assumes nothing.
+use mathlib.Core.Path.{_≡_, sym, _∙_, ap, subst}
 use borrow.Author.Needs.{needs}
+use lib.IntN.{ℤ, pos, negℤ, _-ℤ_, +ℤ-idl}
+use lib.ListN.{length}
+use mir.Syntax.{w64}
+use mir.Val.{SFits}
+use mir.ValLaws.{toZ-ofZ}
+use Rattle.exact.proofs.Bound.{bounds, bounded, fits-in, fits-within, fits-of-mag, read}
+use Rattle.condition.specs.declared.term.Letter.{Letter}
+use Rattle.condition.specs.Terms.{partOf, part}
+use Rattle.condition.specs.Sound.{SoundOf, SideTerm}
 use Rattle.condition.proofs.closing.part.Statement.{statement}
 use Rattle.condition.proofs.closing.part.Tie as tie
-use Rattle.condition.proofs.closing.part.Reads as reads
-use Rattle.condition.proofs.closing.part.Lts as lts
-use Rattle.condition.proofs.closing.angle.Reads as angle-reads
 
--- src/closing.rt:42:22
 enum-told : tie.Need-enum-told
 enum-told c = search needs
 
--- src/closing.rt:42:22
 angle-requires : tie.Need-angle-requires
-angle-requires c κs = ?
+angle-requires c κs =
+    let s = c .before .before in
+    (subst (λ (l : Letter). SoundOf l (length (s .args .directions .now)) (s .args .t)) (c .enum-told .given .1) (s .pre .0), s .pre .1)
 
--- src/closing.rt:43:22
 enum-told-2 : tie.Need-enum-told-2
 enum-told-2 c = search needs
 
--- src/closing.rt:44:22
 enum-told-3 : tie.Need-enum-told-3
 enum-told-3 c = search needs
 
--- src/closing.rt:45:22
 enum-told-4 : tie.Need-enum-told-4
 enum-told-4 c = search needs
 
--- src/closing.rt:45:22
-sub-result : tie.Need-sub-result
-sub-result c = ?
+-- ---- a right logarithm with its sign turned
+module _ (c : tie.After-struct-told3) where
+  abbrev s : tie.Start
+  s = c .before .before .before .before
 
--- src/closing.rt:46:28
+  side : SideTerm (length (s .args .directions .now)) (s .args .t)
+  side = subst (λ (l : Letter). SoundOf l (length (s .args .directions .now)) (s .args .t)) (c .before .before .enum-told4 .given .1) (s .pre .0)
+
+  value-fits : SFits w64 (s .args .t .value)
+  value-fits = fits-within (s .args .t .value) (side .value) tt
+
+  turned-fits : SFits w64 (pos 0 -ℤ s .args .t .value)
+  turned-fits = let x = bounded (s .args .t .value) (side .value) in fits-in (search bounds) tt
+
+sub-result : tie.Need-sub-result
+sub-result c = let f = value-fits c in simp toZ-ofZ (turned-fits c)
+
 enum-told-5 : tie.Need-enum-told-5
 enum-told-5 c = search needs
 
--- src/closing.rt:35:1
 returns : tie.Need-returns
-returns c = ?
+unfolding part
+returns c =
+    let a = c .before .before .before .args in
+    read (fits-of-mag (c .angle .result) (c .angle .ok))
+    ∙ c .angle .ensures
+    ∙ ap (λ (l : Letter). partOf l (a .directions .now) (a .t)) (sym (c .before .enum-told .given .1))
 
--- src/closing.rt:35:1
 returns-2 : tie.Need-returns-2
-returns-2 c = ?
+unfolding part
+returns-2 c = rw (c .before .enum-told2 .given .1) (read (fits-of-mag (c .before .before .before .args .t .value) (c .struct-told .given .1 .0 .1)))
 
--- src/closing.rt:35:1
 returns-3 : tie.Need-returns-3
-returns-3 c = ?
+unfolding part
+returns-3 c = rw (c .before .enum-told3 .given .1) (read (fits-of-mag (c .before .before .before .args .t .value) (c .struct-told2 .given .1 .0 .1)))
 
--- src/closing.rt:35:1
 returns-4 : tie.Need-returns-4
-returns-4 c = ?
+unfolding part
+returns-4 c = let f = value-fits c in let g = turned-fits c in
+    rw (c .before .before .enum-told4 .given .1) (simp toZ-ofZ (+ℤ-idl (negℤ (s c .args .t .value))))
 
--- src/closing.rt:35:1
 returns-5 : tie.Need-returns-5
-returns-5 c = ?
+unfolding part
+returns-5 c = rw (c .enum-told5 .given .1)
 
 pub part-spec : {M : Type 1} → statement M
 part-spec =
