@@ -1,13 +1,15 @@
-// What the terms add to the misclosure.
+// The misclosure: what the terms add to it, and its range.
 ghost use mathlib.Core.Path.{_≡_};
 ghost use lib.IntN.{natAbs};
 ghost use lib.ListN.{length};
 ghost use Rattle.exact.specs.Sum.{sum};
 ghost use Rattle.condition.specs.Terms.{directionAt, angle, part};
-ghost use Rattle.condition.specs.Rules.{termAt};
+ghost use Rattle.reply.specs.Checks.{figureOf};
+ghost use Rattle.condition.specs.Rules.{termAt, judged};
 ghost use Rattle.condition.specs.Sound.{Number, Ends, Sound, Within, Fields, AllSound};
 use crate::term;
 use crate::term::{Letter, Term};
+use reply::{Figure, Refusal};
 
 // The value of a direction number: number 0 is the fixed initial, 1 to m stand in the list.
 fn direction(directions: &[i64], number: i64) -> i64
@@ -63,4 +65,14 @@ pub fn total(directions: &[i64], kinds: &[i64], values: &[i64], d: &[i64], i: &[
         j += 1;
     }
     so_far
+}
+
+// The answer for a misclosure w, which is refused beyond its range.
+pub fn judged(w: i64) -> Figure
+    ensures { λ r. ⌜ r ≡ figureOf (judged w) w ⌝ }
+{
+    if 1_000_000 < exact::magnitude(w) {
+        return Figure::Refused(Refusal::Misclosure(1));
+    }
+    Figure::Value(w)
 }
