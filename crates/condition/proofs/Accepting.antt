@@ -5,13 +5,14 @@
 --   Accepts, accepted        all of it, of what is lent
 use mathlib.Core.Path.{_≡_, refl}
 use mathlib.Core.Bool.{false, not}
-use mathlib.Core.List.{[], _∷_}
+use mathlib.Core.List.{List, [], _∷_}
 use Prim.Native.Nat.{ℕ, _+_, _<_, _≤_}
+use native.Mathlib.Decide.{decLt}
 use native.Mathlib.Omega.{arith}
 use borrow.Author.Tests.{ltb-false, eqb-true, not-false}
 use lib.Dec.{eqb}
 use lib.IntN.{ℤ, pos, negℤ, natAbs}
-use lib.ListN.{length, getD}
+use lib.ListN.{length, getD, List·getD-eq-default}
 use lib.Signed.{_≤ℤ_}
 use Rattle.exact.proofs.Linear.{unknowns, linear, orders, one-sided, abs-by}
 use Rattle.exact.proofs.Order.{lt-false}
@@ -111,19 +112,27 @@ pub record Accepts (l : Lent) : Type 0 where
 direction-size : (direction q : ℤ) → directionFault direction q ≡ false → natAbs direction ≤ 1296000000
 direction-size direction q e = omega (arith, number 1295999999 direction (either _ _ e .0) .high)
 
+directions-within : (directions q : List ℤ) → directionsCheck directions q ≡ Accepted → Within 1296000000 directions
+unfolding directionsCheck
+directions-within directions q e h = by-place (decLt h (length directions))
+  where
+    by-place : Dec (h < length directions) → natAbs (getD directions h (pos 0)) ≤ 1296000000
+    by-place (yes l) = direction-size (getD directions h (pos 0)) (getD q h (pos 0)) (first-each (length directions) (directionFaultAt directions q) (λ h. OutOfRange (h + 1)) e h l)
+    by-place (no l) = rw (List·getD-eq-default directions (pos 0) {n = h} (omega arith)) (omega arith)
+
 target-size : (kind : Kind) (target : ℤ) → targetCheck kind target ≡ Accepted → kind ≡ Angle → natAbs target ≤ 15552000000
 target-size Angle target e k = number 15552000000 target (if-accepted _ (OutOfRange 0) e) .high
 target-size Side target e k = absurd (let z : _≡_ {A = ℕ} 0 1 = cc in omega arith)
 
 pub accepted : (l : Lent) → checks l ≡ Accepted → Accepts l
-unfolding checks directionsCheck termsCheck
+unfolding checks termsCheck
 accepted l e =
     let on-counts = then-accepted (refuseIf (countsFault l) (Count 0)) _ e in
     let on-directions = then-accepted (directionsCheck (l .directions) (l .q)) _ (on-counts .1) in
     let on-target = then-accepted (targetCheck (l .kind) (l .target)) _ (on-directions .1) in
     record {
       counts = counted l (if-accepted (countsFault l) (Count 0) (on-counts .0));
-      directions = λ h k. direction-size (getD (l .directions) h (pos 0)) (getD (l .q) h (pos 0)) (first-each (length (l .directions)) (directionFaultAt (l .directions) (l .q)) (λ h. OutOfRange (h + 1)) (on-directions .0) h k);
+      directions = directions-within (l .directions) (l .q) (on-directions .0);
       target = target-size (l .kind) (l .target) (on-target .0);
       terms = λ j k. sound (length (l .directions)) (term l j) (l .kind) (j + 1) (turn-each (λ j. termCheck (l .kind) (pos (length (l .directions))) (j + 1) (term l j)) (length (l .kinds)) (on-target .1) j k);
     }

@@ -27,9 +27,9 @@ module _ (directions : List ℤ) where
   direction-next zero h = absurd (h refl)
   direction-next (suc n) h = ap (λ (i : ℕ). getD directions i (pos 0)) (omega arith)
 
-  pub direction-size : Within 1296000000 directions → (n : ℕ) → n ≤ length directions → natAbs (directionAt directions n) ≤ 1296000000
-  direction-size w zero l = omega arith
-  direction-size w (suc n) l = w n l
+  pub direction-size : Within 1296000000 directions → (n : ℕ) → natAbs (directionAt directions n) ≤ 1296000000
+  direction-size w zero = omega arith
+  direction-size w (suc n) = w n
 
   -- ---- the angle of a term
   module _ (t : Term) where

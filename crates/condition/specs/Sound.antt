@@ -36,7 +36,7 @@ Sound m t = SoundOf (t .letter) m t
 
 -- every number of a list lies within b
 abbrev pub Within : ℕ → List ℤ → Type 0
-Within b xs = (h : ℕ) → h < length xs → natAbs (getD xs h (pos 0)) ≤ b
+Within b xs = (h : ℕ) → natAbs (getD xs h (pos 0)) ≤ b
 
 -- field lists of one length, for 12 terms at most
 pub record Fields (kinds values d i k : List ℤ) : Type 0 where

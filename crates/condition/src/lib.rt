@@ -5,6 +5,7 @@ use reply::{Figure, Refusal, Reply};
 
 mod checks;
 mod closing;
+mod tally;
 mod term;
 
 // The kind of a condition. An angle condition has a target; a side condition has none.

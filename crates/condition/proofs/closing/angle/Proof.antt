@@ -48,8 +48,8 @@ module _ (c : tie.After-direction2) where
 
   turn-fits : SFits w64 (to -ℤ from)
   turn-fits =
-      let x = bounded to (direction-size directions (s .pre .1) (natAbs (t .k)) (s .pre .0 .k .high)) in
-      let y = bounded from (direction-size directions (s .pre .1) (natAbs (t .i)) (s .pre .0 .i .high)) in
+      let x = bounded to (direction-size directions (s .pre .1) (natAbs (t .k))) in
+      let y = bounded from (direction-size directions (s .pre .1) (natAbs (t .i))) in
       fits-in (search bounds) tt
 
 sub-modulo : tie.Need-sub-modulo
