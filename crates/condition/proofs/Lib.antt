@@ -3,3 +3,4 @@ pub mod Checking
 pub mod Accepting
 pub mod Parts
 pub mod Shares
+pub mod Answering

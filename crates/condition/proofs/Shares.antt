@@ -1,4 +1,5 @@
 -- Laws of what a term adds to the coefficients. Assumes nothing.
+--   tally-none       a tally to which nothing was added holds 0
 --   only-more                           one number of a list raised by x
 --   only-size, share-size, tally-size   sizes: a number at one place, what a term adds to one direction, and what n terms add
 --   only-sum, turned-sum                a number added at one place alone; an angle's two parts cancel
@@ -13,7 +14,7 @@ use native.Mathlib.Omega.{arith}
 use borrow.Author.Tests.{eq-eqb, ne-eqb, eqb-true, eqb-false}
 use lib.Dec.{eqb}
 use lib.IntN.{ℤ, pos, negℤ, natAbs, _+ℤ_, +ℤ-idl, +ℤ-idr, +ℤ-invl}
-use lib.ListN.{length, getD, set}
+use lib.ListN.{length, getD, set, replicate}
 use lib.Seq.{getD-set-same, getD-set-other}
 use Rattle.exact.specs.Sum.{sum}
 use Rattle.exact.proofs.Bound.{abs-add, abs-neg}
@@ -27,7 +28,13 @@ use Rattle.condition.specs.Rules.{Lent, term, checks, coefficient}
 use Rattle.condition.specs.Sound.{Number, Ends, SideTerm, SoundOf, Sound, AllSound}
 use Rattle.condition.proofs.Accepting.{accepted}
 
--- ---- one number raised
+-- ---- a tally
+pub tally-none : (m n : ℕ) → getD (replicate m (pos 0)) n (pos 0) ≡ pos 0
+tally-none zero n = refl
+tally-none (suc m) zero = refl
+tally-none (suc m) (suc n) = tally-none m n
+
+-- one number raised
 pub only-more : (xs : List ℤ) (h : ℕ) (x : ℤ) → h < length xs → (n : ℕ) →
     getD (set xs h (getD xs h (pos 0) +ℤ x)) n (pos 0) ≡ getD xs n (pos 0) +ℤ only h x n
 only-more xs h x l n = by-test (eqb h n) refl

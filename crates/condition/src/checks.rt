@@ -4,9 +4,10 @@ ghost use Prim.Native.Nat.{_≤_};
 ghost use lib.ListN.{length};
 ghost use Rattle.condition.specs.Rules.{lent, termAt, miscounted, directionFault, directionsCheck, targetCheck, termsCheck, checks};
 ghost use Rattle.condition.specs.Sound.{Fields};
-use crate::term;
 use crate::Kind;
-use reply::{Refusal, Reply};
+use crate::term;
+use reply::Refusal;
+use reply::Reply;
 
 // Whether a count is out of range or two lengths disagree: m directions with their q, n terms with their fields.
 fn miscounted(m: usize, q: usize, n: usize, values: usize, d: usize, i: usize, k: usize) -> bool
@@ -80,7 +81,15 @@ fn target_check(kind: Kind, target: i64) -> Reply
 }
 
 // The terms in their order.
-fn terms_check(kind: Kind, m: i64, kinds: &[i64], values: &[i64], d: &[i64], i: &[i64], k: &[i64]) -> Reply
+fn terms_check(
+    kind: Kind,
+    m: i64,
+    kinds: &[i64],
+    values: &[i64],
+    d: &[i64],
+    i: &[i64],
+    k: &[i64],
+) -> Reply
     requires { ⌜ Fields (now kinds) (now values) (now d) (now i) (now k) ⌝ }
     ensures { λ r. ⌜ r ≡ termsCheck kind m (length (now (kinds .entry))) (termAt (now (kinds .entry)) (now (values .entry)) (now (d .entry)) (now (i .entry)) (now (k .entry))) ⌝ }
 {
@@ -98,10 +107,28 @@ fn terms_check(kind: Kind, m: i64, kinds: &[i64], values: &[i64], d: &[i64], i: 
 }
 
 // All checks, in the order of the rules. Both operations make them, and these alone decide refusals 1 to 3.
-pub fn all(directions: &[i64], q: &[i64], kind: Kind, target: i64, kinds: &[i64], values: &[i64], d: &[i64], i: &[i64], k: &[i64]) -> Reply
+pub fn all(
+    directions: &[i64],
+    q: &[i64],
+    kind: Kind,
+    target: i64,
+    kinds: &[i64],
+    values: &[i64],
+    d: &[i64],
+    i: &[i64],
+    k: &[i64],
+) -> Reply
     ensures { λ r. ⌜ r ≡ checks (lent (now (directions .entry)) (now (q .entry)) kind target (now (kinds .entry)) (now (values .entry)) (now (d .entry)) (now (i .entry)) (now (k .entry))) ⌝ }
 {
-    if miscounted(directions.len(), q.len(), kinds.len(), values.len(), d.len(), i.len(), k.len()) {
+    if miscounted(
+        directions.len(),
+        q.len(),
+        kinds.len(),
+        values.len(),
+        d.len(),
+        i.len(),
+        k.len(),
+    ) {
         return Reply::Refused(Refusal::Count(0));
     }
     let of_directions = directions_check(directions, q);

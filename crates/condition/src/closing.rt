@@ -8,8 +8,10 @@ ghost use Rattle.reply.specs.Checks.{figureOf};
 ghost use Rattle.condition.specs.Rules.{termAt, judged};
 ghost use Rattle.condition.specs.Sound.{Number, Ends, Sound, Within, Fields, AllSound};
 use crate::term;
-use crate::term::{Letter, Term};
-use reply::{Figure, Refusal};
+use crate::term::Letter;
+use crate::term::Term;
+use reply::Figure;
+use reply::Refusal;
 
 // The value of a direction number: number 0 is the fixed initial, 1 to m stand in the list.
 fn direction(directions: &[i64], number: i64) -> i64
@@ -51,7 +53,14 @@ fn part(directions: &[i64], t: Term) -> i64
 }
 
 // What all terms add.
-pub fn total(directions: &[i64], kinds: &[i64], values: &[i64], d: &[i64], i: &[i64], k: &[i64]) -> i64
+pub fn total(
+    directions: &[i64],
+    kinds: &[i64],
+    values: &[i64],
+    d: &[i64],
+    i: &[i64],
+    k: &[i64],
+) -> i64
     requires lists { ⌜ Fields (now kinds) (now values) (now d) (now i) (now k) ⌝ }
     requires small { ⌜ Within 1296000000 (now directions) ⌝ }
     requires terms { ⌜ AllSound (length (now directions)) (length (now kinds)) (termAt (now kinds) (now values) (now d) (now i) (now k)) ⌝ }

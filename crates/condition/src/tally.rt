@@ -12,7 +12,8 @@ ghost use Rattle.condition.specs.Terms.{only, turned, share};
 ghost use Rattle.condition.specs.Rules.{termAt};
 ghost use Rattle.condition.specs.Sound.{Ends, Sound, Within, Fields, AllSound};
 use crate::term;
-use crate::term::{Letter, Term};
+use crate::term::Letter;
+use crate::term::Term;
 
 // x more at the number h.
 fn added(mut tally: [i64; 65], h: usize, x: i64) -> [i64; 65]

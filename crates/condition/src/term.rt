@@ -8,7 +8,8 @@ ghost use Rattle.condition.specs.Terms.{letterOf, outside, suits, astray
 ghost use Rattle.condition.specs.Rules.{termAt, termCheck};
 ghost use Rattle.condition.specs.Sound.{Fields};
 use crate::Kind;
-use reply::{Refusal, Reply};
+use reply::Refusal;
+use reply::Reply;
 
 // The kind of a term, by its letter in the network file: an angle, a fixed angle, a left and a right side term.
 pub enum Letter {
