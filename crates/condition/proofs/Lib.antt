@@ -4,3 +4,5 @@ pub mod Accepting
 pub mod Parts
 pub mod Shares
 pub mod Answering
+pub mod Unique
+pub mod Figures

@@ -9,6 +9,9 @@ use crate::term;
 use reply::Refusal;
 use reply::Reply;
 
+// The largest target of an angle condition.
+const MOST_TARGET: i64 = 12 * term::CIRCLE;
+
 // Whether a count is out of range or two lengths disagree: m directions with their q, n terms with their fields.
 fn miscounted(m: usize, q: usize, n: usize, values: usize, d: usize, i: usize, k: usize) -> bool
     ensures { λ r. ⌜ r ≡ miscounted m q n values d i k ⌝ }
@@ -44,7 +47,7 @@ fn miscounted(m: usize, q: usize, n: usize, values: usize, d: usize, i: usize, k
 fn direction_fault(direction: i64, q: i64) -> bool
     ensures { λ r. ⌜ r ≡ directionFault direction q ⌝ }
 {
-    if term::outside(0, 1_295_999_999, direction) {
+    if term::outside(0, term::LAST_READING, direction) {
         return true;
     }
     term::outside(1, 10, q)
@@ -71,7 +74,7 @@ fn target_check(kind: Kind, target: i64) -> Reply
 {
     match kind {
         Kind::Angle => {
-            if term::outside(0, 15_552_000_000, target) {
+            if term::outside(0, MOST_TARGET, target) {
                 return Reply::Refused(Refusal::OutOfRange(0));
             }
             Reply::Accepted

@@ -11,6 +11,20 @@ use crate::Kind;
 use reply::Refusal;
 use reply::Reply;
 
+// A circle of 360 degrees, in 0.001 second, and the last reading before it is full.
+pub const CIRCLE: i64 = 1_296_000_000;
+
+pub const LAST_READING: i64 = CIRCLE - 1;
+
+// The codes of the letters by which kinds of terms are lent.
+const P: i64 = b'P' as i64;
+
+const F: i64 = b'F' as i64;
+
+const L: i64 = b'L' as i64;
+
+const R: i64 = b'R' as i64;
+
 // The kind of a term, by its letter in the network file: an angle, a fixed angle, a left and a right side term.
 pub enum Letter {
     P,
@@ -32,16 +46,16 @@ pub struct Term {
 pub fn read(code: i64) -> Letter
     ensures { λ r. ⌜ r ≡ letterOf code ⌝ }
 {
-    if code == 80 {
+    if code == P {
         return Letter::P;
     }
-    if code == 70 {
+    if code == F {
         return Letter::F;
     }
-    if code == 76 {
+    if code == L {
         return Letter::L;
     }
-    if code == 82 {
+    if code == R {
         return Letter::R;
     }
     Letter::Unknown
@@ -147,7 +161,7 @@ pub fn fault(m: i64, t: Term) -> bool
         }
         Letter::F => {
             let value = t.value;
-            outside(0, 1_295_999_999, value)
+            outside(0, LAST_READING, value)
         }
         Letter::L => side_fault(m, t),
         Letter::R => side_fault(m, t),
