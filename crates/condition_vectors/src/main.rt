@@ -1,0 +1,682 @@
+// Runs both operations on conditions at the ends of every range, and prints what they answer: first the coefficients' reply and the lent list
+// as it is left (it held 7 everywhere), then the misclosure. What it must print was worked out apart from it.
+use condition::Kind;
+use libc::STDOUT_FILENO;
+use reply::Figure;
+use reply::Refusal;
+use reply::Reply;
+ghost use Prim.Native.Nat.{_≤_};
+
+const LEAST: i64 = -9_223_372_036_854_775_808;
+
+const MOST: i64 = 9_223_372_036_854_775_807;
+
+const P: i64 = 80;
+
+const F: i64 = 70;
+
+const L: i64 = 76;
+
+const R: i64 = 82;
+
+fn print(v: i64) {
+    io::write_all(STDOUT_FILENO, b" ");
+    if v < 0 {
+        io::write_all(STDOUT_FILENO, b"-");
+    }
+    io::print_decimal(STDOUT_FILENO, exact::magnitude(v));
+}
+
+fn print_list(a: &[i64]) {
+    let mut h: usize = 0;
+    while h < a.len() {
+        print(a[h]);
+        h += 1;
+    }
+}
+
+fn print_kind(kind: Kind) {
+    match kind {
+        Kind::Angle => {
+            io::write_all(STDOUT_FILENO, b" A");
+        }
+        Kind::Side => {
+            io::write_all(STDOUT_FILENO, b" S");
+        }
+    }
+}
+
+fn print_refusal(why: Refusal) {
+    io::write_all(STDOUT_FILENO, b" refused ");
+    io::print_decimal(STDOUT_FILENO, reply::number(why));
+    io::write_all(STDOUT_FILENO, b" ");
+    io::print_decimal(STDOUT_FILENO, reply::place(why));
+}
+
+// The rest of a line: what the two operations answer, and what the first leaves in a.
+fn show(
+    directions: &[i64],
+    q: &[i64],
+    kind: Kind,
+    target: i64,
+    kinds: &[i64],
+    values: &[i64],
+    d: &[i64],
+    i: &[i64],
+    k: &[i64],
+    a: &mut [i64],
+) {
+    io::write_all(STDOUT_FILENO, b":");
+    let answer = condition::coefficients(directions, q, kind, target, kinds, values, d, i, k, a);
+    match answer {
+        Reply::Accepted => {
+            io::write_all(STDOUT_FILENO, b" accepted");
+        }
+        Reply::Refused(why) => print_refusal(why),
+    }
+    io::write_all(STDOUT_FILENO, b":");
+    print_list(a);
+    io::write_all(STDOUT_FILENO, b"; w");
+    let w = condition::misclosure(directions, q, kind, target, kinds, values, d, i, k);
+    match w {
+        Figure::Value(v) => print(v),
+        Figure::Refused(why) => print_refusal(why),
+    }
+    io::write_all(STDOUT_FILENO, b"\n");
+}
+
+// Lists of these lengths, of fixed angles of 0: every number is in range.
+fn counts(m: usize, q: usize, n: usize, values: usize, d: usize, i: usize, k: usize, room: usize)
+    requires { ⌜ (m ≤ 66) × ((q ≤ 66) × (room ≤ 66)) ⌝ }
+    requires { ⌜ (n ≤ 14) × ((values ≤ 14) × ((d ≤ 14) × ((i ≤ 14) × (k ≤ 14)))) ⌝ }
+{
+    io::write_all(STDOUT_FILENO, b"counts");
+    print_list(
+        &[
+            m as i64,
+            q as i64,
+            n as i64,
+            values as i64,
+            d as i64,
+            i as i64,
+            k as i64,
+            room as i64,
+        ],
+    );
+    let directions = [0i64; 66];
+    let weights = [1i64; 66];
+    let kinds = [F; 14];
+    let value_list = [0i64; 14];
+    let d_list = [0i64; 14];
+    let i_list = [0i64; 14];
+    let k_list = [0i64; 14];
+    let mut a = [7i64; 66];
+    show(
+        &directions[..m],
+        &weights[..q],
+        Kind::Angle,
+        0,
+        &kinds[..n],
+        &value_list[..values],
+        &d_list[..d],
+        &i_list[..i],
+        &k_list[..k],
+        &mut a[..room],
+    );
+}
+
+// The angle P 0 2 among 64 directions, of which the first and the last are given with their q.
+fn directions(first: i64, first_q: i64, last: i64, last_q: i64) {
+    io::write_all(STDOUT_FILENO, b"directions");
+    let given = [first, first_q, last, last_q];
+    print_list(&given);
+    let mut directions = [5i64; 64];
+    let mut q = [1i64; 64];
+    directions[0] = first;
+    directions[63] = last;
+    q[0] = first_q;
+    q[63] = last_q;
+    let mut a = [7i64; 64];
+    show(
+        &directions,
+        &q,
+        Kind::Angle,
+        5,
+        &[P],
+        &[0],
+        &[0],
+        &[0],
+        &[2],
+        &mut a,
+    );
+}
+
+// A condition of one term among the three directions of the rules' figure 3.
+fn one(kind: Kind, target: i64, code: i64, value: i64, d: i64, i: i64, k: i64) {
+    io::write_all(STDOUT_FILENO, b"one");
+    print_kind(kind);
+    let given = [target, code, value, d, i, k];
+    print_list(&given);
+    let directions = [216_000_000, 216_003_000, 215_997_000];
+    let q = [1, 10, 5];
+    let mut a = [7i64; 3];
+    show(
+        &directions,
+        &q,
+        kind,
+        target,
+        &[code],
+        &[value],
+        &[d],
+        &[i],
+        &[k],
+        &mut a,
+    );
+}
+
+// A condition of three terms among the same directions.
+fn three(
+    kind: Kind,
+    target: i64,
+    kinds: [i64; 3],
+    values: [i64; 3],
+    d: [i64; 3],
+    i: [i64; 3],
+    k: [i64; 3],
+) {
+    io::write_all(STDOUT_FILENO, b"three");
+    print_kind(kind);
+    print(target);
+    print_list(&kinds);
+    print_list(&values);
+    print_list(&d);
+    print_list(&i);
+    print_list(&k);
+    let directions = [216_000_000, 216_003_000, 215_997_000];
+    let q = [1, 10, 5];
+    let mut a = [7i64; 3];
+    show(
+        &directions,
+        &q,
+        kind,
+        target,
+        &kinds,
+        &values,
+        &d,
+        &i,
+        &k,
+        &mut a,
+    );
+}
+
+// A condition of 12 terms among 64 directions: the first and the last as given, by kind, value, d, i and k; between them fixed angles of 0 or
+// fixed lengths.
+fn ends(kind: Kind, first: [i64; 5], last: [i64; 5]) {
+    io::write_all(STDOUT_FILENO, b"ends");
+    print_kind(kind);
+    print_list(&first);
+    print_list(&last);
+    let between = match kind {
+        Kind::Angle => F,
+        Kind::Side => L,
+    };
+    let mut kinds = [between; 12];
+    let mut values = [0i64; 12];
+    let mut d = [0i64; 12];
+    let mut i = [0i64; 12];
+    let mut k = [0i64; 12];
+    kinds[0] = first[0];
+    values[0] = first[1];
+    d[0] = first[2];
+    i[0] = first[3];
+    k[0] = first[4];
+    kinds[11] = last[0];
+    values[11] = last[1];
+    d[11] = last[2];
+    i[11] = last[3];
+    k[11] = last[4];
+    let directions = [5i64; 64];
+    let q = [1i64; 64];
+    let mut a = [7i64; 64];
+    show(
+        &directions,
+        &q,
+        kind,
+        10,
+        &kinds,
+        &values,
+        &d,
+        &i,
+        &k,
+        &mut a,
+    );
+}
+
+// 2, place 0: m from 1 to 64, n from 1 to 12, and each length that disagrees.
+fn of_counts() {
+    counts(1, 1, 1, 1, 1, 1, 1, 1);
+    counts(0, 0, 1, 1, 1, 1, 1, 0);
+    counts(64, 64, 12, 12, 12, 12, 12, 64);
+    counts(65, 65, 1, 1, 1, 1, 1, 65);
+    counts(2, 2, 0, 0, 0, 0, 0, 2);
+    counts(2, 2, 13, 13, 13, 13, 13, 2);
+    counts(2, 1, 3, 3, 3, 3, 3, 2);
+    counts(2, 3, 3, 3, 3, 3, 3, 2);
+    counts(2, 2, 3, 2, 3, 3, 3, 2);
+    counts(2, 2, 3, 4, 3, 3, 3, 2);
+    counts(2, 2, 3, 3, 2, 3, 3, 2);
+    counts(2, 2, 3, 3, 4, 3, 3, 2);
+    counts(2, 2, 3, 3, 3, 2, 3, 2);
+    counts(2, 2, 3, 3, 3, 4, 3, 2);
+    counts(2, 2, 3, 3, 3, 3, 2, 2);
+    counts(2, 2, 3, 3, 3, 3, 4, 2);
+    counts(2, 2, 3, 3, 3, 3, 3, 1);
+    counts(2, 2, 3, 3, 3, 3, 3, 3);
+    counts(2, 2, 3, 3, 3, 3, 3, 0);
+}
+
+// 3 by direction number, at the first and at the last of 64.
+fn of_directions() {
+    directions(0, 1, 1295999999, 10);
+    directions(1295999999, 10, 0, 1);
+    directions(-1, 1, 5, 1);
+    directions(1296000000, 1, 5, 1);
+    directions(5, 0, 5, 1);
+    directions(5, 11, 5, 1);
+    directions(5, 1, -1, 1);
+    directions(5, 1, 1296000000, 1);
+    directions(5, 1, 5, 0);
+    directions(5, 1, 5, 11);
+    directions(5, 1, LEAST, 1);
+    directions(5, LEAST, 5, 1);
+    directions(MOST, 1, 5, MOST);
+    directions(5, 11, -1, 1);
+}
+
+// 3, place 0: an angle condition's target; a side condition's is not read.
+fn of_targets() {
+    one(Kind::Angle, 0, F, 0, 0, 0, 0);
+    one(Kind::Angle, -1, F, 0, 0, 0, 0);
+    one(Kind::Angle, 15552000000, F, 1295999999, 0, 0, 0);
+    one(Kind::Angle, 15552000001, F, 0, 0, 0, 0);
+    one(Kind::Angle, LEAST, P, 0, 0, 0, 0);
+    one(Kind::Side, LEAST, L, 0, 5, 0, 1);
+    one(Kind::Side, -1, R, 0, 5, 0, 1);
+    one(Kind::Side, MOST, L, 0, 0, 0, 0);
+}
+
+// 1: a kind that does not fit, before the same term's 3.
+fn of_kinds() {
+    one(Kind::Angle, 0, P, 0, 0, 0, 1);
+    one(Kind::Side, 0, P, 0, 0, 0, 1);
+    one(Kind::Angle, 0, F, 0, 0, 0, 1);
+    one(Kind::Side, 0, F, 0, 0, 0, 1);
+    one(Kind::Angle, 0, L, 0, 0, 0, 1);
+    one(Kind::Side, 0, L, 0, 0, 0, 1);
+    one(Kind::Angle, 0, R, 0, 0, 0, 1);
+    one(Kind::Side, 0, R, 0, 0, 0, 1);
+    one(Kind::Angle, 0, 0, 0, 0, 0, 1);
+    one(Kind::Angle, 0, -80, 0, 0, 0, 1);
+    one(Kind::Angle, 0, 79, 0, 0, 0, 1);
+    one(Kind::Angle, 0, 81, 0, 0, 0, 1);
+    one(Kind::Angle, 0, 112, 0, 0, 0, 1);
+    one(Kind::Angle, 0, 4294967376, 0, 0, 0, 1);
+    one(Kind::Angle, 0, LEAST, 0, 0, 0, 1);
+    one(Kind::Angle, 0, MOST, 0, 0, 0, 1);
+    one(Kind::Side, 0, P, -1, 5000, 9, 9);
+    one(Kind::Angle, 0, R, -1, 5000, 9, 9);
+}
+
+// 3 in an angle term: i and k from 0 to m, and i = k; its value and d are not read.
+fn of_angles() {
+    one(Kind::Angle, 216000000, P, 0, 0, 0, 1);
+    one(Kind::Angle, 0, P, 0, 0, 3, 0);
+    one(Kind::Angle, 0, P, 0, 0, -1, 1);
+    one(Kind::Angle, 0, P, 0, 0, 4, 1);
+    one(Kind::Angle, 0, P, 0, 0, 1, -1);
+    one(Kind::Angle, 0, P, 0, 0, 1, 4);
+    one(Kind::Angle, 0, P, 0, 0, 0, 0);
+    one(Kind::Angle, 0, P, 0, 0, 3, 3);
+    one(Kind::Angle, 0, P, 0, 0, LEAST, 1);
+    one(Kind::Angle, 0, P, 0, 0, 1, LEAST);
+    one(Kind::Angle, 0, P, 0, 0, MOST, MOST);
+    one(Kind::Angle, 3000, P, LEAST, MOST, 1, 2);
+    one(Kind::Angle, 1295997000, P, 0, 0, 2, 1);
+}
+
+// 3 in a fixed angle: its value; its d, i and k are not read.
+fn of_fixed_angles() {
+    one(Kind::Angle, 0, F, 0, LEAST, MOST, MOST);
+    one(Kind::Angle, 1295999999, F, 1295999999, 0, 0, 0);
+    one(Kind::Angle, 0, F, -1, 0, 0, 0);
+    one(Kind::Angle, 0, F, 1296000000, 0, 0, 0);
+    one(Kind::Angle, 0, F, LEAST, 0, 0, 0);
+    one(Kind::Angle, 0, F, MOST, 0, 0, 0);
+}
+
+// 3 in a side term: the logarithm, d, i and k, and i = k where it is no fixed length.
+fn of_side_terms() {
+    one(Kind::Side, 0, L, 0, 2000, 0, 1);
+    one(Kind::Side, 0, R, 0, -2000, 3, 0);
+    one(Kind::Side, 0, L, -1, 1, 0, 1);
+    one(Kind::Side, 0, L, 200000001, 1, 0, 1);
+    one(Kind::Side, 0, R, 0, 2001, 0, 1);
+    one(Kind::Side, 0, R, 0, -2001, 0, 1);
+    one(Kind::Side, 0, L, 0, 1, -1, 1);
+    one(Kind::Side, 0, L, 0, 1, 4, 1);
+    one(Kind::Side, 0, R, 0, 1, 1, -1);
+    one(Kind::Side, 0, R, 0, 1, 1, 4);
+    one(Kind::Side, 0, L, 0, 0, 1, 3);
+    one(Kind::Side, 0, L, LEAST, 0, 0, 0);
+    one(Kind::Side, 0, L, 0, LEAST, 0, 1);
+    one(Kind::Side, 0, L, 10000, 0, 0, 0);
+    one(Kind::Side, 0, R, 10000, 0, 0, 0);
+    one(Kind::Side, 0, L, 0, 1, 0, 0);
+    one(Kind::Side, 0, R, 0, -1, 0, 0);
+    one(Kind::Side, 0, L, 0, 0, 2, 2);
+    one(Kind::Side, 0, R, 0, 7, 3, 3);
+    one(Kind::Side, 0, L, 0, LEAST, LEAST, LEAST);
+    three(
+        Kind::Side,
+        0,
+        [L, R, L],
+        [200000000, 200000000, 0],
+        [0, 0, 0],
+        [0, 0, 0],
+        [0, 0, 0],
+    );
+}
+
+// 1 and 3 at the first and at the last of 12 terms; the earlier term speaks first.
+fn of_places() {
+    ends(Kind::Angle, [F, 5, 0, 0, 0], [F, 5, 0, 0, 0]);
+    ends(Kind::Angle, [P, 0, 0, 0, 64], [P, 0, 0, 0, 64]);
+    ends(Kind::Angle, [L, 0, 0, 0, 1], [F, 5, 0, 0, 0]);
+    ends(Kind::Angle, [F, 5, 0, 0, 0], [L, 0, 0, 0, 1]);
+    ends(Kind::Angle, [P, 0, 0, 1, 1], [F, 5, 0, 0, 0]);
+    ends(Kind::Angle, [F, 5, 0, 0, 0], [P, 0, 0, 1, 1]);
+    ends(Kind::Angle, [F, 5, 0, 0, 0], [P, 0, 0, 65, 1]);
+    ends(Kind::Angle, [F, -1, 0, 0, 0], [77, 0, 0, 0, 0]);
+    ends(Kind::Angle, [77, 0, 0, 0, 0], [F, -1, 0, 0, 0]);
+    ends(Kind::Side, [L, 0, 0, 0, 0], [R, 0, 9, 64, 1]);
+    ends(Kind::Side, [P, 0, 0, 0, 1], [L, 0, 0, 0, 0]);
+    ends(Kind::Side, [L, 0, 0, 0, 0], [F, 0, 0, 0, 1]);
+    ends(Kind::Side, [L, -1, 0, 0, 0], [L, 0, 0, 0, 0]);
+    ends(Kind::Side, [L, 0, 0, 0, 0], [R, 0, 2001, 0, 1]);
+}
+
+// 4: a total beyond 2,000, tested after all terms; direction 0 is never tested.
+fn of_coefficients() {
+    three(
+        Kind::Side,
+        0,
+        [L, L, R],
+        [0, 0, 0],
+        [1000, 1000, 5],
+        [0, 0, 2],
+        [1, 1, 3],
+    );
+    three(
+        Kind::Side,
+        0,
+        [L, L, R],
+        [0, 0, 0],
+        [1000, 1001, 5],
+        [0, 0, 2],
+        [1, 1, 3],
+    );
+    three(
+        Kind::Side,
+        0,
+        [R, R, L],
+        [0, 0, 0],
+        [1000, 1000, 5],
+        [0, 0, 1],
+        [3, 3, 2],
+    );
+    three(
+        Kind::Side,
+        0,
+        [R, R, L],
+        [0, 0, 0],
+        [1000, 1001, 5],
+        [0, 0, 1],
+        [3, 3, 2],
+    );
+    three(
+        Kind::Side,
+        0,
+        [L, L, R],
+        [0, 0, 0],
+        [2000, 2000, 2000],
+        [0, 0, 0],
+        [1, 1, 1],
+    );
+    three(
+        Kind::Side,
+        0,
+        [L, L, L],
+        [0, 0, 0],
+        [2000, 2000, -2000],
+        [1, 1, 1],
+        [2, 2, 2],
+    );
+    three(
+        Kind::Side,
+        0,
+        [L, L, L],
+        [0, 0, 0],
+        [2000, 2000, -1999],
+        [1, 1, 1],
+        [2, 2, 2],
+    );
+    three(
+        Kind::Side,
+        0,
+        [L, L, L],
+        [0, 0, 0],
+        [2000, 2000, 2000],
+        [0, 0, 0],
+        [1, 2, 3],
+    );
+    three(
+        Kind::Side,
+        0,
+        [R, R, R],
+        [0, 0, 0],
+        [2000, 2000, 2000],
+        [0, 0, 0],
+        [1, 2, 3],
+    );
+    ends(Kind::Side, [L, 0, 2000, 0, 64], [L, 0, 1, 0, 64]);
+    ends(Kind::Side, [L, 0, 2000, 0, 1], [L, 0, 1, 0, 1]);
+    ends(Kind::Side, [L, 0, 2000, 0, 64], [R, 0, 2000, 0, 64]);
+}
+
+// a direction that several terms name, and whose coefficients cancel.
+fn of_cancelling() {
+    three(
+        Kind::Angle,
+        1296000000,
+        [P, P, F],
+        [0, 0, 0],
+        [0, 0, 0],
+        [1, 2, 0],
+        [2, 1, 0],
+    );
+    three(
+        Kind::Angle,
+        1296000000,
+        [P, P, P],
+        [0, 0, 0],
+        [0, 0, 0],
+        [1, 2, 3],
+        [2, 3, 1],
+    );
+    three(
+        Kind::Angle,
+        1296000000,
+        [P, P, P],
+        [0, 0, 0],
+        [0, 0, 0],
+        [0, 1, 2],
+        [1, 2, 0],
+    );
+    three(
+        Kind::Angle,
+        9000,
+        [P, P, P],
+        [0, 0, 0],
+        [0, 0, 0],
+        [1, 3, 3],
+        [2, 2, 1],
+    );
+    three(
+        Kind::Side,
+        0,
+        [L, R, R],
+        [5, 2, 2],
+        [150, 150, 30],
+        [1, 1, 2],
+        [2, 2, 3],
+    );
+    three(
+        Kind::Side,
+        0,
+        [L, L, R],
+        [7, 8, 9],
+        [12, -12, 1],
+        [1, 1, 0],
+        [3, 3, 2],
+    );
+    three(
+        Kind::Side,
+        0,
+        [L, L, L],
+        [0, 0, 0],
+        [40, 30, -20],
+        [1, 2, 3],
+        [2, 3, 1],
+    );
+}
+
+// 5: w beyond 1,000,000, and angles taken modulo C one by one.
+fn of_misclosures() {
+    three(
+        Kind::Angle,
+        648000000,
+        [P, P, F],
+        [0, 0, 216000000],
+        [0, 0, 0],
+        [0, 0, 0],
+        [1, 2, 0],
+    );
+    three(
+        Kind::Angle,
+        648000000,
+        [P, P, F],
+        [0, 0, 216000000],
+        [0, 0, 0],
+        [0, 0, 0],
+        [2, 3, 0],
+    );
+    one(Kind::Angle, 1000000, F, 0, 0, 0, 0);
+    one(Kind::Angle, 1000001, F, 0, 0, 0, 0);
+    one(Kind::Angle, 0, F, 1000000, 0, 0, 0);
+    one(Kind::Angle, 0, F, 1000001, 0, 0, 0);
+    three(
+        Kind::Angle,
+        2592000000,
+        [P, P, P],
+        [0, 0, 0],
+        [0, 0, 0],
+        [2, 1, 3],
+        [1, 3, 2],
+    );
+    three(
+        Kind::Angle,
+        3888000000,
+        [P, P, F],
+        [0, 0, 1295999999],
+        [0, 0, 0],
+        [2, 2, 0],
+        [1, 1, 0],
+    );
+    three(
+        Kind::Angle,
+        15552000000,
+        [F, F, F],
+        [1295999999, 1295999999, 1295999999],
+        [0, 0, 0],
+        [0, 0, 0],
+        [0, 0, 0],
+    );
+    three(
+        Kind::Side,
+        0,
+        [L, R, L],
+        [10000, 0, 0],
+        [1, 1, 1],
+        [0, 0, 0],
+        [1, 2, 3],
+    );
+    three(
+        Kind::Side,
+        0,
+        [L, R, L],
+        [10001, 0, 0],
+        [1, 1, 1],
+        [0, 0, 0],
+        [1, 2, 3],
+    );
+    three(
+        Kind::Side,
+        0,
+        [R, L, R],
+        [0, 0, 10000],
+        [1, 1, 1],
+        [0, 0, 0],
+        [1, 2, 3],
+    );
+    three(
+        Kind::Side,
+        0,
+        [R, L, R],
+        [1, 0, 10000],
+        [1, 1, 1],
+        [0, 0, 0],
+        [1, 2, 3],
+    );
+    three(
+        Kind::Side,
+        0,
+        [L, R, R],
+        [200000000, 100000000, 99995000],
+        [5, 6, 7],
+        [1, 2, 3],
+        [2, 3, 1],
+    );
+    three(
+        Kind::Side,
+        0,
+        [L, L, R],
+        [0, 0, 200000000],
+        [5, 6, 7],
+        [1, 2, 3],
+        [2, 3, 1],
+    );
+}
+
+fn main() {
+    of_counts();
+    of_directions();
+    of_targets();
+    of_kinds();
+    of_angles();
+    of_fixed_angles();
+    of_side_terms();
+    of_places();
+    of_coefficients();
+    of_cancelling();
+    of_misclosures();
+}
