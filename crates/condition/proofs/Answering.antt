@@ -2,7 +2,7 @@
 --   no-room, not-checked, too-large     the three refusals
 --   all-right                           the reply where nothing is at fault
 --   kept, filled                        what the list holds after a refusal, and after acceptance
-use mathlib.Core.Path.{_≡_, refl, sym}
+use mathlib.Core.Path.{_≡_}
 use mathlib.Core.Bool.{true, false}
 use mathlib.Core.List.{List}
 use Prim.Native.Nat.{ℕ, _+_}
@@ -12,7 +12,6 @@ use lib.ListN.{length}
 use Rattle.exact.specs.Tabulate.{tabulate}
 use Rattle.reply.specs.declared.Refusal.{Refusal}
 use Rattle.reply.specs.declared.Refusal.the-variants.{Count, Coefficient}
-use Rattle.reply.specs.declared.Reply.{Reply}
 use Rattle.reply.specs.declared.Reply.the-variants.{Accepted, Refused}
 use Rattle.condition.specs.Rules.{Lent, checks, coefficient, beyond, coefficientsReply, coefficientsList}
 

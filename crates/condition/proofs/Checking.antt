@@ -4,15 +4,13 @@
 --   first-accepted, first-refused      a check of many things, by the loop that goes through them
 --   turn-none, turn-more, turn-stops   checks in turn, by the loop that makes them
 --   turn-each                          where all accept together, each does
-use mathlib.Core.Path.{_≡_, refl, sym, _∙_, ap, subst}
+use mathlib.Core.Path.{_≡_, refl, subst}
 use mathlib.Core.Bool.{Bool, true, false}
-use Prim.Native.Nat.{ℕ, zero, suc, _+_, _<_, _≤_}
+use Prim.Native.Nat.{ℕ, zero, suc, _+_, _<_}
 use native.Mathlib.Decide.{decLt}
 use native.Mathlib.Numerals.{add-one}
 use native.Mathlib.Omega.{arith}
-use borrow.Author.Tests.{lt-ltb, le-ltb}
-use Rattle.exact.specs.First.{first}
-use Rattle.exact.proofs.Searching.{Failed, first-at, first-none, some-at, some-none, all-failed}
+use Rattle.exact.proofs.Searching.{Failed, first-at, some-at, some-none, all-failed}
 use Rattle.reply.specs.declared.Refusal.{Refusal}
 use Rattle.reply.specs.declared.Reply.{Reply}
 use Rattle.reply.specs.declared.Reply.the-variants.{Accepted, Refused}

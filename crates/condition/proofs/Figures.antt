@@ -10,9 +10,8 @@ use Rattle.exact.specs.First.{first}
 use Rattle.exact.specs.Sum.{sum}
 use Rattle.exact.specs.Tabulate.{tabulate}
 use Rattle.reply.specs.declared.Refusal.the-variants.{OutOfRange}
-use Rattle.reply.specs.declared.Reply.the-variants.{Accepted, Refused}
+use Rattle.reply.specs.declared.Reply.the-variants.{Refused}
 use Rattle.reply.specs.declared.Figure.the-variants.{Value, Refused as NoFigure}
-use Rattle.condition.specs.declared.Kind.{Kind}
 use Rattle.condition.specs.declared.Kind.the-variants.{Angle, Side}
 use Rattle.condition.specs.Terms.{letterOf, share, angle, part}
 use Rattle.condition.specs.Rules.{Lent, lent, miscounted, directionsCheck, inTurn, termsCheck, checks, coefficient, coefficientsReply, coefficientsList, misclosure, misclosureFigure}

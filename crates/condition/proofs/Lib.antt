@@ -4,5 +4,6 @@ pub mod Accepting
 pub mod Parts
 pub mod Shares
 pub mod Answering
+pub mod Unread
 pub mod Unique
 pub mod Figures

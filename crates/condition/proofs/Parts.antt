@@ -5,12 +5,11 @@
 --   part-size, total-size           what a term adds, and what n terms add
 use mathlib.Core.Path.{_≡_, refl, ap}
 use mathlib.Core.List.{List, [], _∷_}
-use Prim.Native.Nat.{ℕ, zero, suc, _*_, _-_, _<_, _≤_}
+use Prim.Native.Nat.{ℕ, zero, suc, _-_, _≤_}
 use native.Mathlib.Omega.{arith}
 use lib.IntN.{ℤ, pos, natAbs, _-ℤ_}
-use lib.ListN.{length, getD}
+use lib.ListN.{getD}
 use lib.Signed.{_≤ℤ_, _<ℤ_}
-use Rattle.exact.specs.Circle.{modulo}
 use Rattle.exact.specs.Sum.{sum}
 use Rattle.exact.proofs.Linear.{unknowns, orders, one-sided}
 use Rattle.exact.proofs.Bound.{abs-neg}

@@ -2,12 +2,12 @@
 --   same-yes, same-no         a = b, and not
 --   bits-same, bits-other     what `a == b` told of two signed numbers
 --   either                    neither of two faults is there where not one of them is
-use mathlib.Core.Path.{_≡_, refl, sym, _∙_, ap, subst}
+use mathlib.Core.Path.{_≡_, refl, sym, ap, subst}
 use mathlib.Core.Bool.{Bool, true, false, _||_}
 use Prim.Native.Nat.{ℕ, _^_}
 use borrow.Author.Tests.{eq-eqb, ne-eqb, eqb-true, eqb-false}
 use lib.Dec.{T, eqb, ltb}
-use lib.IntN.{ℤ, pos, negsuc, natAbs}
+use lib.IntN.{ℤ, pos, negsuc}
 use mir.Syntax.{w64}
 use mir.Val.{SFits, ofZ}
 use Rattle.exact.proofs.Bound.{bits-equal, fits-in, bounded-pos}

@@ -1,6 +1,5 @@
 // The checks that both operations make, in the order of the rules.
 ghost use mathlib.Core.Path.{_≡_};
-ghost use Prim.Native.Nat.{_≤_};
 ghost use lib.ListN.{length};
 ghost use Rattle.condition.specs.Rules.{lent, termAt, miscounted, directionFault, directionsCheck, targetCheck, termsCheck, checks};
 ghost use Rattle.condition.specs.Sound.{Fields};

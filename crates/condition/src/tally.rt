@@ -1,9 +1,8 @@
 // The coefficients: a tally by direction number, 0 to 64, to which each term adds. Number 0 is the fixed initial, and what it gets is dropped.
 ghost use mathlib.Core.Path.{_≡_};
-ghost use mathlib.Core.Bool.{Bool};
 ghost use Prim.Native.Nat.{ℕ, _+_, _<_, _≤_};
 ghost use lib.Dec.{ltb};
-ghost use lib.IntN.{ℤ, pos, negℤ, natAbs, _+ℤ_};
+ghost use lib.IntN.{pos, natAbs, _+ℤ_};
 ghost use lib.ListN.{length, getD};
 ghost use Rattle.exact.specs.First.{some-below};
 ghost use Rattle.exact.specs.Sum.{sum};

@@ -1,8 +1,6 @@
 // One term of a condition: read from the field lists, and checked.
 ghost use mathlib.Core.Path.{_≡_};
-ghost use mathlib.Core.Bool.{_||_};
 ghost use Prim.Native.Nat.{_<_};
-ghost use lib.IntN.{pos};
 ghost use lib.ListN.{length};
 ghost use Rattle.condition.specs.Terms.{letterOf, outside, suits, astray, sideFault, fault};
 ghost use Rattle.condition.specs.Rules.{termAt, termCheck};

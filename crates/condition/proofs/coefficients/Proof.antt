@@ -1,6 +1,5 @@
 -- `condition::coefficients` meets its promise: the checks, then the tally and its range; nothing is stored before the last test. Assumes nothing.
 use mathlib.Core.Path.{_≡_, sym, _∙_}
-use mathlib.Core.Bool.{Bool}
 use Prim.Native.Nat.{ℕ, _+_}
 use native.Mathlib.Omega.{arith}
 use borrow.Author.Needs.{needs}

@@ -10,7 +10,6 @@ use mir.ValLaws.{toZ-ofZ}
 use Rattle.exact.specs.Sum.{sum}
 use Rattle.exact.proofs.Bound.{bounds, bounded, fits-in, fits-of-mag, read}
 use Rattle.reply.specs.declared.Reply.the-variants.{Accepted}
-use Rattle.reply.specs.declared.Figure.{Figure}
 use Rattle.reply.specs.Checks.{figureOf}
 use Rattle.condition.specs.declared.Kind.{Kind}
 use Rattle.condition.specs.declared.Kind.the-variants.{Angle, Side}

@@ -1,16 +1,14 @@
 -- `condition::checks::terms_check` meets its contract: the terms passed are accepted in turn. Assumes nothing.
-use mathlib.Core.Path.{_≡_, refl, sym, _∙_, ap, subst}
+use mathlib.Core.Path.{_≡_, sym, _∙_}
 use Prim.Native.Nat.{ℕ, _+_, _-_, _≤_}
 use native.Mathlib.Omega.{arith}
 use borrow.Author.Needs.{needs}
-use lib.IntN.{ℤ}
 use lib.ListN.{length}
 use mir.Syntax.{w64}
 use mir.Val.{toZ, ofZ}
 use Rattle.exact.proofs.Bound.{read}
 use Rattle.reply.specs.declared.Reply.{Reply}
-use Rattle.reply.specs.declared.Reply.the-variants.{Accepted, Refused}
-use Rattle.condition.specs.declared.Kind.{Kind}
+use Rattle.reply.specs.declared.Reply.the-variants.{Accepted}
 use Rattle.condition.specs.declared.term.Term.{Term}
 use Rattle.condition.specs.Rules.{termCheck, termsCheck, termAt}
 use Rattle.condition.proofs.Checking.{turn-none, turn-more, turn-stops}

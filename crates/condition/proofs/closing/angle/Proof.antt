@@ -1,12 +1,12 @@
 -- `condition::closing::angle` meets its contract. Assumes nothing.
-use mathlib.Core.Path.{_≡_, sym, _∙_, ap}
+use mathlib.Core.Path.{_≡_, _∙_}
 use mathlib.Core.List.{List}
 use borrow.Author.Needs.{needs}
 use lib.IntN.{ℤ, natAbs, _-ℤ_}
 use mir.Syntax.{w64}
 use mir.Val.{SFits, toZ, ofZ}
 use mir.ValLaws.{toZ-ofZ}
-use Rattle.exact.proofs.Bound.{bounds, bounded-by, bounded, fits-in, fits-of-mag, read}
+use Rattle.exact.proofs.Bound.{bounds, bounded, fits-in, fits-of-mag, read}
 use Rattle.condition.specs.declared.term.Term.{Term}
 use Rattle.condition.specs.Terms.{directionAt, angle}
 use Rattle.condition.proofs.Parts.{direction-size}

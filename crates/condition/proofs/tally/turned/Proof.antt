@@ -1,12 +1,12 @@
 -- `condition::tally::turned` meets its contract. Assumes nothing.
-use mathlib.Core.Path.{_≡_, sym, _∙_, ap}
+use mathlib.Core.Path.{_≡_, _∙_}
 use Prim.Native.Nat.{ℕ, _≤_}
 use native.Mathlib.Omega.{arith}
 use lib.IntN.{ℤ, pos, negℤ, natAbs, _+ℤ_, _-ℤ_, +ℤ-idl, +ℤ-assoc}
 use lib.ListN.{getD}
 use lib.Signed.{yes-nonNeg}
 use mir.Syntax.{w64}
-use mir.Val.{SFits, toZ, ofZ}
+use mir.Val.{toZ, ofZ}
 use Rattle.exact.proofs.Bound.{abs-add, abs-neg, fits-within, read}
 use Rattle.condition.specs.declared.term.Term.{Term}
 use Rattle.condition.specs.Terms.{only}

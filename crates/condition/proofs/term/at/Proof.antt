@@ -1,5 +1,4 @@
 -- `condition::term::at` meets its contract. Assumes nothing.
-use mathlib.Core.Path.{_≡_, refl, sym, _∙_, ap}
 use lib.IntN.{pos}
 use lib.ListN.{getD}
 use mir.ValLaws.{toZ-ofZ}
