@@ -29,7 +29,8 @@ abbrev pub outside : ℤ → ℤ → ℤ → Bool
 outside low high z = ltZ z low || ltZ high z
 
 -- ---- the kind of a term
--- "Under A: P i k, and F fixed angle [..]. Under S: L or R, logarithm, d, i, k." A kind is lent as the code of its letter
+-- "Under A: P i k, and F fixed angle [..]. Under S: L or R, logarithm, d, i, k." A kind is lent as the code of its letter: P is 80, F 70,
+-- L 76 and R 82; any other number is no kind
 unfoldable pub letterOf : ℤ → Letter
 letterOf code =
     cond (same code (pos 80)) P (cond (same code (pos 70)) F (cond (same code (pos 76)) L (cond (same code (pos 82)) R Unknown)))

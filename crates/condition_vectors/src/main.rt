@@ -174,26 +174,21 @@ fn one(kind: Kind, target: i64, code: i64, value: i64, d: i64, i: i64, k: i64) {
     );
 }
 
-// A condition of three terms among the same directions.
-fn three(
-    kind: Kind,
-    target: i64,
-    kinds: [i64; 3],
-    values: [i64; 3],
-    d: [i64; 3],
-    i: [i64; 3],
-    k: [i64; 3],
-) {
+// A condition of three terms among the same directions, each by its kind, value, d, i and k.
+fn three(kind: Kind, target: i64, first: [i64; 5], second: [i64; 5], third: [i64; 5]) {
     io::write_all(STDOUT_FILENO, b"three");
     print_kind(kind);
     print(target);
-    print_list(&kinds);
-    print_list(&values);
-    print_list(&d);
-    print_list(&i);
-    print_list(&k);
+    print_list(&first);
+    print_list(&second);
+    print_list(&third);
     let directions = [216_000_000, 216_003_000, 215_997_000];
     let q = [1, 10, 5];
+    let kinds = [first[0], second[0], third[0]];
+    let values = [first[1], second[1], third[1]];
+    let d = [first[2], second[2], third[2]];
+    let i = [first[3], second[3], third[3]];
+    let k = [first[4], second[4], third[4]];
     let mut a = [7i64; 3];
     show(
         &directions,
@@ -207,6 +202,14 @@ fn three(
         &k,
         &mut a,
     );
+}
+
+fn angles(target: i64, first: [i64; 5], second: [i64; 5], third: [i64; 5]) {
+    three(Kind::Angle, target, first, second, third);
+}
+
+fn sides(first: [i64; 5], second: [i64; 5], third: [i64; 5]) {
+    three(Kind::Side, 0, first, second, third);
 }
 
 // A condition of 12 terms among 64 directions: the first and the last as given, by kind, value, d, i and k; between them fixed angles of 0 or
@@ -246,6 +249,34 @@ fn ends(kind: Kind, first: [i64; 5], last: [i64; 5]) {
         &kinds,
         &values,
         &d,
+        &i,
+        &k,
+        &mut a,
+    );
+}
+
+// 12 terms of one kind, from the initial to the directions 1 to 12 of 64.
+fn full(kind: Kind, target: i64, code: i64, value: i64, d: i64) {
+    io::write_all(STDOUT_FILENO, b"full");
+    print_kind(kind);
+    let given = [target, code, value, d];
+    print_list(&given);
+    let directions = [1_295_999_999i64; 64];
+    let q = [10i64; 64];
+    let kinds = [code; 12];
+    let values = [value; 12];
+    let d_list = [d; 12];
+    let i = [0i64; 12];
+    let k = [1, 2, 3, 4, 5, 6, 7, 8, 9, 10, 11, 12];
+    let mut a = [7i64; 64];
+    show(
+        &directions,
+        &q,
+        kind,
+        target,
+        &kinds,
+        &values,
+        &d_list,
         &i,
         &k,
         &mut a,
@@ -376,14 +407,10 @@ fn of_side_terms() {
     one(Kind::Side, 0, L, 0, 0, 2, 2);
     one(Kind::Side, 0, R, 0, 7, 3, 3);
     one(Kind::Side, 0, L, 0, LEAST, LEAST, LEAST);
-    three(
-        Kind::Side,
-        0,
-        [L, R, L],
-        [200000000, 200000000, 0],
-        [0, 0, 0],
-        [0, 0, 0],
-        [0, 0, 0],
+    sides(
+        [L, 200000000, 0, 0, 0],
+        [R, 200000000, 0, 0, 0],
+        [L, 0, 0, 0, 0],
     );
 }
 
@@ -407,264 +434,107 @@ fn of_places() {
 
 // 4: a total beyond 2,000, tested after all terms; direction 0 is never tested.
 fn of_coefficients() {
-    three(
-        Kind::Side,
-        0,
-        [L, L, R],
-        [0, 0, 0],
-        [1000, 1000, 5],
-        [0, 0, 2],
-        [1, 1, 3],
-    );
-    three(
-        Kind::Side,
-        0,
-        [L, L, R],
-        [0, 0, 0],
-        [1000, 1001, 5],
-        [0, 0, 2],
-        [1, 1, 3],
-    );
-    three(
-        Kind::Side,
-        0,
-        [R, R, L],
-        [0, 0, 0],
-        [1000, 1000, 5],
-        [0, 0, 1],
-        [3, 3, 2],
-    );
-    three(
-        Kind::Side,
-        0,
-        [R, R, L],
-        [0, 0, 0],
-        [1000, 1001, 5],
-        [0, 0, 1],
-        [3, 3, 2],
-    );
-    three(
-        Kind::Side,
-        0,
-        [L, L, R],
-        [0, 0, 0],
-        [2000, 2000, 2000],
-        [0, 0, 0],
-        [1, 1, 1],
-    );
-    three(
-        Kind::Side,
-        0,
-        [L, L, L],
-        [0, 0, 0],
-        [2000, 2000, -2000],
-        [1, 1, 1],
-        [2, 2, 2],
-    );
-    three(
-        Kind::Side,
-        0,
-        [L, L, L],
-        [0, 0, 0],
-        [2000, 2000, -1999],
-        [1, 1, 1],
-        [2, 2, 2],
-    );
-    three(
-        Kind::Side,
-        0,
-        [L, L, L],
-        [0, 0, 0],
-        [2000, 2000, 2000],
-        [0, 0, 0],
-        [1, 2, 3],
-    );
-    three(
-        Kind::Side,
-        0,
-        [R, R, R],
-        [0, 0, 0],
-        [2000, 2000, 2000],
-        [0, 0, 0],
-        [1, 2, 3],
-    );
+    sides([L, 0, 1000, 0, 1], [L, 0, 1000, 0, 1], [R, 0, 5, 2, 3]);
+    sides([L, 0, 1000, 0, 1], [L, 0, 1001, 0, 1], [R, 0, 5, 2, 3]);
+    sides([R, 0, 1000, 0, 3], [R, 0, 1000, 0, 3], [L, 0, 5, 1, 2]);
+    sides([R, 0, 1000, 0, 3], [R, 0, 1001, 0, 3], [L, 0, 5, 1, 2]);
+    sides([L, 0, 2000, 0, 1], [L, 0, 2000, 0, 1], [R, 0, 2000, 0, 1]);
+    sides([L, 0, 2000, 1, 2], [L, 0, 2000, 1, 2], [L, 0, -2000, 1, 2]);
+    sides([L, 0, 2000, 1, 2], [L, 0, 2000, 1, 2], [L, 0, -1999, 1, 2]);
+    sides([L, 0, 2000, 0, 1], [L, 0, 2000, 0, 2], [L, 0, 2000, 0, 3]);
+    sides([R, 0, 2000, 0, 1], [R, 0, 2000, 0, 2], [R, 0, 2000, 0, 3]);
     ends(Kind::Side, [L, 0, 2000, 0, 64], [L, 0, 1, 0, 64]);
     ends(Kind::Side, [L, 0, 2000, 0, 1], [L, 0, 1, 0, 1]);
     ends(Kind::Side, [L, 0, 2000, 0, 64], [R, 0, 2000, 0, 64]);
 }
 
-// a direction that several terms name, and whose coefficients cancel.
+// A direction that several terms name, and whose coefficients cancel.
 fn of_cancelling() {
-    three(
-        Kind::Angle,
+    angles(
         1296000000,
-        [P, P, F],
-        [0, 0, 0],
-        [0, 0, 0],
-        [1, 2, 0],
-        [2, 1, 0],
+        [P, 0, 0, 1, 2],
+        [P, 0, 0, 2, 1],
+        [F, 0, 0, 0, 0],
     );
-    three(
-        Kind::Angle,
+    angles(
         1296000000,
-        [P, P, P],
-        [0, 0, 0],
-        [0, 0, 0],
-        [1, 2, 3],
-        [2, 3, 1],
+        [P, 0, 0, 1, 2],
+        [P, 0, 0, 2, 3],
+        [P, 0, 0, 3, 1],
     );
-    three(
-        Kind::Angle,
+    angles(
         1296000000,
-        [P, P, P],
-        [0, 0, 0],
-        [0, 0, 0],
-        [0, 1, 2],
-        [1, 2, 0],
+        [P, 0, 0, 0, 1],
+        [P, 0, 0, 1, 2],
+        [P, 0, 0, 2, 0],
     );
-    three(
-        Kind::Angle,
-        9000,
-        [P, P, P],
-        [0, 0, 0],
-        [0, 0, 0],
-        [1, 3, 3],
-        [2, 2, 1],
-    );
-    three(
-        Kind::Side,
-        0,
-        [L, R, R],
-        [5, 2, 2],
-        [150, 150, 30],
-        [1, 1, 2],
-        [2, 2, 3],
-    );
-    three(
-        Kind::Side,
-        0,
-        [L, L, R],
-        [7, 8, 9],
-        [12, -12, 1],
-        [1, 1, 0],
-        [3, 3, 2],
-    );
-    three(
-        Kind::Side,
-        0,
-        [L, L, L],
-        [0, 0, 0],
-        [40, 30, -20],
-        [1, 2, 3],
-        [2, 3, 1],
-    );
+    angles(9000, [P, 0, 0, 1, 2], [P, 0, 0, 3, 2], [P, 0, 0, 3, 1]);
+    sides([L, 5, 150, 1, 2], [R, 2, 150, 1, 2], [R, 2, 30, 2, 3]);
+    sides([L, 7, 12, 1, 3], [L, 8, -12, 1, 3], [R, 9, 1, 0, 2]);
+    sides([L, 0, 40, 1, 2], [L, 0, 30, 2, 3], [L, 0, -20, 3, 1]);
 }
 
-// 5: w beyond 1,000,000, and angles taken modulo C one by one.
-fn of_misclosures() {
-    three(
-        Kind::Angle,
+// 5 in an angle condition: w beyond 1,000,000; each angle is taken modulo C by itself.
+fn of_angle_misclosures() {
+    angles(
         648000000,
-        [P, P, F],
-        [0, 0, 216000000],
-        [0, 0, 0],
-        [0, 0, 0],
-        [1, 2, 0],
+        [P, 0, 0, 0, 1],
+        [P, 0, 0, 0, 2],
+        [F, 216000000, 0, 0, 0],
     );
-    three(
-        Kind::Angle,
+    angles(
         648000000,
-        [P, P, F],
-        [0, 0, 216000000],
-        [0, 0, 0],
-        [0, 0, 0],
-        [2, 3, 0],
+        [P, 0, 0, 0, 2],
+        [P, 0, 0, 0, 3],
+        [F, 216000000, 0, 0, 0],
     );
     one(Kind::Angle, 1000000, F, 0, 0, 0, 0);
     one(Kind::Angle, 1000001, F, 0, 0, 0, 0);
     one(Kind::Angle, 0, F, 1000000, 0, 0, 0);
     one(Kind::Angle, 0, F, 1000001, 0, 0, 0);
-    three(
-        Kind::Angle,
+    angles(
         2592000000,
-        [P, P, P],
-        [0, 0, 0],
-        [0, 0, 0],
-        [2, 1, 3],
-        [1, 3, 2],
+        [P, 0, 0, 2, 1],
+        [P, 0, 0, 1, 3],
+        [P, 0, 0, 3, 2],
     );
-    three(
-        Kind::Angle,
+    angles(
         3888000000,
-        [P, P, F],
-        [0, 0, 1295999999],
-        [0, 0, 0],
-        [2, 2, 0],
-        [1, 1, 0],
+        [P, 0, 0, 2, 1],
+        [P, 0, 0, 2, 1],
+        [F, 1295999999, 0, 0, 0],
     );
-    three(
-        Kind::Angle,
+    angles(
         15552000000,
-        [F, F, F],
-        [1295999999, 1295999999, 1295999999],
-        [0, 0, 0],
-        [0, 0, 0],
-        [0, 0, 0],
+        [F, 1295999999, 0, 0, 0],
+        [F, 1295999999, 0, 0, 0],
+        [F, 1295999999, 0, 0, 0],
     );
-    three(
-        Kind::Side,
-        0,
-        [L, R, L],
-        [10000, 0, 0],
-        [1, 1, 1],
-        [0, 0, 0],
-        [1, 2, 3],
+}
+
+// 5 in a side condition.
+fn of_side_misclosures() {
+    sides([L, 10000, 1, 0, 1], [R, 0, 1, 0, 2], [L, 0, 1, 0, 3]);
+    sides([L, 10001, 1, 0, 1], [R, 0, 1, 0, 2], [L, 0, 1, 0, 3]);
+    sides([R, 0, 1, 0, 1], [L, 0, 1, 0, 2], [R, 10000, 1, 0, 3]);
+    sides([R, 1, 1, 0, 1], [L, 0, 1, 0, 2], [R, 10000, 1, 0, 3]);
+    sides(
+        [L, 200000000, 5, 1, 2],
+        [R, 100000000, 6, 2, 3],
+        [R, 99995000, 7, 3, 1],
     );
-    three(
-        Kind::Side,
-        0,
-        [L, R, L],
-        [10001, 0, 0],
-        [1, 1, 1],
-        [0, 0, 0],
-        [1, 2, 3],
-    );
-    three(
-        Kind::Side,
-        0,
-        [R, L, R],
-        [0, 0, 10000],
-        [1, 1, 1],
-        [0, 0, 0],
-        [1, 2, 3],
-    );
-    three(
-        Kind::Side,
-        0,
-        [R, L, R],
-        [1, 0, 10000],
-        [1, 1, 1],
-        [0, 0, 0],
-        [1, 2, 3],
-    );
-    three(
-        Kind::Side,
-        0,
-        [L, R, R],
-        [200000000, 100000000, 99995000],
-        [5, 6, 7],
-        [1, 2, 3],
-        [2, 3, 1],
-    );
-    three(
-        Kind::Side,
-        0,
-        [L, L, R],
-        [0, 0, 200000000],
-        [5, 6, 7],
-        [1, 2, 3],
-        [2, 3, 1],
-    );
+    sides([L, 0, 5, 1, 2], [L, 0, 6, 2, 3], [R, 200000000, 7, 3, 1]);
+}
+
+// 12 terms, as large as they can be: the sum of 12 angles, and -24,000 at direction 0.
+fn of_full_conditions() {
+    full(Kind::Angle, 15552000000, F, 1295999999, 0);
+    full(Kind::Angle, 15552000000, P, 0, 0);
+    full(Kind::Side, 0, L, 200000000, 2000);
+    full(Kind::Side, 0, R, 200000000, 2000);
+    full(Kind::Side, 0, L, 0, -2000);
+    full(Kind::Side, 0, R, 833, 2000);
+    full(Kind::Side, 0, R, 834, 2000);
 }
 
 fn main() {
@@ -678,5 +548,7 @@ fn main() {
     of_places();
     of_coefficients();
     of_cancelling();
-    of_misclosures();
+    of_angle_misclosures();
+    of_side_misclosures();
+    of_full_conditions();
 }

@@ -4,11 +4,11 @@ use Prim.Native.Nat.{ℕ, _-_}
 use native.Mathlib.Omega.{arith}
 use borrow.Author.Needs.{needs}
 use lib.IntN.{pos, natAbs}
-use lib.ListN.{getD}
-use lib.Signed.{yes-nonNeg}
+use lib.ListN.{length, getD}
 use mir.Syntax.{w64}
 use mir.Val.{toZ, ofZ}
 use Rattle.exact.proofs.Bound.{read, fits-of-mag}
+use Rattle.condition.proofs.Testing.{number-cast}
 use Rattle.condition.proofs.Parts.{direction-next}
 use Rattle.condition.proofs.closing.direction.Statement.{statement}
 use Rattle.condition.proofs.closing.direction.Tie as tie
@@ -18,7 +18,7 @@ h-read : (c : tie.Start) → natAbs (toZ w64 (ofZ w64 (c .args .number))) ≡ na
 h-read c = ap natAbs (read (c .fits .number))
 
 cast-h : tie.Need-cast-h
-cast-h c = rw (read (c .fits .number)) (yes-nonNeg (c .pre .low), record { fits = omega (arith, c .pre .high, c .good .0 .0) })
+cast-h c = number-cast (length (c .args .directions .now)) (c .args .number) (c .pre) (omega (arith, c .good .0 .1))
 
 returns : tie.Need-returns
 returns c = rw (sym (h-read (c .before)) ∙ c .if1 .taken)

@@ -1,15 +1,12 @@
 -- `condition::closing::part` meets its contract, kind by kind. Assumes nothing.
 use mathlib.Core.Path.{sym, _∙_, ap, subst}
 use borrow.Author.Needs.{needs}
-use lib.IntN.{pos, negℤ, _-ℤ_, +ℤ-idl}
 use lib.ListN.{length}
-use mir.Syntax.{w64}
-use mir.Val.{SFits}
-use mir.ValLaws.{toZ-ofZ}
-use Rattle.exact.proofs.Bound.{bounds, bounded, fits-in, fits-within, fits-of-mag, read}
+use Rattle.exact.proofs.Bound.{fits-of-mag, read}
 use Rattle.condition.specs.declared.term.Letter.{Letter}
 use Rattle.condition.specs.Terms.{partOf, part}
 use Rattle.condition.specs.Sound.{SoundOf, SideTerm}
+use Rattle.condition.proofs.Testing.{negated-fits, negated-read}
 use Rattle.condition.proofs.closing.part.Statement.{statement}
 use Rattle.condition.proofs.closing.part.Tie as tie
 
@@ -38,14 +35,8 @@ module _ (c : tie.After-struct-told3) where
   side : SideTerm (length (s .args .directions .now)) (s .args .t)
   side = subst (λ (l : Letter). SoundOf l (length (s .args .directions .now)) (s .args .t)) (c .before .before .enum-told4 .given .1) (s .pre .0)
 
-  value-fits : SFits w64 (s .args .t .value)
-  value-fits = fits-within (s .args .t .value) (side .value) tt
-
-  turned-fits : SFits w64 (pos 0 -ℤ s .args .t .value)
-  turned-fits = let x = bounded (s .args .t .value) (side .value) in fits-in (search bounds) tt
-
 sub-result : tie.Need-sub-result
-sub-result c = let f = value-fits c in simp toZ-ofZ (turned-fits c)
+sub-result c = negated-fits (s c .args .t .value) (side c .value) tt
 
 enum-told-5 : tie.Need-enum-told-5
 enum-told-5 c = search needs
@@ -68,8 +59,7 @@ returns-3 c = rw (c .before .enum-told3 .given .1) (read (fits-of-mag (c .before
 
 returns-4 : tie.Need-returns-4
 unfolding part
-returns-4 c = let f = value-fits c in let g = turned-fits c in
-    rw (c .before .before .enum-told4 .given .1) (simp toZ-ofZ (+ℤ-idl (negℤ (s c .args .t .value))))
+returns-4 c = rw (c .before .before .enum-told4 .given .1) (negated-read (s c .args .t .value) (side c .value) tt)
 
 returns-5 : tie.Need-returns-5
 unfolding part

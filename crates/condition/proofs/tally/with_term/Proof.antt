@@ -1,18 +1,19 @@
 -- `condition::tally::with_term` meets its contract, kind by kind. Assumes nothing.
 use mathlib.Core.Path.{_≡_, sym, _∙_, ap, subst}
-use Prim.Native.Nat.{ℕ, _≤_}
+use Prim.Native.Nat.{ℕ}
 use native.Mathlib.Omega.{arith}
 use borrow.Author.Needs.{needs}
-use lib.IntN.{ℤ, pos, negℤ, natAbs, _+ℤ_, _-ℤ_, +ℤ-idl, +ℤ-idr}
+use lib.IntN.{ℤ, pos, _+ℤ_, +ℤ-idr}
 use lib.ListN.{getD}
 use mir.Syntax.{w64}
 use mir.Val.{toZ, ofZ}
-use Rattle.exact.proofs.Bound.{abs-neg, fits-within, read}
+use Rattle.exact.proofs.Bound.{fits-within, read}
 use Rattle.condition.specs.declared.term.Letter.{Letter}
 use Rattle.condition.specs.declared.term.Letter.the-variants.{P, F, L, R, Unknown}
 use Rattle.condition.specs.declared.term.Term.{Term}
 use Rattle.condition.specs.Terms.{turned, shareOf, share}
 use Rattle.condition.specs.Sound.{SoundOf, SideTerm}
+use Rattle.condition.proofs.Testing.{negated-small, negated-fits, negated-read}
 use Rattle.condition.proofs.tally.with_term.Statement.{statement}
 use Rattle.condition.proofs.tally.with_term.Tie as tie
 
@@ -32,15 +33,8 @@ module _ (c : tie.Start) where
     unfolding share
     share-as n = ap (λ (l : Letter). before n +ℤ shareOf l t n) (sym e)
 
-  module _ (s : SideTerm 64 t) where
-    d-read : toZ w64 (ofZ w64 (t .d)) ≡ t .d
-    d-read = read (fits-within (t .d) (s .d) tt)
-
-    negated-small : natAbs (negℤ (t .d)) ≤ 2000
-    negated-small = omega (arith, abs-neg (t .d), s .d)
-
-    negated-read : toZ w64 (ofZ w64 (pos 0 -ℤ toZ w64 (ofZ w64 (t .d)))) ≡ negℤ (t .d)
-    negated-read = rw (d-read, +ℤ-idl (negℤ (t .d))) (read (fits-within (negℤ (t .d)) negated-small tt))
+  d-read : SideTerm 64 t → toZ w64 (ofZ w64 (t .d)) ≡ t .d
+  d-read s = read (fits-within (t .d) (s .d) tt)
 
 left : (c : tie.After-enum-told3) → SideTerm 64 (t (c .before .before .before))
 left c = sound-as (c .before .before .before) L (c .enum-told3 .given .1)
@@ -70,13 +64,12 @@ enum-told-4 : tie.Need-enum-told-4
 enum-told-4 c = search needs
 
 sub-turned : tie.Need-sub-turned
-sub-turned c =
-    let s = c .before .before .before in
-    rw (d-read s (right c), +ℤ-idl (negℤ (t s .d))) (fits-within (negℤ (t s .d)) (negated-small s (right c)) tt)
+sub-turned c = negated-fits (t (c .before .before .before) .d) (right c .d) tt
 
 turned-requires-3 : tie.Need-turned-requires-3
 turned-requires-3 c κs =
-    let s = c .before .before .before in (right c .ends, (s .pre .1, rw (negated-read s (right c)) (negated-small s (right c))))
+    let s = c .before .before .before in let d = t s .d in
+    (right c .ends, (s .pre .1, rw (negated-read d (right c .d) tt) (negated-small d (right c .d))))
 
 enum-told-5 : tie.Need-enum-told-5
 enum-told-5 c = search needs
@@ -95,7 +88,7 @@ returns-3 c n =
 returns-4 : tie.Need-returns-4
 returns-4 c n =
     let e = c .before in let s = e .before .before .before in
-    c .turned3 .ensures n ∙ (λ d. before s n +ℤ turned (negated-read s (right e) d) (t s) n) ∙ share-as s R (e .enum-told4 .given .1) n
+    c .turned3 .ensures n ∙ (λ d. before s n +ℤ turned (negated-read (t s .d) (right e .d) tt d) (t s) n) ∙ share-as s R (e .enum-told4 .given .1) n
 
 returns-5 : tie.Need-returns-5
 returns-5 c n = let s = c .before .before .before in sym (+ℤ-idr (before s n)) ∙ share-as s Unknown (c .enum-told5 .given .1) n
