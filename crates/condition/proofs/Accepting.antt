@@ -25,7 +25,7 @@ use Rattle.condition.specs.declared.term.Letter.{Letter}
 use Rattle.condition.specs.declared.term.Letter.the-variants.{P, F, L, R, Unknown}
 use Rattle.condition.specs.declared.term.Term.{Term}
 use Rattle.condition.specs.Terms.{outside, suits, astray, sideFault, faultOf}
-use Rattle.condition.specs.Rules.{Lent, term, unequal, miscounted, countsFault, directionFault, directionFaultAt, directionsCheck, targetCheck, termCheck, termsCheck, checks}
+use Rattle.condition.specs.Rules.{Lent, term, unequal, directionsMiscounted, termsMiscounted, countsFault, directionFault, directionFaultAt, directionsCheck, targetCheck, termCheck, termsCheck, checks}
 use Rattle.condition.specs.Sound.{Number, Ends, SideTerm, SoundOf, Sound, Within, Fields, AllSound}
 use Rattle.condition.proofs.Testing.{either}
 use Rattle.condition.proofs.Checking.{then-accepted, if-accepted, first-each, turn-each}
@@ -42,24 +42,24 @@ alike : (a b : ℕ) → unequal a b ≡ false → a ≡ b
 alike a b e = eqb-true a b (not-false (eqb a b) e)
 
 pub counted : (l : Lent) → countsFault l ≡ false → Counts l
-unfolding miscounted
+unfolding directionsMiscounted termsMiscounted
 counted l e =
     let n = length (l .kinds) in let m = length (l .directions) in
-    let on-k = either _ _ e in
+    let parts = either _ _ e in
+    let on-q = either _ _ (parts .0) in
+    let on-m = either _ _ (on-q .0) in
+    let on-k = either _ _ (parts .1) in
     let on-i = either _ _ (on-k .0) in
     let on-d = either _ _ (on-i .0) in
     let on-values = either _ _ (on-d .0) in
-    let few = either _ _ (on-values .0) in
-    let some = either _ _ (few .0) in
-    let on-q = either _ _ (some .0) in
-    let on-m = either _ _ (on-q .0) in
+    let on-n = either _ _ (on-values .0) in
     record {
       some-directions = ltb-false m 1 (on-m .0);
       few-directions = ltb-false 64 m (on-m .1);
       as-directions = alike (length (l .q)) m (on-q .1);
-      some-terms = ltb-false n 1 (some .1);
+      some-terms = ltb-false n 1 (on-n .0);
       fields = record {
-        few = ltb-false 12 n (few .1);
+        few = ltb-false 12 n (on-n .1);
         as-values = alike (length (l .values)) n (on-values .1);
         as-d = alike (length (l .d)) n (on-d .1);
         as-i = alike (length (l .i)) n (on-i .1);
@@ -127,12 +127,14 @@ target-size Side target e k = absurd (let z : _≡_ {A = ℕ} 0 1 = cc in omega 
 pub accepted : (l : Lent) → checks l ≡ Accepted → Accepts l
 unfolding checks termsCheck
 accepted l e =
+    let m = length (l .directions) in
     let on-counts = then-accepted (refuseIf (countsFault l) (Count 0)) _ e in
     let on-directions = then-accepted (directionsCheck (l .directions) (l .q)) _ (on-counts .1) in
     let on-target = then-accepted (targetCheck (l .kind) (l .target)) _ (on-directions .1) in
+    let each = turn-each (λ j. termCheck (l .kind) (pos m) (j + 1) (term l j)) (length (l .kinds)) (on-target .1) in
     record {
       counts = counted l (if-accepted (countsFault l) (Count 0) (on-counts .0));
       directions = directions-within (l .directions) (l .q) (on-directions .0);
       target = target-size (l .kind) (l .target) (on-target .0);
-      terms = λ j k. sound (length (l .directions)) (term l j) (l .kind) (j + 1) (turn-each (λ j. termCheck (l .kind) (pos (length (l .directions))) (j + 1) (term l j)) (length (l .kinds)) (on-target .1) j k);
+      terms = λ j k. sound m (term l j) (l .kind) (j + 1) (each j k);
     }

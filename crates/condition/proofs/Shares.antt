@@ -1,6 +1,5 @@
 -- Laws of what a term adds to the coefficients. Assumes nothing.
---   tally-none       a tally to which nothing was added holds 0
---   only-more                           one number of a list raised by x
+--   tally-none, only-more               a tally to which nothing was added; one number of a list raised by x
 --   only-size, share-size, tally-size   sizes: a number at one place, what a term adds to one direction, and what n terms add
 --   only-sum, turned-sum                a number added at one place alone; an angle's two parts cancel
 --   share-sum                           over all directions, number 0 counted in, a term adds nothing
@@ -57,7 +56,9 @@ only-size b h x l n = by-test (eqb h n)
 module _ (t : Term) where
   turned-size : (x : ℤ) → natAbs x ≤ 2000 → (n : ℕ) → natAbs (turned x t n) ≤ 4000
   turned-size x l n =
-      omega (arith, abs-add (only (natAbs (t .i)) (negℤ x) n) (only (natAbs (t .k)) x n), only-size 2000 (natAbs (t .i)) (negℤ x) (omega (arith, abs-neg x)) n, only-size 2000 (natAbs (t .k)) x l n)
+      let i-part = only-size 2000 (natAbs (t .i)) (negℤ x) (omega (arith, abs-neg x)) n in
+      let k-part = only-size 2000 (natAbs (t .k)) x l n in
+      omega (arith, abs-add (only (natAbs (t .i)) (negℤ x) n) (only (natAbs (t .k)) x n))
 
   of-kind : (letter : Letter) (m : ℕ) → SoundOf letter m t → (n : ℕ) → natAbs (shareOf letter t n) ≤ 4000
   of-kind P m s n = turned-size (pos 100) (omega arith) n

@@ -48,17 +48,22 @@ abbrev pub term : Lent → ℕ → Term
 term l = termAt (l .kinds) (l .values) (l .d) (l .i) (l .k)
 
 -- ---- the checks that both operations make
--- 2: "Directions m: 1 to 64", "1 to 12 terms", and lists of unequal length
+-- 2: counts out of range, and lists of unequal length
 abbrev pub unequal : ℕ → ℕ → Bool
 unequal a b = not (eqb a b)
 
-unfoldable pub miscounted : ℕ → ℕ → ℕ → ℕ → ℕ → ℕ → ℕ → Bool
-miscounted m q n values d i k =
-    ltb m 1 || ltb 64 m || unequal q m || ltb n 1 || ltb 12 n || unequal values n || unequal d n || unequal i n || unequal k n
+-- "Directions m: 1 to 64", each with its q
+unfoldable pub directionsMiscounted : ℕ → ℕ → Bool
+directionsMiscounted m q = ltb m 1 || ltb 64 m || unequal q m
+
+-- "A condition has 1 to 12 terms", each with all its fields
+unfoldable pub termsMiscounted : ℕ → ℕ → ℕ → ℕ → ℕ → Bool
+termsMiscounted n values d i k = ltb n 1 || ltb 12 n || unequal values n || unequal d n || unequal i n || unequal k n
 
 abbrev pub countsFault : Lent → Bool
 countsFault l =
-    miscounted (length (l .directions)) (length (l .q)) (length (l .kinds)) (length (l .values)) (length (l .d)) (length (l .i)) (length (l .k))
+    directionsMiscounted (length (l .directions)) (length (l .q))
+    || termsMiscounted (length (l .kinds)) (length (l .values)) (length (l .d)) (length (l .i)) (length (l .k))
 
 -- 3, "going by direction number": "direction 0 to C-1", "Inverse weight q: 1 to 10"
 abbrev pub directionFault : ℤ → ℤ → Bool

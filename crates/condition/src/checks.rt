@@ -1,7 +1,7 @@
 // The checks that both operations make, in the order of the rules.
 ghost use mathlib.Core.Path.{_≡_};
 ghost use lib.ListN.{length};
-ghost use Rattle.condition.specs.Rules.{lent, termAt, miscounted, directionFault, directionsCheck, targetCheck, termsCheck, checks};
+ghost use Rattle.condition.specs.Rules.{lent, termAt, directionsMiscounted, termsMiscounted, directionFault, directionsCheck, targetCheck, termsCheck, checks};
 ghost use Rattle.condition.specs.Sound.{Fields};
 use crate::Kind;
 use crate::term;
@@ -11,9 +11,9 @@ use reply::Reply;
 // The largest target of an angle condition.
 const MOST_TARGET: i64 = 12 * term::CIRCLE;
 
-// Whether a count is out of range or two lengths disagree: m directions with their q, n terms with their fields.
-fn miscounted(m: usize, q: usize, n: usize, values: usize, d: usize, i: usize, k: usize) -> bool
-    ensures { λ r. ⌜ r ≡ miscounted m q n values d i k ⌝ }
+// Whether there are too few or too many directions, or not as many q.
+fn directions_miscounted(m: usize, q: usize) -> bool
+    ensures { λ r. ⌜ r ≡ directionsMiscounted m q ⌝ }
 {
     if m < 1 {
         return true;
@@ -21,9 +21,13 @@ fn miscounted(m: usize, q: usize, n: usize, values: usize, d: usize, i: usize, k
     if 64 < m {
         return true;
     }
-    if q != m {
-        return true;
-    }
+    q != m
+}
+
+// Whether there are too few or too many terms, or not as many of a field.
+fn terms_miscounted(n: usize, values: usize, d: usize, i: usize, k: usize) -> bool
+    ensures { λ r. ⌜ r ≡ termsMiscounted n values d i k ⌝ }
+{
     if n < 1 {
         return true;
     }
@@ -122,15 +126,10 @@ pub fn all(
 ) -> Reply
     ensures { λ r. ⌜ r ≡ checks (lent (now (directions .entry)) (now (q .entry)) kind target (now (kinds .entry)) (now (values .entry)) (now (d .entry)) (now (i .entry)) (now (k .entry))) ⌝ }
 {
-    if miscounted(
-        directions.len(),
-        q.len(),
-        kinds.len(),
-        values.len(),
-        d.len(),
-        i.len(),
-        k.len(),
-    ) {
+    if directions_miscounted(directions.len(), q.len()) {
+        return Reply::Refused(Refusal::Count(0));
+    }
+    if terms_miscounted(kinds.len(), values.len(), d.len(), i.len(), k.len()) {
         return Reply::Refused(Refusal::Count(0));
     }
     let of_directions = directions_check(directions, q);
