@@ -25,7 +25,8 @@ use Rattle.condition.specs.declared.term.Letter.{Letter}
 use Rattle.condition.specs.declared.term.Letter.the-variants.{P, F, L, R, Unknown}
 use Rattle.condition.specs.declared.term.Term.{Term}
 use Rattle.condition.specs.Terms.{outside, suits, astray, sideFault, faultOf}
-use Rattle.condition.specs.Rules.{Lent, term, unequal, directionsMiscounted, termsMiscounted, countsFault, directionFault, directionFaultAt, directionsCheck, targetCheck, termCheck, termsCheck, checks}
+use Rattle.condition.specs.Rules.{Lent, term, unequal, directionsMiscounted, termsMiscounted, countsFault, directionFault, directionFaultAt}
+use Rattle.condition.specs.Rules.{directionsCheck, targetCheck, termCheck, termsCheck, checks}
 use Rattle.condition.specs.Sound.{Number, Ends, SideTerm, SoundOf, Sound, Within, Fields, AllSound}
 use Rattle.condition.proofs.Testing.{either}
 use Rattle.condition.proofs.Checking.{then-accepted, if-accepted, first-each, turn-each}

@@ -14,7 +14,8 @@ use Rattle.reply.specs.declared.Reply.the-variants.{Refused}
 use Rattle.reply.specs.declared.Figure.the-variants.{Value, Refused as NoFigure}
 use Rattle.condition.specs.declared.Kind.the-variants.{Angle, Side}
 use Rattle.condition.specs.Terms.{letterOf, share, angle, part}
-use Rattle.condition.specs.Rules.{Lent, lent, directionsMiscounted, termsMiscounted, directionsCheck, inTurn, termsCheck, checks, coefficient, coefficientsReply, coefficientsList, misclosure, misclosureFigure}
+use Rattle.condition.specs.Rules.{Lent, lent, directionsMiscounted, termsMiscounted, directionsCheck, inTurn, termsCheck, checks}
+use Rattle.condition.specs.Rules.{coefficient, coefficientsReply, coefficientsList, misclosure, misclosureFigure}
 
 abbrev directions : List ℤ
 directions = pos 216000000 ∷ pos 216003000 ∷ pos 215997000 ∷ []

@@ -97,7 +97,8 @@ fn terms_check(
     k: &[i64],
 ) -> Reply
     requires { ⌜ Fields (now kinds) (now values) (now d) (now i) (now k) ⌝ }
-    ensures { λ r. ⌜ r ≡ termsCheck kind m (length (now (kinds .entry))) (termAt (now (kinds .entry)) (now (values .entry)) (now (d .entry)) (now (i .entry)) (now (k .entry))) ⌝ }
+    ensures { λ r. ⌜ r ≡ termsCheck kind m (length (now (kinds .entry)))
+        (termAt (now (kinds .entry)) (now (values .entry)) (now (d .entry)) (now (i .entry)) (now (k .entry))) ⌝ }
 {
     let mut j: usize = 0;
     while j < kinds.len() {
@@ -124,7 +125,9 @@ pub fn all(
     i: &[i64],
     k: &[i64],
 ) -> Reply
-    ensures { λ r. ⌜ r ≡ checks (lent (now (directions .entry)) (now (q .entry)) kind target (now (kinds .entry)) (now (values .entry)) (now (d .entry)) (now (i .entry)) (now (k .entry))) ⌝ }
+    ensures { λ r. ⌜ r ≡ checks
+        (lent (now (directions .entry)) (now (q .entry)) kind target
+        (now (kinds .entry)) (now (values .entry)) (now (d .entry)) (now (i .entry)) (now (k .entry))) ⌝ }
 {
     if directions_miscounted(directions.len(), q.len()) {
         return Reply::Refused(Refusal::Count(0));

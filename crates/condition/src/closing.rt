@@ -64,7 +64,8 @@ pub fn total(
     requires lists { ⌜ Fields (now kinds) (now values) (now d) (now i) (now k) ⌝ }
     requires small { ⌜ Within 1296000000 (now directions) ⌝ }
     requires terms { ⌜ AllSound (length (now directions)) (length (now kinds)) (termAt (now kinds) (now values) (now d) (now i) (now k)) ⌝ }
-    ensures { λ r. ⌜ r ≡ sum (length (now (kinds .entry))) (λ j. part (now (directions .entry)) (termAt (now (kinds .entry)) (now (values .entry)) (now (d .entry)) (now (i .entry)) (now (k .entry)) j)) ⌝ }
+    ensures { λ r. ⌜ r ≡ sum (length (now (kinds .entry))) (λ j. part (now (directions .entry))
+        (termAt (now (kinds .entry)) (now (values .entry)) (now (d .entry)) (now (i .entry)) (now (k .entry)) j)) ⌝ }
 {
     let mut so_far: i64 = 0;
     let mut j: usize = 0;

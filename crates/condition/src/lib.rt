@@ -31,8 +31,14 @@ pub fn coefficients(
     k: &[i64],
     a: &mut [i64],
 ) -> Reply
-    ensures reply { λ r. ⌜ r ≡ coefficientsReply (lent (now (directions .entry)) (now (q .entry)) kind target (now (kinds .entry)) (now (values .entry)) (now (d .entry)) (now (i .entry)) (now (k .entry))) (length (now (a .entry))) ⌝ }
-    ensures list { λ r. ⌜ now (a .exit) ≡ coefficientsList (lent (now (directions .entry)) (now (q .entry)) kind target (now (kinds .entry)) (now (values .entry)) (now (d .entry)) (now (i .entry)) (now (k .entry))) (now (a .entry)) ⌝ }
+    ensures reply { λ r. ⌜ r ≡ coefficientsReply
+        (lent (now (directions .entry)) (now (q .entry)) kind target
+        (now (kinds .entry)) (now (values .entry)) (now (d .entry)) (now (i .entry)) (now (k .entry)))
+        (length (now (a .entry))) ⌝ }
+    ensures list { λ r. ⌜ now (a .exit) ≡ coefficientsList
+        (lent (now (directions .entry)) (now (q .entry)) kind target
+        (now (kinds .entry)) (now (values .entry)) (now (d .entry)) (now (i .entry)) (now (k .entry)))
+        (now (a .entry)) ⌝ }
 {
     if a.len() != directions.len() {
         return Reply::Refused(Refusal::Count(0));
@@ -62,7 +68,9 @@ pub fn misclosure(
     i: &[i64],
     k: &[i64],
 ) -> Figure
-    ensures { λ r. ⌜ r ≡ misclosureFigure (lent (now (directions .entry)) (now (q .entry)) kind target (now (kinds .entry)) (now (values .entry)) (now (d .entry)) (now (i .entry)) (now (k .entry))) ⌝ }
+    ensures { λ r. ⌜ r ≡ misclosureFigure
+        (lent (now (directions .entry)) (now (q .entry)) kind target
+        (now (kinds .entry)) (now (values .entry)) (now (d .entry)) (now (i .entry)) (now (k .entry))) ⌝ }
 {
     let checked = checks::all(directions, q, kind, target, kinds, values, d, i, k);
     match checked {

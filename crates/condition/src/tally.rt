@@ -57,7 +57,8 @@ fn with_term(tally: [i64; 65], t: Term) -> [i64; 65]
 pub fn of(kinds: &[i64], values: &[i64], d: &[i64], i: &[i64], k: &[i64]) -> [i64; 65]
     requires lists { ⌜ Fields (now kinds) (now values) (now d) (now i) (now k) ⌝ }
     requires terms { ⌜ AllSound 64 (length (now kinds)) (termAt (now kinds) (now values) (now d) (now i) (now k)) ⌝ }
-    ensures { λ r. ⌜ ((n : ℕ) → getD r n (pos 0) ≡ sum (length (now (kinds .entry))) (λ j. share (termAt (now (kinds .entry)) (now (values .entry)) (now (d .entry)) (now (i .entry)) (now (k .entry)) j) n)) ⌝ }
+    ensures { λ r. ⌜ ((n : ℕ) → getD r n (pos 0) ≡ sum (length (now (kinds .entry)))
+        (λ j. share (termAt (now (kinds .entry)) (now (values .entry)) (now (d .entry)) (now (i .entry)) (now (k .entry)) j) n)) ⌝ }
 {
     let mut tally = [0i64; 65];
     let mut j: usize = 0;
