@@ -212,40 +212,25 @@ fn sides(first: [i64; 5], second: [i64; 5], third: [i64; 5]) {
     three(Kind::Side, 0, first, second, third);
 }
 
-// A condition of 12 terms among 64 directions: the first and the last as given, by kind, value, d, i and k; between them fixed angles of 0 or
-// fixed lengths.
-fn ends(kind: Kind, first: [i64; 5], last: [i64; 5]) {
-    io::write_all(STDOUT_FILENO, b"ends");
-    print_kind(kind);
-    print_list(&first);
-    print_list(&last);
-    let between = match kind {
-        Kind::Angle => F,
-        Kind::Side => L,
-    };
-    let mut kinds = [between; 12];
-    let mut values = [0i64; 12];
-    let mut d = [0i64; 12];
-    let mut i = [0i64; 12];
-    let mut k = [0i64; 12];
-    kinds[0] = first[0];
-    values[0] = first[1];
-    d[0] = first[2];
-    i[0] = first[3];
-    k[0] = first[4];
-    kinds[11] = last[0];
-    values[11] = last[1];
-    d[11] = last[2];
-    i[11] = last[3];
-    k[11] = last[4];
-    let directions = [5i64; 64];
+// A condition of 12 terms among 64 directions, which are all the same.
+fn twelve(
+    kind: Kind,
+    target: i64,
+    direction: i64,
+    kinds: [i64; 12],
+    values: [i64; 12],
+    d: [i64; 12],
+    i: [i64; 12],
+    k: [i64; 12],
+) {
+    let directions = [direction; 64];
     let q = [1i64; 64];
     let mut a = [7i64; 64];
     show(
         &directions,
         &q,
         kind,
-        10,
+        target,
         &kinds,
         &values,
         &d,
@@ -255,31 +240,58 @@ fn ends(kind: Kind, first: [i64; 5], last: [i64; 5]) {
     );
 }
 
-// 12 terms of one kind, from the initial to the directions 1 to 12 of 64.
+// A field of 12 terms: of the first, of the last, and of the ten between them.
+fn field(first: i64, last: i64, between: i64) -> [i64; 12] {
+    [
+        first,
+        between,
+        between,
+        between,
+        between,
+        between,
+        between,
+        between,
+        between,
+        between,
+        between,
+        last,
+    ]
+}
+
+// 12 terms, the first and the last as given, by kind, value, d, i and k; between them fixed angles of 0, or fixed lengths.
+fn ends(kind: Kind, first: [i64; 5], last: [i64; 5]) {
+    io::write_all(STDOUT_FILENO, b"ends");
+    print_kind(kind);
+    print_list(&first);
+    print_list(&last);
+    let between = match kind {
+        Kind::Angle => F,
+        Kind::Side => L,
+    };
+    let kinds = field(first[0], last[0], between);
+    let values = field(first[1], last[1], 0);
+    let d = field(first[2], last[2], 0);
+    let i = field(first[3], last[3], 0);
+    let k = field(first[4], last[4], 0);
+    twelve(kind, 10, 5, kinds, values, d, i, k);
+}
+
+// 12 terms of one kind, from the initial to the directions 1 to 12.
 fn full(kind: Kind, target: i64, code: i64, value: i64, d: i64) {
     io::write_all(STDOUT_FILENO, b"full");
     print_kind(kind);
     let given = [target, code, value, d];
     print_list(&given);
-    let directions = [1_295_999_999i64; 64];
-    let q = [10i64; 64];
-    let kinds = [code; 12];
-    let values = [value; 12];
-    let d_list = [d; 12];
-    let i = [0i64; 12];
     let k = [1, 2, 3, 4, 5, 6, 7, 8, 9, 10, 11, 12];
-    let mut a = [7i64; 64];
-    show(
-        &directions,
-        &q,
+    twelve(
         kind,
         target,
-        &kinds,
-        &values,
-        &d_list,
-        &i,
-        &k,
-        &mut a,
+        1_295_999_999,
+        [code; 12],
+        [value; 12],
+        [d; 12],
+        [0; 12],
+        k,
     );
 }
 
