@@ -1,0 +1,43 @@
+-- The reply of `coefficients` and what it leaves in the lent list, case by case. Assumes nothing.
+--   no-room, not-checked, too-large     the three refusals
+--   all-right                           the reply where nothing is at fault
+--   kept, filled                        what the list holds after a refusal, and after acceptance
+use mathlib.Core.Path.{_≡_}
+use mathlib.Core.Bool.{true, false}
+use mathlib.Core.List.{List}
+use Prim.Native.Nat.{ℕ, _+_}
+use borrow.Author.Tests.{eq-eqb, ne-eqb}
+use lib.IntN.{ℤ}
+use lib.ListN.{length}
+use Rattle.exact.specs.Tabulate.{tabulate}
+use Rattle.reply.specs.declared.Refusal.{Refusal}
+use Rattle.reply.specs.declared.Refusal.the-variants.{Count, Coefficient}
+use Rattle.reply.specs.declared.Reply.the-variants.{Accepted, Refused}
+use Rattle.condition.specs.Rules.{Lent, checks, coefficient, beyond, coefficientsReply, coefficientsList}
+
+module _ (l : Lent) (room : ℕ) where
+  pub no-room : (room ≡ length (l .directions) → ⊥) → coefficientsReply l room ≡ Refused (Count 0)
+  unfolding coefficientsReply
+  no-room n = rw (ne-eqb room (length (l .directions)) n)
+
+  module _ (e : room ≡ length (l .directions)) where
+    pub not-checked : (why : Refusal) → checks l ≡ Refused why → coefficientsReply l room ≡ Refused why
+    unfolding coefficientsReply
+    not-checked why f = rw (eq-eqb room (length (l .directions)) e, f)
+
+    pub too-large : checks l ≡ Accepted → beyond l ≡ true → coefficientsReply l room ≡ Refused (Coefficient 1)
+    unfolding coefficientsReply
+    too-large f g = rw (eq-eqb room (length (l .directions)) e, f, g)
+
+    pub all-right : checks l ≡ Accepted → beyond l ≡ false → coefficientsReply l room ≡ Accepted
+    unfolding coefficientsReply
+    all-right f g = rw (eq-eqb room (length (l .directions)) e, f, g)
+
+module _ (l : Lent) (before : List ℤ) where
+  pub kept : (why : Refusal) → coefficientsReply l (length before) ≡ Refused why → coefficientsList l before ≡ before
+  unfolding coefficientsList
+  kept why e = rw e
+
+  pub filled : coefficientsReply l (length before) ≡ Accepted → coefficientsList l before ≡ tabulate (length (l .directions)) (λ h. coefficient l (h + 1))
+  unfolding coefficientsList
+  filled e = rw e

@@ -1,0 +1,28 @@
+-- `condition::checks::direction_fault` meets its contract. Assumes nothing.
+use mathlib.Core.Path.{_≡_, sym, _∙_}
+use borrow.Author.Needs.{needs}
+use lib.IntN.{pos}
+use mir.ValLaws.{toZ-ofZ}
+use Rattle.condition.specs.Terms.{outside}
+use Rattle.condition.proofs.checks.direction_fault.Statement.{statement}
+use Rattle.condition.proofs.checks.direction_fault.Tie as tie
+
+outside-requires : tie.Need-outside-requires
+outside-requires c κs = search needs
+
+direction-test : (c : tie.After-outside) → c .outside .result ≡ outside (pos 0) (pos 1295999999) (c .before .args .direction)
+direction-test c = let f = c .before .fits .direction in c .outside .ensures ∙ simp toZ-ofZ
+
+returns : tie.Need-returns
+returns c = rw (sym (direction-test (c .before)) ∙ c .if1 .taken)
+
+outside-requires-2 : tie.Need-outside-requires-2
+outside-requires-2 c κs = search needs
+
+returns-2 : tie.Need-returns-2
+returns-2 c =
+    let e = c .before in let f = e .before .before .fits .q in
+    rw (sym (direction-test (e .before)) ∙ e .if1 .left) (c .outside2 .ensures ∙ simp toZ-ofZ)
+
+pub direction-fault-spec : {M : Type 1} → statement M
+direction-fault-spec = tie.close (tie.spec outside-requires returns outside-requires-2 returns-2)

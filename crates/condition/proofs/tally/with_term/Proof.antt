@@ -1,0 +1,113 @@
+-- `condition::tally::with_term` meets its contract, kind by kind. Assumes nothing.
+use mathlib.Core.Path.{_≡_, sym, _∙_, ap, subst}
+use Prim.Native.Nat.{ℕ}
+use native.Mathlib.Omega.{arith}
+use borrow.Author.Needs.{needs}
+use lib.IntN.{ℤ, pos, _+ℤ_, +ℤ-idr}
+use lib.ListN.{getD}
+use mir.Syntax.{w64}
+use mir.Val.{toZ, ofZ}
+use Rattle.exact.proofs.Bound.{fits-within, read}
+use Rattle.condition.specs.declared.term.Letter.{Letter}
+use Rattle.condition.specs.declared.term.Letter.the-variants.{P, F, L, R, Unknown}
+use Rattle.condition.specs.declared.term.Term.{Term}
+use Rattle.condition.specs.Terms.{turned, shareOf, share}
+use Rattle.condition.specs.Sound.{SoundOf, SideTerm}
+use Rattle.condition.proofs.Testing.{negated-small, negated-fits, negated-read}
+use Rattle.condition.proofs.tally.with_term.Statement.{statement}
+use Rattle.condition.proofs.tally.with_term.Tie as tie
+
+-- ---- a term of a known kind
+module _ (c : tie.Start) where
+  abbrev t : Term
+  t = c .args .t
+
+  abbrev before : ℕ → ℤ
+  before n = getD (c .args .tally) n (pos 0)
+
+  module _ (letter : Letter) (e : t .letter ≡ letter) where
+    sound-as : SoundOf letter 64 t
+    sound-as = subst (λ (l : Letter). SoundOf l 64 t) e (c .pre .0)
+
+    share-as : (n : ℕ) → before n +ℤ shareOf letter t n ≡ before n +ℤ share t n
+    unfolding share
+    share-as n = ap (λ (l : Letter). before n +ℤ shareOf l t n) (sym e)
+
+  d-read : SideTerm 64 t → toZ w64 (ofZ w64 (t .d)) ≡ t .d
+  d-read s = read (fits-within (t .d) (s .d) tt)
+
+left : (c : tie.After-enum-told3) → SideTerm 64 (t (c .before .before .before))
+left c = sound-as (c .before .before .before) L (c .enum-told3 .given .1)
+
+right : (c : tie.After-enum-told4) → SideTerm 64 (t (c .before .before .before))
+right c = sound-as (c .before .before .before) R (c .enum-told4 .given .1)
+
+-- ---- the answers
+enum-told : tie.Need-enum-told
+enum-told c = search needs
+
+turned-requires : tie.Need-turned-requires
+turned-requires c κs =
+    let s = c .before .before .before in (sound-as s P (c .enum-told .given .1), (s .pre .1, omega arith))
+
+enum-told-2 : tie.Need-enum-told-2
+enum-told-2 c = search needs
+
+enum-told-3 : tie.Need-enum-told-3
+enum-told-3 c = search needs
+
+turned-requires-2 : tie.Need-turned-requires-2
+turned-requires-2 c κs =
+    let s = c .before .before .before in (left c .ends, (s .pre .1, rw (d-read s (left c)) (left c .d)))
+
+enum-told-4 : tie.Need-enum-told-4
+enum-told-4 c = search needs
+
+sub-turned : tie.Need-sub-turned
+sub-turned c = negated-fits (t (c .before .before .before) .d) (right c .d) tt
+
+turned-requires-3 : tie.Need-turned-requires-3
+turned-requires-3 c κs =
+    let s = c .before .before .before in let d = t s .d in
+    (right c .ends, (s .pre .1, rw (negated-read d (right c .d) tt) (negated-small d (right c .d))))
+
+enum-told-5 : tie.Need-enum-told-5
+enum-told-5 c = search needs
+
+returns : tie.Need-returns
+returns c n = c .turned .ensures n ∙ share-as (c .before .before .before .before) P (c .before .enum-told .given .1) n
+
+returns-2 : tie.Need-returns-2
+returns-2 c n = let s = c .before .before .before in sym (+ℤ-idr (before s n)) ∙ share-as s F (c .enum-told2 .given .1) n
+
+returns-3 : tie.Need-returns-3
+returns-3 c n =
+    let e = c .before in let s = e .before .before .before in
+    c .turned2 .ensures n ∙ (λ d. before s n +ℤ turned (d-read s (left e) d) (t s) n) ∙ share-as s L (e .enum-told3 .given .1) n
+
+returns-4 : tie.Need-returns-4
+returns-4 c n =
+    let e = c .before in let s = e .before .before .before in
+    c .turned3 .ensures n ∙ (λ d. before s n +ℤ turned (negated-read (t s .d) (right e .d) tt d) (t s) n) ∙ share-as s R (e .enum-told4 .given .1) n
+
+returns-5 : tie.Need-returns-5
+returns-5 c n = let s = c .before .before .before in sym (+ℤ-idr (before s n)) ∙ share-as s Unknown (c .enum-told5 .given .1) n
+
+pub with-term-spec : {M : Type 1} → statement M
+with-term-spec =
+    tie.close
+    (tie.spec
+    enum-told
+    turned-requires
+    enum-told-2
+    enum-told-3
+    turned-requires-2
+    enum-told-4
+    sub-turned
+    turned-requires-3
+    enum-told-5
+    returns
+    returns-2
+    returns-3
+    returns-4
+    returns-5)

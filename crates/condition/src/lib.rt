@@ -1,0 +1,85 @@
+// One condition's lent terms: its coefficients and its misclosure. Both operations make the same checks, in checks.rt.
+ghost use mathlib.Core.Path.{_≡_};
+ghost use lib.ListN.{length};
+ghost use Rattle.condition.specs.Rules.{lent, coefficientsReply, coefficientsList, misclosureFigure};
+use reply::Figure;
+use reply::Refusal;
+use reply::Reply;
+
+mod checks;
+mod closing;
+mod tally;
+mod term;
+
+// The kind of a condition. An angle condition has a target; a side condition has none.
+pub enum Kind {
+    Angle,
+    Side,
+}
+
+// The coefficients of one condition, into the lent list a: of directions 1 to m, which are lent with their inverse weights q. The terms are lent
+// by their fields, the kind of each as the code of its letter. A refusal is 1 to 3 of the checks, or 4, and leaves a as it was.
+pub fn coefficients(
+    directions: &[i64],
+    q: &[i64],
+    kind: Kind,
+    target: i64,
+    kinds: &[i64],
+    values: &[i64],
+    d: &[i64],
+    i: &[i64],
+    k: &[i64],
+    a: &mut [i64],
+) -> Reply
+    ensures reply { λ r. ⌜ r ≡ coefficientsReply
+        (lent (now (directions .entry)) (now (q .entry)) kind target
+        (now (kinds .entry)) (now (values .entry)) (now (d .entry)) (now (i .entry)) (now (k .entry)))
+        (length (now (a .entry))) ⌝ }
+    ensures list { λ r. ⌜ now (a .exit) ≡ coefficientsList
+        (lent (now (directions .entry)) (now (q .entry)) kind target
+        (now (kinds .entry)) (now (values .entry)) (now (d .entry)) (now (i .entry)) (now (k .entry)))
+        (now (a .entry)) ⌝ }
+{
+    if a.len() != directions.len() {
+        return Reply::Refused(Refusal::Count(0));
+    }
+    let checked = checks::all(directions, q, kind, target, kinds, values, d, i, k);
+    match checked {
+        Reply::Accepted => {}
+        Reply::Refused(why) => return Reply::Refused(why),
+    }
+    let tally = tally::of(kinds, values, d, i, k);
+    if tally::beyond(tally, directions.len()) {
+        return Reply::Refused(Refusal::Coefficient(1));
+    }
+    tally::hand_over(tally, a);
+    Reply::Accepted
+}
+
+// The misclosure w of the same condition. A refusal is 1 to 3 of the checks, or 5.
+pub fn misclosure(
+    directions: &[i64],
+    q: &[i64],
+    kind: Kind,
+    target: i64,
+    kinds: &[i64],
+    values: &[i64],
+    d: &[i64],
+    i: &[i64],
+    k: &[i64],
+) -> Figure
+    ensures { λ r. ⌜ r ≡ misclosureFigure
+        (lent (now (directions .entry)) (now (q .entry)) kind target
+        (now (kinds .entry)) (now (values .entry)) (now (d .entry)) (now (i .entry)) (now (k .entry))) ⌝ }
+{
+    let checked = checks::all(directions, q, kind, target, kinds, values, d, i, k);
+    match checked {
+        Reply::Accepted => {}
+        Reply::Refused(why) => return Figure::Refused(why),
+    }
+    let total = closing::total(directions, kinds, values, d, i, k);
+    match kind {
+        Kind::Angle => closing::judged(total - target),
+        Kind::Side => closing::judged(100 * total),
+    }
+}

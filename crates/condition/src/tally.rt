@@ -1,0 +1,99 @@
+// The coefficients: a tally by direction number, 0 to 64, to which each term adds. Number 0 is the fixed initial, and what it gets is dropped.
+ghost use mathlib.Core.Path.{_≡_};
+ghost use Prim.Native.Nat.{ℕ, _+_, _<_, _≤_};
+ghost use lib.Dec.{ltb};
+ghost use lib.IntN.{pos, natAbs, _+ℤ_};
+ghost use lib.ListN.{length, getD};
+ghost use Rattle.exact.specs.First.{some-below};
+ghost use Rattle.exact.specs.Sum.{sum};
+ghost use Rattle.exact.specs.Tabulate.{tabulate};
+ghost use Rattle.condition.specs.Terms.{only, turned, share};
+ghost use Rattle.condition.specs.Rules.{termAt};
+ghost use Rattle.condition.specs.Sound.{Ends, Sound, Within, Fields, AllSound};
+use crate::term;
+use crate::term::Letter;
+use crate::term::Term;
+
+// x more at the number h.
+fn added(mut tally: [i64; 65], h: usize, x: i64) -> [i64; 65]
+    requires place { ⌜ h < 65 ⌝ }
+    requires small { ⌜ (Within 50000 tally) × (natAbs x ≤ 2000) ⌝ }
+    ensures { λ r. ⌜ ((n : ℕ) → getD r n (pos 0) ≡ getD tally n (pos 0) +ℤ only h x n) ⌝ }
+{
+    tally[h] = tally[h] + x;
+    tally
+}
+
+// An angle from i to k with the factor x: x less at i, x more at k.
+fn turned(tally: [i64; 65], x: i64, t: Term) -> [i64; 65]
+    requires ends { ⌜ Ends 64 t ⌝ }
+    requires small { ⌜ (Within 48000 tally) × (natAbs x ≤ 2000) ⌝ }
+    ensures { λ r. ⌜ ((n : ℕ) → getD r n (pos 0) ≡ getD tally n (pos 0) +ℤ turned x t n) ⌝ }
+{
+    let i = t.i;
+    let k = t.k;
+    let less = added(tally, i as usize, -x);
+    added(less, k as usize, x)
+}
+
+// What one term adds. A fixed angle adds nothing, and its i and k are not read.
+fn with_term(tally: [i64; 65], t: Term) -> [i64; 65]
+    requires term { ⌜ Sound 64 t ⌝ }
+    requires small { ⌜ Within 48000 tally ⌝ }
+    ensures { λ r. ⌜ ((n : ℕ) → getD r n (pos 0) ≡ getD tally n (pos 0) +ℤ share t n) ⌝ }
+{
+    let letter = t.letter;
+    let d = t.d;
+    match letter {
+        Letter::P => turned(tally, 100, t),
+        Letter::F => tally,
+        Letter::L => turned(tally, d, t),
+        Letter::R => turned(tally, -d, t),
+        Letter::Unknown => tally,
+    }
+}
+
+// The tally of all terms.
+pub fn of(kinds: &[i64], values: &[i64], d: &[i64], i: &[i64], k: &[i64]) -> [i64; 65]
+    requires lists { ⌜ Fields (now kinds) (now values) (now d) (now i) (now k) ⌝ }
+    requires terms { ⌜ AllSound 64 (length (now kinds)) (termAt (now kinds) (now values) (now d) (now i) (now k)) ⌝ }
+    ensures { λ r. ⌜ ((n : ℕ) → getD r n (pos 0) ≡ sum (length (now (kinds .entry)))
+        (λ j. share (termAt (now (kinds .entry)) (now (values .entry)) (now (d .entry)) (now (i .entry)) (now (k .entry)) j) n)) ⌝ }
+{
+    let mut tally = [0i64; 65];
+    let mut j: usize = 0;
+    while j < kinds.len() {
+        let t = term::at(kinds, values, d, i, k, j);
+        let next = with_term(tally, t);
+        tally = next;
+        j += 1;
+    }
+    tally
+}
+
+// Whether one of the directions 1 to m has a coefficient beyond 2,000.
+pub fn beyond(tally: [i64; 65], m: usize) -> bool
+    requires { ⌜ m ≤ 64 ⌝ }
+    ensures { λ r. ⌜ r ≡ some-below m (λ h. ltb 2000 (natAbs (getD tally (h + 1) (pos 0)))) ⌝ }
+{
+    let mut h: usize = 0;
+    while h < m {
+        if 2000 < exact::magnitude(tally[h + 1]) {
+            return true;
+        }
+        h += 1;
+    }
+    false
+}
+
+// The coefficients of directions 1 to m, handed over into the list that the caller lent.
+pub fn hand_over(tally: [i64; 65], a: &mut [i64])
+    requires { ⌜ length (now a) ≤ 64 ⌝ }
+    ensures { λ _. ⌜ now (a .exit) ≡ tabulate (length (now (a .entry))) (λ h. getD tally (h + 1) (pos 0)) ⌝ }
+{
+    let mut h: usize = 0;
+    while h < a.len() {
+        a[h] = tally[h + 1];
+        h += 1;
+    }
+}
