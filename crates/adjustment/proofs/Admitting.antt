@@ -11,11 +11,12 @@ use native.Mathlib.Omega.{arith}
 use borrow.Author.Tests.{ltb-false, eqb-true, not-false}
 use lib.Dec.{ltb, eqb}
 use lib.ListN.{length}
-use lib.IntN.{ℤ, pos, natAbs}
-use lib.Signed.{ltZ, leZ, _≤ℤ_, _<ℤ_}
+use lib.IntN.{ℤ, pos, natAbs, _-ℤ_}
+use lib.Signed.{ltZ, _≤ℤ_}
 use Rattle.exact.specs.Circle.{C}
+use Rattle.exact.specs.Outside.{outside}
 use Rattle.exact.proofs.Linear.{unknowns, orders, one-sided}
-use Rattle.exact.proofs.Order.{lt-false, le-false}
+use Rattle.exact.proofs.Order.{lt-false}
 use Rattle.exact.proofs.Searching.{all-failed}
 use Rattle.reply.specs.declared.Refusal.the-variants.{OutOfRange, Coefficient, Misclosure}
 use Rattle.reply.specs.declared.Reply.the-variants.{Accepted}
@@ -70,12 +71,12 @@ pub record InRange (direction q : ℤ) : Type 0 where
 
 in-range : (d q : ℤ) → outOfRange d q ≡ false → InRange d q
 in-range d q e =
-    let f = neither (ltZ d (pos 0)) (leZ C d || (ltZ q (pos 1) || ltZ (pos 10) q)) e in
-    let g = neither (leZ C d) (ltZ q (pos 1) || ltZ (pos 10) q) (f .1) in
-    let h = neither (ltZ q (pos 1)) (ltZ (pos 10) q) (g .1) in
-    record { size = within d (lt-false (f .0) refl refl) (le-false (g .0) refl refl); q-least = lt-false (h .0) refl refl; q-most = small q (lt-false (h .0) refl refl) (lt-false (h .1) refl refl) }
+    let f = neither (outside (pos 0) (C -ℤ pos 1) d) (outside (pos 1) (pos 10) q) e in
+    let g = neither (ltZ d (pos 0)) (ltZ (C -ℤ pos 1) d) (f .0) in
+    let h = neither (ltZ q (pos 1)) (ltZ (pos 10) q) (f .1) in
+    record { size = within d (lt-false (g .0) refl refl) (lt-false (g .1) refl refl); q-least = lt-false (h .0) refl refl; q-most = small q (lt-false (h .0) refl refl) (lt-false (h .1) refl refl) }
   where
-    within : (d : ℤ) → pos 0 ≤ℤ d → d <ℤ C → natAbs d ≤ 1296000000
+    within : (d : ℤ) → pos 0 ≤ℤ d → d ≤ℤ pos 1295999999 → natAbs d ≤ 1296000000
     within d a b = let v = unknowns (d ∷ []) in omega (arith, orders, one-sided)
 
     small : (q : ℤ) → pos 1 ≤ℤ q → q ≤ℤ pos 10 → natAbs q ≤ 10

@@ -17,7 +17,7 @@ use Rattle.reply.specs.declared.Refusal.{Refusal}
 use Rattle.reply.specs.declared.Refusal.the-variants.{Count, Remainder}
 use Rattle.reply.specs.declared.Reply.{Reply}
 use Rattle.reply.specs.declared.Reply.the-variants.{Accepted, Refused}
-use Rattle.reply.specs.Checks.{_andThen_}
+use Rattle.reply.specs.Checks.{_andThen_, leaves}
 use Rattle.reply.proofs.Checking.{none-refused, both-accepted}
 use Rattle.direction.specs.Ranges.{directionsReply}
 use Rattle.adjustment.specs.Table.{Table, at, tableOf}
@@ -25,7 +25,7 @@ use Rattle.adjustment.specs.Solution.{K}
 use Rattle.adjustment.specs.Corrections.{V-of, R-of, Q-of}
 use Rattle.adjustment.specs.Refusals.{countsAmiss, lengthsAmiss, conditionsReply, rowsReply, correlatesReply, remaindersReply, solutionReply, inputReply}
 use Rattle.adjustment.specs.Demand.{Demand3}
-use Rattle.adjustment.specs.Promise.{Answers, adjustReply, answersOf, leaves, Adjusts}
+use Rattle.adjustment.specs.Promise.{Answers, adjustReply, answersOf, Adjusts}
 use Rattle.adjustment.specs.Inner.{Sound}
 use Rattle.adjustment.proofs.Demands.{demand-3, demand-ext}
 

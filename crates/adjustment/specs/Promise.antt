@@ -6,8 +6,8 @@ use lib.ListN.{length}
 use lib.IntN.{ℤ}
 use Rattle.exact.specs.Tabulate.{tabulate}
 use Rattle.reply.specs.declared.Reply.{Reply}
-use Rattle.reply.specs.declared.Reply.the-variants.{Accepted, Refused}
-use Rattle.reply.specs.Checks.{_andThen_}
+use Rattle.reply.specs.declared.Reply.the-variants.{Accepted}
+use Rattle.reply.specs.Checks.{_andThen_, leaves}
 use Rattle.adjustment.specs.Table.{Table, at, tableOf}
 use Rattle.adjustment.specs.Solution.{K}
 use Rattle.adjustment.specs.Corrections.{V-of, R-of, u-of, adjusted-of, Q-of}
@@ -42,11 +42,6 @@ answersOf t k direction = record {
   remainders = tabulate (t .n) (R-of t k);
   misses = tabulate (t .n) (Q-of t k);
 }
-
--- the lent lists afterwards: the answers, or in a refusal what was lent
-abbrev pub leaves : Reply → (answers lent : Answers) → Answers
-leaves Accepted answers lent = answers
-leaves (Refused why) answers lent = lent
 
 pub record Adjusts (ds qs cs ws : List ℤ) (lent : Answers) (reply : Reply) (left : Answers) : Type 0 where
   pub answer : reply ≡ adjustReply ds qs cs ws lent

@@ -24,12 +24,15 @@ use Rattle.condition.specs.declared.Kind.the-variants.{Angle, Side}
 use Rattle.condition.specs.declared.term.Letter.{Letter}
 use Rattle.condition.specs.declared.term.Letter.the-variants.{P, F, L, R, Unknown}
 use Rattle.condition.specs.declared.term.Term.{Term}
-use Rattle.condition.specs.Terms.{outside, suits, astray, sideFault, faultOf}
-use Rattle.condition.specs.Rules.{Lent, term, unequal, directionsMiscounted, termsMiscounted, countsFault, directionFault, directionFaultAt}
-use Rattle.condition.specs.Rules.{directionsCheck, targetCheck, termCheck, termsCheck, checks}
+use Rattle.exact.specs.Outside.{outside}
+use Rattle.condition.specs.Terms.{suits, astray, sideFault, faultOf}
+use Rattle.direction.specs.Ranges.{outOfRange}
+use Rattle.direction.specs.Ranges.{faultAt}
+use Rattle.condition.specs.Rules.{Lent, term, unequal, directionsMiscounted, termsMiscounted, countsFault}
+use Rattle.direction.specs.Ranges.{directionsReply}
+use Rattle.condition.specs.Rules.{targetCheck, termCheck, termsCheck, checks}
 use Rattle.condition.specs.Sound.{Number, Ends, SideTerm, SoundOf, Sound, Within, Fields, AllSound}
-use Rattle.condition.proofs.Testing.{either}
-use Rattle.condition.proofs.Checking.{then-accepted, if-accepted, first-each, turn-each}
+use Rattle.reply.proofs.Checking.{neither, both-accepted, if-accepted, none-refused, turn-each}
 
 -- ---- counts and lengths
 pub record Counts (l : Lent) : Type 0 where
@@ -46,14 +49,14 @@ pub counted : (l : Lent) → countsFault l ≡ false → Counts l
 unfolding directionsMiscounted termsMiscounted
 counted l e =
     let n = length (l .kinds) in let m = length (l .directions) in
-    let parts = either _ _ e in
-    let on-q = either _ _ (parts .0) in
-    let on-m = either _ _ (on-q .0) in
-    let on-k = either _ _ (parts .1) in
-    let on-i = either _ _ (on-k .0) in
-    let on-d = either _ _ (on-i .0) in
-    let on-values = either _ _ (on-d .0) in
-    let on-n = either _ _ (on-values .0) in
+    let parts = neither _ _ e in
+    let on-q = neither _ _ (parts .0) in
+    let on-m = neither _ _ (on-q .0) in
+    let on-k = neither _ _ (parts .1) in
+    let on-i = neither _ _ (on-k .0) in
+    let on-d = neither _ _ (on-i .0) in
+    let on-values = neither _ _ (on-d .0) in
+    let on-n = neither _ _ (on-values .0) in
     record {
       some-directions = ltb-false m 1 (on-m .0);
       few-directions = ltb-false 64 m (on-m .1);
@@ -70,7 +73,7 @@ counted l e =
 
 -- ---- ranges
 pub not-outside : (low high z : ℤ) → outside low high z ≡ false → (low ≤ℤ z) × (z ≤ℤ high)
-not-outside low high z e = let r = either _ _ e in (lt-false (r .0) refl refl, lt-false (r .1) refl refl)
+not-outside low high z e = let r = neither _ _ e in (lt-false (r .0) refl refl, lt-false (r .1) refl refl)
 
 pub number : (m : ℕ) (z : ℤ) → outside (pos 0) (pos m) z ≡ false → Number m z
 number m z e =
@@ -85,15 +88,15 @@ within-2000 z e =
 -- ---- a term
 module _ (m : ℕ) (t : Term) where
   ends : astray (pos m) t ≡ false → Ends m t
-  ends e = let r = either _ _ e in record { i = number m (t .i) (r .0); k = number m (t .k) (r .1) }
+  ends e = let r = neither _ _ e in record { i = number m (t .i) (r .0); k = number m (t .k) (r .1) }
 
   side : sideFault (pos m) t ≡ false → SideTerm m t
   side e =
-      let on-ends = either _ _ (either _ _ e .0) in let on-d = either _ _ (on-ends .0) in
+      let on-ends = neither _ _ (neither _ _ e .0) in let on-d = neither _ _ (on-ends .0) in
       record { value = number 200000000 (t .value) (on-d .0) .high; d = within-2000 (t .d) (on-d .1); ends = ends (on-ends .1) }
 
   of-kind : (letter : Letter) → faultOf letter (pos m) t ≡ false → SoundOf letter m t
-  of-kind P e = ends (either _ _ e .0)
+  of-kind P e = ends (neither _ _ e .0)
   of-kind F e = omega (arith, number 1295999999 (t .value) e .high)
   of-kind L e = side e
   of-kind R e = side e
@@ -101,7 +104,7 @@ module _ (m : ℕ) (t : Term) where
 
   pub sound : (kind : Kind) (ordinal : ℕ) → termCheck kind (pos m) ordinal t ≡ Accepted → Sound m t
   sound kind ordinal e =
-      of-kind (t .letter) (if-accepted _ (OutOfRange ordinal) (then-accepted (refuseIf (not (suits kind (t .letter))) (Malformed ordinal)) _ e .1))
+      of-kind (t .letter) (if-accepted _ (OutOfRange ordinal) (both-accepted (refuseIf (not (suits kind (t .letter))) (Malformed ordinal)) _ e .1))
 
 -- ---- all that was lent
 pub record Accepts (l : Lent) : Type 0 where
@@ -110,15 +113,15 @@ pub record Accepts (l : Lent) : Type 0 where
   pub target : l .kind ≡ Angle → natAbs (l .target) ≤ 15552000000
   pub terms : AllSound (length (l .directions)) (length (l .kinds)) (term l)
 
-direction-size : (direction q : ℤ) → directionFault direction q ≡ false → natAbs direction ≤ 1296000000
-direction-size direction q e = omega (arith, number 1295999999 direction (either _ _ e .0) .high)
+direction-size : (direction q : ℤ) → outOfRange direction q ≡ false → natAbs direction ≤ 1296000000
+direction-size direction q e = omega (arith, number 1295999999 direction (neither _ _ e .0) .high)
 
-directions-within : (directions q : List ℤ) → directionsCheck directions q ≡ Accepted → Within 1296000000 directions
-unfolding directionsCheck
+directions-within : (directions q : List ℤ) → directionsReply directions q ≡ Accepted → Within 1296000000 directions
+unfolding directionsReply
 directions-within directions q e h = by-place (decLt h (length directions))
   where
     by-place : Dec (h < length directions) → natAbs (getD directions h (pos 0)) ≤ 1296000000
-    by-place (yes l) = direction-size (getD directions h (pos 0)) (getD q h (pos 0)) (first-each (length directions) (directionFaultAt directions q) (λ h. OutOfRange (h + 1)) e h l)
+    by-place (yes l) = direction-size (getD directions h (pos 0)) (getD q h (pos 0)) (none-refused (length directions) (faultAt directions q) (λ h. OutOfRange (h + 1)) e h l)
     by-place (no l) = rw (List·getD-eq-default directions (pos 0) {n = h} (omega arith)) (omega arith)
 
 target-size : (kind : Kind) (target : ℤ) → targetCheck kind target ≡ Accepted → kind ≡ Angle → natAbs target ≤ 15552000000
@@ -129,9 +132,9 @@ pub accepted : (l : Lent) → checks l ≡ Accepted → Accepts l
 unfolding checks termsCheck
 accepted l e =
     let m = length (l .directions) in
-    let on-counts = then-accepted (refuseIf (countsFault l) (Count 0)) _ e in
-    let on-directions = then-accepted (directionsCheck (l .directions) (l .q)) _ (on-counts .1) in
-    let on-target = then-accepted (targetCheck (l .kind) (l .target)) _ (on-directions .1) in
+    let on-counts = both-accepted (refuseIf (countsFault l) (Count 0)) _ e in
+    let on-directions = both-accepted (directionsReply (l .directions) (l .q)) _ (on-counts .1) in
+    let on-target = both-accepted (targetCheck (l .kind) (l .target)) _ (on-directions .1) in
     let each = turn-each (λ j. termCheck (l .kind) (pos m) (j + 1) (term l j)) (length (l .kinds)) (on-target .1) in
     record {
       counts = counted l (if-accepted (countsFault l) (Count 0) (on-counts .0));

@@ -1,5 +1,4 @@
 pub mod Testing
-pub mod Checking
 pub mod Accepting
 pub mod Parts
 pub mod Shares

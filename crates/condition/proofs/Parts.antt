@@ -18,7 +18,8 @@ use Rattle.exact.proofs.Sum.{sum-abs}
 use Rattle.condition.specs.declared.term.Letter.{Letter}
 use Rattle.condition.specs.declared.term.Letter.the-variants.{P, F, L, R, Unknown}
 use Rattle.condition.specs.declared.term.Term.{Term}
-use Rattle.condition.specs.Terms.{C, directionAt, angle, partOf, part}
+use Rattle.exact.specs.Circle.{C}
+use Rattle.condition.specs.Terms.{directionAt, angle, partOf, part}
 use Rattle.condition.specs.Sound.{SoundOf, Sound, Within, AllSound}
 
 module _ (directions : List ℤ) where

@@ -1,11 +1,10 @@
 -- What the code's tests, casts and signs come to in the words of the rules. Assumes nothing.
---   either                                       neither of two faults is there where not one of them is
 --   same-yes, same-no                            a = b, and not
 --   bits-same, bits-other, bits-test             what `a == b` tells of two signed numbers; numeral-fits: of a numeral
 --   negated-small, negated-fits, negated-read    -x, which the code forms as 0 - x
 --   number-read, number-cast                     a direction number, cast for an index
 use mathlib.Core.Path.{_≡_, refl, sym, _∙_, ap, subst}
-use mathlib.Core.Bool.{Bool, true, false, _||_}
+use mathlib.Core.Bool.{Bool, true, false}
 use Prim.Native.Nat.{ℕ, _<_, _≤_, _^_}
 use native.Mathlib.Omega.{arith}
 use borrow.Author.Tests.{eq-eqb, ne-eqb, eqb-true, eqb-false}
@@ -17,10 +16,6 @@ use mir.Val.{Fits, SFits, toZ, ofZ}
 use Rattle.exact.proofs.Bound.{abs-neg, abs-fits, bits-equal, bounded-pos, fits-in, fits-within, read}
 use Rattle.condition.specs.Terms.{same}
 use Rattle.condition.specs.Sound.{Number}
-
-pub either : (a b : Bool) → (a || b) ≡ false → (a ≡ false) × (b ≡ false)
-either true b e = absurd (subst (λ (t : Bool). T t) e tt)
-either false b e = (refl, e)
 
 -- ---- equal numbers
 pub same-yes : (a b : ℤ) → a ≡ b → same a b ≡ true

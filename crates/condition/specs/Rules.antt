@@ -1,22 +1,25 @@
 -- The two operations on one condition's lent terms: the checks that both make, the coefficients and the misclosure.
 use mathlib.Core.Bool.{Bool, not, _||_}
 use mathlib.Core.List.{List}
-use Prim.Native.Nat.{ℕ, zero, suc, _+_}
+use Prim.Native.Nat.{ℕ, _+_}
 use lib.Dec.{eqb, ltb}
 use lib.IntN.{ℤ, pos, natAbs, _-ℤ_, _*ℤ_}
 use lib.ListN.{length, getD}
 use Rattle.exact.specs.First.{some-below}
+use Rattle.exact.specs.Circle.{C}
+use Rattle.exact.specs.Outside.{outside}
 use Rattle.exact.specs.Sum.{sum}
 use Rattle.exact.specs.Tabulate.{tabulate}
 use Rattle.reply.specs.declared.Refusal.the-variants.{Malformed, Count, OutOfRange, Coefficient, Misclosure}
 use Rattle.reply.specs.declared.Reply.{Reply}
-use Rattle.reply.specs.declared.Reply.the-variants.{Accepted, Refused}
+use Rattle.reply.specs.declared.Reply.the-variants.{Accepted}
 use Rattle.reply.specs.declared.Figure.{Figure}
-use Rattle.reply.specs.Checks.{refuseIf, refuseFirst, _andThen_, figureOf}
+use Rattle.reply.specs.Checks.{refuseIf, _andThen_, inTurn, leaves, figureOf}
+use Rattle.direction.specs.Ranges.{directionsReply}
 use Rattle.condition.specs.declared.Kind.{Kind}
 use Rattle.condition.specs.declared.Kind.the-variants.{Angle, Side}
 use Rattle.condition.specs.declared.term.Term.{Term}
-use Rattle.condition.specs.Terms.{C, outside, letterOf, suits, fault, share, part}
+use Rattle.condition.specs.Terms.{letterOf, suits, fault, share, part}
 
 -- what is lent: the directions 1 to m with their q, the kind of condition, the target, and the field lists of the terms
 pub record Lent : Type 0 where
@@ -65,16 +68,6 @@ countsFault l =
     directionsMiscounted (length (l .directions)) (length (l .q))
     || termsMiscounted (length (l .kinds)) (length (l .values)) (length (l .d)) (length (l .i)) (length (l .k))
 
--- 3, "going by direction number": "direction 0 to C-1", "Inverse weight q: 1 to 10"
-abbrev pub directionFault : ℤ → ℤ → Bool
-directionFault direction q = outside (pos 0) (C -ℤ pos 1) direction || outside (pos 1) (pos 10) q
-
-abbrev pub directionFaultAt : List ℤ → List ℤ → ℕ → Bool
-directionFaultAt directions q h = directionFault (getD directions h (pos 0)) (getD q h (pos 0))
-
-unfoldable pub directionsCheck : List ℤ → List ℤ → Reply
-directionsCheck directions q = refuseFirst (length directions) (directionFaultAt directions q) (λ h. OutOfRange (h + 1))
-
 -- 3, place 0: the target of an angle condition, "0 to 12C"; "a side condition's target [is] not read"
 abbrev pub targetCheck : Kind → ℤ → Reply
 targetCheck Angle target = refuseIf (outside (pos 0) (pos 12 *ℤ C) target) (OutOfRange 0)
@@ -84,11 +77,6 @@ targetCheck Side target = Accepted
 abbrev pub termCheck : Kind → ℤ → ℕ → Term → Reply
 termCheck kind m ordinal t = refuseIf (not (suits kind (t .letter))) (Malformed ordinal) andThen refuseIf (fault m t) (OutOfRange ordinal)
 
--- the checks of n things in their order, all of one before the next
-unfoldable pub inTurn : ℕ → (ℕ → Reply) → Reply
-inTurn zero check = Accepted
-inTurn (suc n) check = inTurn n check andThen check n
-
 unfoldable pub termsCheck : Kind → ℤ → ℕ → (ℕ → Term) → Reply
 termsCheck kind m n term = inTurn n (λ j. termCheck kind m (j + 1) (term j))
 
@@ -96,7 +84,7 @@ termsCheck kind m n term = inTurn n (λ j. termCheck kind m (j + 1) (term j))
 unfoldable pub checks : Lent → Reply
 checks l =
     refuseIf (countsFault l) (Count 0)
-    andThen directionsCheck (l .directions) (l .q)
+    andThen directionsReply (l .directions) (l .q)
     andThen targetCheck (l .kind) (l .target)
     andThen termsCheck (l .kind) (pos (length (l .directions))) (length (l .kinds)) (term l)
 
@@ -114,10 +102,6 @@ unfoldable pub coefficientsReply : Lent → ℕ → Reply
 coefficientsReply l room = refuseIf (unequal room (length (l .directions))) (Count 0) andThen checks l andThen refuseIf (beyond l) (Coefficient 1)
 
 -- what the answer list holds in the end: the coefficients of directions 1 to m; after a refusal, what it held before
-abbrev pub leaves : Reply → List ℤ → List ℤ → List ℤ
-leaves Accepted answer before = answer
-leaves (Refused why) answer before = before
-
 unfoldable pub coefficientsList : Lent → List ℤ → List ℤ
 coefficientsList l before =
     leaves (coefficientsReply l (length before)) (tabulate (length (l .directions)) (λ h. coefficient l (h + 1))) before

@@ -5,17 +5,13 @@ use Prim.Native.Nat.{ℕ, zero, suc}
 use lib.Dec.{eqb}
 use lib.IntN.{ℤ, pos, negsuc, negℤ, natAbs, _+ℤ_, _-ℤ_}
 use lib.ListN.{getD}
-use lib.Signed.{ltZ}
-use Rattle.exact.specs.Circle.{modulo}
+use Rattle.exact.specs.Circle.{C, modulo}
+use Rattle.exact.specs.Outside.{outside}
 use Rattle.condition.specs.declared.Kind.{Kind}
 use Rattle.condition.specs.declared.Kind.the-variants.{Angle, Side}
 use Rattle.condition.specs.declared.term.Letter.{Letter}
 use Rattle.condition.specs.declared.term.Letter.the-variants.{P, F, L, R, Unknown}
 use Rattle.condition.specs.declared.term.Term.{Term}
-
--- "Circle C = 1,296,000,000. Angles [..] are in 0.001 second."
-abbrev pub C : ℤ
-C = pos 1296000000
 
 -- a = b
 abbrev pub same : ℤ → ℤ → Bool
@@ -23,10 +19,6 @@ same (pos a) (pos b) = eqb a b
 same (pos a) (negsuc b) = false
 same (negsuc a) (pos b) = false
 same (negsuc a) (negsuc b) = eqb a b
-
--- z is not from low to high
-abbrev pub outside : ℤ → ℤ → ℤ → Bool
-outside low high z = ltZ z low || ltZ high z
 
 -- ---- the kind of a term
 -- "Under A: P i k, and F fixed angle [..]. Under S: L or R, logarithm, d, i, k." A kind is lent as the code of its letter: P is 80, F 70,

@@ -1,7 +1,7 @@
 // The checks that both operations make, in the order of the rules.
 ghost use mathlib.Core.Path.{_≡_};
 ghost use lib.ListN.{length};
-ghost use Rattle.condition.specs.Rules.{lent, termAt, directionsMiscounted, termsMiscounted, directionFault, directionsCheck, targetCheck, termsCheck, checks};
+ghost use Rattle.condition.specs.Rules.{lent, termAt, directionsMiscounted, termsMiscounted, targetCheck, termsCheck, checks};
 ghost use Rattle.condition.specs.Sound.{Fields};
 use crate::Kind;
 use crate::term;
@@ -9,7 +9,7 @@ use reply::Refusal;
 use reply::Reply;
 
 // The largest target of an angle condition.
-const MOST_TARGET: i64 = 12 * term::CIRCLE;
+const MOST_TARGET: i64 = 12 * direction::CIRCLE;
 
 // Whether there are too few or too many directions, or not as many q.
 fn directions_miscounted(m: usize, q: usize) -> bool
@@ -46,38 +46,13 @@ fn terms_miscounted(n: usize, values: usize, d: usize, i: usize, k: usize) -> bo
     k != n
 }
 
-// Whether a direction or its inverse weight is out of range.
-fn direction_fault(direction: i64, q: i64) -> bool
-    ensures { λ r. ⌜ r ≡ directionFault direction q ⌝ }
-{
-    if term::outside(0, term::LAST_READING, direction) {
-        return true;
-    }
-    term::outside(1, 10, q)
-}
-
-// The directions and their inverse weights, by direction number.
-fn directions_check(directions: &[i64], q: &[i64]) -> Reply
-    requires { ⌜ length (now q) ≡ length (now directions) ⌝ }
-    ensures { λ r. ⌜ r ≡ directionsCheck (now (directions .entry)) (now (q .entry)) ⌝ }
-{
-    let mut h: usize = 0;
-    while h < directions.len() {
-        if direction_fault(directions[h], q[h]) {
-            return Reply::Refused(Refusal::OutOfRange((h + 1) as u64));
-        }
-        h += 1;
-    }
-    Reply::Accepted
-}
-
 // An angle condition's target. A side condition has none, and what is lent for it is not read.
 fn target_check(kind: Kind, target: i64) -> Reply
     ensures { λ r. ⌜ r ≡ targetCheck kind target ⌝ }
 {
     match kind {
         Kind::Angle => {
-            if term::outside(0, MOST_TARGET, target) {
+            if exact::outside(0, MOST_TARGET, target) {
                 return Reply::Refused(Refusal::OutOfRange(0));
             }
             Reply::Accepted
@@ -135,7 +110,7 @@ pub fn all(
     if terms_miscounted(kinds.len(), values.len(), d.len(), i.len(), k.len()) {
         return Reply::Refused(Refusal::Count(0));
     }
-    let of_directions = directions_check(directions, q);
+    let of_directions = direction::check(directions, q);
     match of_directions {
         Reply::Accepted => {}
         Reply::Refused(why) => return Reply::Refused(why),

@@ -33,7 +33,7 @@ fn angle(directions: &[i64], t: Term) -> i64
 {
     let from = direction(directions, t.i);
     let to = direction(directions, t.k);
-    exact::modulo(to - from, term::CIRCLE)
+    exact::modulo(to - from, direction::CIRCLE)
 }
 
 // What one term adds: an angle, a fixed angle, or a logarithm, on the right with its sign turned.

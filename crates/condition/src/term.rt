@@ -2,17 +2,12 @@
 ghost use mathlib.Core.Path.{_≡_};
 ghost use Prim.Native.Nat.{_<_};
 ghost use lib.ListN.{length};
-ghost use Rattle.condition.specs.Terms.{letterOf, outside, suits, astray, sideFault, fault};
+ghost use Rattle.condition.specs.Terms.{letterOf, suits, astray, sideFault, fault};
 ghost use Rattle.condition.specs.Rules.{termAt, termCheck};
 ghost use Rattle.condition.specs.Sound.{Fields};
 use crate::Kind;
 use reply::Refusal;
 use reply::Reply;
-
-// A circle of 360 degrees, in 0.001 second, and the last reading before it is full.
-pub const CIRCLE: i64 = 1_296_000_000;
-
-pub const LAST_READING: i64 = CIRCLE - 1;
 
 // The codes of the letters by which kinds of terms are lent.
 const P: i64 = b'P' as i64;
@@ -97,26 +92,16 @@ pub fn suits(kind: Kind, letter: Letter) -> bool
     }
 }
 
-// Whether z is not from low to high.
-pub fn outside(low: i64, high: i64, z: i64) -> bool
-    ensures { λ r. ⌜ r ≡ outside low high z ⌝ }
-{
-    if z < low {
-        return true;
-    }
-    high < z
-}
-
 // Whether i or k is no direction number, from 0 to m.
 fn astray(m: i64, t: Term) -> bool
     ensures { λ r. ⌜ r ≡ astray m t ⌝ }
 {
     let i = t.i;
-    if outside(0, m, i) {
+    if exact::outside(0, m, i) {
         return true;
     }
     let k = t.k;
-    outside(0, m, k)
+    exact::outside(0, m, k)
 }
 
 // Whether a side term has a number out of range, or i = k where it is no fixed length.
@@ -127,10 +112,10 @@ fn side_fault(m: i64, t: Term) -> bool
     let d = t.d;
     let i = t.i;
     let k = t.k;
-    if outside(0, 200_000_000, value) {
+    if exact::outside(0, 200_000_000, value) {
         return true;
     }
-    if outside(-2000, 2000, d) {
+    if exact::outside(-2000, 2000, d) {
         return true;
     }
     if astray(m, t) {
@@ -159,7 +144,7 @@ pub fn fault(m: i64, t: Term) -> bool
         }
         Letter::F => {
             let value = t.value;
-            outside(0, LAST_READING, value)
+            exact::outside(0, direction::LAST, value)
         }
         Letter::L => side_fault(m, t),
         Letter::R => side_fault(m, t),

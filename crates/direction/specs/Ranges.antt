@@ -3,15 +3,15 @@ use mathlib.Core.Bool.{Bool, _||_}
 use mathlib.Core.List.{List}
 use Prim.Native.Nat.{ℕ, _+_}
 use lib.ListN.{length, getD}
-use lib.IntN.{ℤ, pos}
-use lib.Signed.{ltZ, leZ}
+use lib.IntN.{ℤ, pos, _-ℤ_}
 use Rattle.exact.specs.Circle.{C}
+use Rattle.exact.specs.Outside.{outside}
 use Rattle.reply.specs.declared.Reply.{Reply}
 use Rattle.reply.specs.declared.Refusal.the-variants.{OutOfRange}
 use Rattle.reply.specs.Checks.{refuseFirst}
 
 abbrev pub outOfRange : ℤ → ℤ → Bool
-outOfRange direction q = ltZ direction (pos 0) || (leZ C direction || (ltZ q (pos 1) || ltZ (pos 10) q))
+outOfRange direction q = outside (pos 0) (C -ℤ pos 1) direction || outside (pos 1) (pos 10) q
 
 -- the direction of that number, counted from 0, is out of range
 abbrev pub faultAt : List ℤ → List ℤ → ℕ → Bool

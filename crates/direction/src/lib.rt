@@ -5,23 +5,19 @@ ghost use Rattle.direction.specs.Ranges.{outOfRange, directionsReply};
 use reply::Refusal;
 use reply::Reply;
 
-// The circle, in 0.001 second.
+// The circle, in 0.001 second, and the last direction before it is full.
 pub const CIRCLE: i64 = 1296000000;
+
+pub const LAST: i64 = CIRCLE - 1;
 
 // A direction lies from 0 to C - 1, and its q from 1 to 10.
 fn out_of_range(direction: i64, q: i64) -> bool
     ensures { λ r. ⌜ r ≡ outOfRange direction q ⌝ }
 {
-    if direction < 0 {
+    if exact::outside(0, LAST, direction) {
         return true;
     }
-    if CIRCLE <= direction {
-        return true;
-    }
-    if q < 1 {
-        return true;
-    }
-    10 < q
+    exact::outside(1, 10, q)
 }
 
 // Refuses the first direction that is out of range, by its number.

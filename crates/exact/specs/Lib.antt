@@ -3,3 +3,4 @@ pub mod Nearest
 pub mod Circle
 pub mod First
 pub mod Tabulate
+pub mod Outside

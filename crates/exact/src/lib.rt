@@ -4,6 +4,7 @@ ghost use lib.IntN.{ℤ, pos, natAbs};
 ghost use lib.Signed.{_<ℤ_};
 ghost use Rattle.exact.specs.Nearest.{nearest};
 ghost use Rattle.exact.specs.Circle.{floor, modulo};
+ghost use Rattle.exact.specs.Outside.{outside};
 
 // The nearest whole number to n / d, halves away from zero.
 // The remainder is compared with what it lacks to a whole d, so nothing is doubled and every numerator is taken.
@@ -48,4 +49,14 @@ pub fn magnitude(z: i64) -> u64
     } else {
         z as u64
     }
+}
+
+// z is not from low to high.
+pub fn outside(low: i64, high: i64, z: i64) -> bool
+    ensures { λ r. ⌜ r ≡ outside low high z ⌝ }
+{
+    if z < low {
+        return true;
+    }
+    high < z
 }

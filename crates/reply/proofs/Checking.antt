@@ -3,10 +3,13 @@
 --   refuse-first, accept-first    the same, from the first at fault
 --   none-refused                  where it accepts, no thing is at fault
 --   neither                       where one or the other is no fault, neither is
---   both-accepted                 where two checks accept one after the other, each does
-use mathlib.Core.Path.{_≡_, refl}
+--   both-accepted, if-accepted    where two checks accept one after the other, each does; where one check accepts, its fault is not there
+--   turn-none, turn-more, turn-stops, turn-each      several checks of each of n things, by the loop that makes them
+use mathlib.Core.Path.{_≡_, refl, subst}
 use mathlib.Core.Bool.{Bool, true, false, _||_}
-use Prim.Native.Nat.{ℕ, _≤_, _<_}
+use Prim.Native.Nat.{ℕ, zero, suc, _+_, _≤_, _<_}
+use native.Mathlib.Decide.{decLt}
+use native.Mathlib.Numerals.{add-one}
 use native.Mathlib.Omega.{arith}
 use borrow.Author.Tests.{lt-ltb, le-ltb}
 use Rattle.exact.specs.First.{first, some-below}
@@ -14,12 +17,24 @@ use Rattle.exact.proofs.Searching.{Failed, first-at, some-at, some-none, all-fa
 use Rattle.reply.specs.declared.Refusal.{Refusal}
 use Rattle.reply.specs.declared.Reply.{Reply}
 use Rattle.reply.specs.declared.Reply.the-variants.{Accepted, Refused}
-use Rattle.reply.specs.Checks.{refuseIf, refuseFirst, _andThen_}
+use Rattle.reply.specs.Checks.{refuseIf, refuseFirst, _andThen_, inTurn}
 
 pub neither : (a b : Bool) → (a || b) ≡ false → (a ≡ false) × (b ≡ false)
 neither true b h = let z : _≡_ {A = ℕ} 0 1 = cc in absurd (omega arith)
 neither false b h = (refl, h)
 
+never : {A : Type 0} (why : Refusal) → Refused why ≡ Accepted → A
+never why e = let z : _≡_ {A = ℕ} 0 1 = cc in absurd (omega arith)
+
+pub both-accepted : (r s : Reply) → (r andThen s) ≡ Accepted → (r ≡ Accepted) × (s ≡ Accepted)
+both-accepted Accepted s e = (refl, e)
+both-accepted (Refused why) s e = never why e
+
+pub if-accepted : (fault : Bool) (why : Refusal) → refuseIf fault why ≡ Accepted → fault ≡ false
+if-accepted true why e = never why e
+if-accepted false why e = refl
+
+-- ---- one check of n things
 module _ (n : ℕ) (fault : ℕ → Bool) (why : ℕ → Refusal) where
   pub refuse-at : (i : ℕ) → i < n → Failed fault i → fault i ≡ true → refuseFirst n fault why ≡ Refused (why i)
   refuse-at i l f e = rw (some-at n fault i l f e, first-at n fault i l f e)
@@ -35,12 +50,39 @@ module _ (n : ℕ) (fault : ℕ → Bool) (why : ℕ → Refusal) where
   accept-first l = rw (le-ltb (first n fault) n l)
 
   pub none-refused : refuseFirst n fault why ≡ Accepted → Failed fault n
-  none-refused e = all-failed n fault (not-some (some-below n fault) refl e)
-    where
-      not-some : (b : Bool) → some-below n fault ≡ b → refuseIf b (why (first n fault)) ≡ Accepted → some-below n fault ≡ false
-      not-some true t e = let z : _≡_ {A = ℕ} 0 1 = cc in absurd (omega arith)
-      not-some false t e = t
+  none-refused e = all-failed n fault (if-accepted (some-below n fault) (why (first n fault)) e)
 
-pub both-accepted : (r s : Reply) → (r andThen s) ≡ Accepted → (r ≡ Accepted) × (s ≡ Accepted)
-both-accepted Accepted s e = (refl, e)
-both-accepted (Refused why) s e = let z : _≡_ {A = ℕ} 0 1 = cc in absurd (omega arith)
+-- ---- several checks of each of n things
+module _ (check : ℕ → Reply) where
+  pub turn-none : inTurn 0 check ≡ Accepted
+  unfolding inTurn
+  turn-none = refl
+
+  pub turn-more : (n : ℕ) → inTurn n check ≡ Accepted → check n ≡ Accepted → inTurn (n + 1) check ≡ Accepted
+  unfolding inTurn
+  turn-more n e f = rw (add-one, e) f
+
+  -- what comes after a refusal does not change it
+  pub turn-stops : (n i : ℕ) (why : Refusal) → i < n → inTurn i check ≡ Accepted → check i ≡ Refused why → inTurn n check ≡ Refused why
+  unfolding inTurn
+  turn-stops zero i why l e f = absurd (omega arith)
+  turn-stops (suc n) i why l e f = by-place (decLt i n) (turn-stops n i why)
+    where
+      last : ¬ (i < n) → i ≡ n
+      last k = omega arith
+
+      by-place : Dec (i < n) → (i < n → inTurn i check ≡ Accepted → check i ≡ Refused why → inTurn n check ≡ Refused why) → (inTurn n check andThen check n) ≡ Refused why
+      by-place (yes k) rec = rw (rec k e f)
+      by-place (no k) rec = rw (subst (λ (j : ℕ). inTurn j check ≡ Accepted) (last k) e) (subst (λ (j : ℕ). check j ≡ Refused why) (last k) f)
+
+  pub turn-each : (n : ℕ) → inTurn n check ≡ Accepted → (j : ℕ) → j < n → check j ≡ Accepted
+  unfolding inTurn
+  turn-each zero e j l = absurd (omega arith)
+  turn-each (suc n) e j l = by-place (decLt j n) (turn-each n (both-accepted (inTurn n check) (check n) e .0) j)
+    where
+      last : ¬ (j < n) → n ≡ j
+      last k = omega arith
+
+      by-place : Dec (j < n) → (j < n → check j ≡ Accepted) → check j ≡ Accepted
+      by-place (yes k) rec = rec k
+      by-place (no k) rec = subst (λ (i : ℕ). check i ≡ Accepted) (last k) (both-accepted (inTurn n check) (check n) e .1)

@@ -1,6 +1,6 @@
 -- A fixed order of checks: each speaks only where all before it accept.
 use mathlib.Core.Bool.{Bool, true, false}
-use Prim.Native.Nat.{ℕ}
+use Prim.Native.Nat.{ℕ, zero, suc}
 use lib.Dec.{ltb}
 use lib.IntN.{ℤ}
 use Rattle.exact.specs.First.{first}
@@ -24,6 +24,16 @@ infixr 30 _andThen_
 abbrev pub _andThen_ : Reply → Reply → Reply
 Accepted andThen next = next
 (Refused why) andThen next = Refused why
+
+-- the checks of n things in their order, all of one before the next
+unfoldable pub inTurn : ℕ → (ℕ → Reply) → Reply
+inTurn zero check = Accepted
+inTurn (suc n) check = inTurn n check andThen check n
+
+-- what is lent for an answer holds the answer afterwards, or in a refusal what it held before
+abbrev pub leaves : {A : Type 0} → Reply → A → A → A
+leaves Accepted answer before = answer
+leaves (Refused why) answer before = before
 
 -- the answer of an operation whose result is one number: that number where every check accepts
 abbrev pub figureOf : Reply → ℤ → Figure

@@ -1,26 +1,28 @@
 -- `direction::out_of_range` meets its contract. Assumes nothing.
+use mathlib.Core.Path.{_≡_, sym, _∙_}
+use borrow.Author.Needs.{needs}
+use lib.IntN.{pos}
 use mir.ValLaws.{toZ-ofZ}
+use Rattle.exact.specs.Outside.{outside}
 use Rattle.direction.proofs.out_of_range.Statement.{statement}
 use Rattle.direction.proofs.out_of_range.Tie as tie
 
+outside-requires : tie.Need-outside-requires
+outside-requires c κs = search needs
+
+direction-test : (c : tie.After-outside) → c .outside .result ≡ outside (pos 0) (pos 1295999999) (c .before .args .direction)
+direction-test c = let f = c .before .fits .direction in c .outside .ensures ∙ simp toZ-ofZ
+
 returns : tie.Need-returns
-returns c = let f = c .before .fits .direction in let t = simp toZ-ofZ at (c .if1 .taken) in rw t
+returns c = rw (sym (direction-test (c .before)) ∙ c .if1 .taken)
+
+outside-requires-2 : tie.Need-outside-requires-2
+outside-requires-2 c κs = search needs
 
 returns-2 : tie.Need-returns-2
 returns-2 c =
-    let s = c .before .before in let f = s .fits .direction in
-    let t = simp toZ-ofZ at (c .before .if1 .left) in let u = simp toZ-ofZ at (c .if2 .taken) in rw (t, u)
-
-returns-3 : tie.Need-returns-3
-returns-3 c =
-    let s = c .before .before .before in let f = s .fits .direction in let g = s .fits .q in
-    let t = simp toZ-ofZ at (c .before .before .if1 .left) in let u = simp toZ-ofZ at (c .before .if2 .left) in let v = simp toZ-ofZ at (c .if3 .taken) in rw (t, u, v)
-
-returns-4 : tie.Need-returns-4
-returns-4 c =
-    let s = c .before .before .before in let f = s .fits .direction in let g = s .fits .q in
-    let t = simp toZ-ofZ at (c .before .before .if1 .left) in let u = simp toZ-ofZ at (c .before .if2 .left) in let v = simp toZ-ofZ at (c .if3 .left) in
-    simp toZ-ofZ (rw (t, u, v))
+    let e = c .before in let f = e .before .before .fits .q in
+    rw (sym (direction-test (e .before)) ∙ e .if1 .left) (c .outside2 .ensures ∙ simp toZ-ofZ)
 
 pub out-of-range-spec : {M : Type 1} → statement M
-out-of-range-spec = tie.close (tie.spec returns returns-2 returns-3 returns-4)
+out-of-range-spec = tie.close (tie.spec outside-requires returns outside-requires-2 returns-2)

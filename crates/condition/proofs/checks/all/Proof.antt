@@ -8,7 +8,8 @@ use lib.ListN.{length}
 use mir.Syntax.{w64}
 use mir.ValLaws.{toZ-ofZ, toZ-pos}
 use Rattle.reply.specs.declared.Reply.the-variants.{Accepted}
-use Rattle.condition.specs.Rules.{Lent, lent, countsFault, directionsMiscounted, termsMiscounted, directionsCheck, targetCheck, termsCheck, term, checks}
+use Rattle.direction.specs.Ranges.{directionsReply}
+use Rattle.condition.specs.Rules.{Lent, lent, countsFault, directionsMiscounted, termsMiscounted, targetCheck, termsCheck, term, checks}
 use Rattle.condition.proofs.Accepting.{Counts, counted}
 use Rattle.condition.proofs.checks.all.Statement.{statement}
 use Rattle.condition.proofs.checks.all.Tie as tie
@@ -34,8 +35,8 @@ module _ (c : tie.Else2) where
   counts : Counts (l s)
   counts = counted (l s) counts-right
 
-directions-right : (c : tie.After-enum-told) → let l = l (s (c .before .before .before)) in directionsCheck (l .directions) (l .q) ≡ Accepted
-directions-right c = sym (c .before .before .directions-check .ensures) ∙ c .enum-told .given .1
+directions-right : (c : tie.After-enum-told) → let l = l (s (c .before .before .before)) in directionsReply (l .directions) (l .q) ≡ Accepted
+directions-right c = sym (c .before .before .check .ensures) ∙ c .enum-told .given .1
 
 target-test : (c : tie.After-target-check) → let l = l (s (c .before .before .before .before)) in c .target-check .result ≡ targetCheck (l .kind) (l .target)
 target-test c = let f = s (c .before .before .before .before) .fits .target in c .target-check .ensures ∙ simp toZ-ofZ
@@ -58,8 +59,8 @@ returns-2 : tie.Need-returns-2
 unfolding checks
 returns-2 c = rw (directions-counted (c .before .before), sym (c .before .terms-miscounted .ensures) ∙ c .if2 .taken)
 
-directions-check-requires : tie.Need-directions-check-requires
-directions-check-requires c κs = counts c .as-directions
+check-requires : tie.Need-check-requires
+check-requires c κs = counts c .as-directions
 
 enum-told : tie.Need-enum-told
 enum-told c = search needs
@@ -71,7 +72,7 @@ returns-3 : tie.Need-returns-3
 unfolding checks
 returns-3 c =
     let e = c .before .before .before in
-    rw (counts-right (e .before), sym (e .directions-check .ensures) ∙ c .before .of-directions .given .1)
+    rw (counts-right (e .before), sym (e .check .ensures) ∙ c .before .of-directions .given .1)
 
 target-check-requires : tie.Need-target-check-requires
 target-check-requires c κs = search needs
@@ -110,7 +111,7 @@ all-spec =
     returns
     terms-miscounted-requires
     returns-2
-    directions-check-requires
+    check-requires
     enum-told
     enum-known-of-directions
     returns-3

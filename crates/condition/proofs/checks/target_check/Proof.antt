@@ -2,7 +2,7 @@
 use mathlib.Core.Path.{_≡_, sym, _∙_}
 use lib.IntN.{pos}
 use mir.ValLaws.{toZ-ofZ}
-use Rattle.condition.specs.Terms.{outside}
+use Rattle.exact.specs.Outside.{outside}
 use borrow.Author.Needs.{needs}
 use Rattle.condition.proofs.checks.target_check.Statement.{statement}
 use Rattle.condition.proofs.checks.target_check.Tie as tie

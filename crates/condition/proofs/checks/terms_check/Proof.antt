@@ -11,7 +11,7 @@ use Rattle.reply.specs.declared.Reply.{Reply}
 use Rattle.reply.specs.declared.Reply.the-variants.{Accepted}
 use Rattle.condition.specs.declared.term.Term.{Term}
 use Rattle.condition.specs.Rules.{termCheck, termsCheck, termAt}
-use Rattle.condition.proofs.Checking.{turn-none, turn-more, turn-stops}
+use Rattle.reply.proofs.Checking.{turn-none, turn-more, turn-stops}
 use Rattle.condition.proofs.checks.terms_check.Statement.{statement}
 use Rattle.condition.proofs.checks.terms_check.Tie as tie
 

@@ -11,13 +11,13 @@ use Rattle.condition.proofs.tally.hand_over.Statement.{statement}
 use Rattle.condition.proofs.tally.hand_over.Tie as tie
 
 abbrev Inv-loop : tie.InvT-loop
-Inv-loop a₀ tally h₀ a h = (h ≤ length a₀) × Filled (pos 0) (λ h. getD tally (h + 1) (pos 0)) h a₀ a
+Inv-loop a₀ tally h₀ a h = (h ≤ length a₀) × Filled (pos 0) (λ h. getD tally (h + 1) (pos 0)) 0 h a₀ a
 
 abbrev μ-loop : tie.MeasureT-loop
 μ-loop a₀ tally h₀ a h = length a₀ - h
 
 loop-holds : tie.Need-loop-holds Inv-loop μ-loop
-loop-holds c = (omega arith, filled-none (pos 0) _ _)
+loop-holds c = (omega arith, filled-none (pos 0) _ 0 _)
 
 add-a : tie.Need-add-a Inv-loop μ-loop
 add-a c = search needs
@@ -43,7 +43,7 @@ loop-less c = search needs
 loop-again : tie.Need-loop-again Inv-loop μ-loop
 loop-again c =
     let l = c .before .before .loop in
-    (omega arith, filled-more (pos 0) _ (l .h) _ _ _ (omega arith) (l .inv .1) (read (fits-of-mag _ (c .a .given))))
+    (omega arith, filled-more (pos 0) _ 0 (l .h) _ _ _ (omega arith) (l .inv .1) (read (fits-of-mag _ (c .a .given))))
 
 same-length : tie.Need-same-length Inv-loop μ-loop
 same-length c = search needs
@@ -53,7 +53,7 @@ returns c =
     let s = c .before .before in let l = c .before .loop in let xs = s .args .a .now in
     let g : ℕ → ℤ = λ h. getD (s .args .t1) (h + 1) (pos 0) in
     let e : l .h ≡ length xs = omega (arith, l .inv .1 .long) in
-    filled-all (pos 0) g (length xs) xs (l .a) refl (subst (λ (n : ℕ). Filled (pos 0) g n xs (l .a)) e (l .inv .1))
+    filled-all (pos 0) g (length xs) xs (l .a) refl (subst (λ (n : ℕ). Filled (pos 0) g 0 n xs (l .a)) e (l .inv .1))
 
 pub hand-over-spec : {M : Type 1} → statement M
 hand-over-spec =

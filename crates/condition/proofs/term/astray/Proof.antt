@@ -4,7 +4,7 @@ use borrow.Author.Needs.{needs}
 use lib.IntN.{pos}
 use mir.ValLaws.{toZ-ofZ}
 use Rattle.exact.proofs.Bound.{fits-of-mag}
-use Rattle.condition.specs.Terms.{outside}
+use Rattle.exact.specs.Outside.{outside}
 use Rattle.condition.proofs.term.astray.Statement.{statement}
 use Rattle.condition.proofs.term.astray.Tie as tie
 

@@ -8,7 +8,8 @@ use mir.Val.{SFits}
 use mir.ValLaws.{toZ-ofZ}
 use Rattle.exact.proofs.Bound.{fits-of-mag}
 use Rattle.condition.specs.declared.term.Term.{Term}
-use Rattle.condition.specs.Terms.{same, outside, astray}
+use Rattle.exact.specs.Outside.{outside}
+use Rattle.condition.specs.Terms.{same, astray}
 use Rattle.condition.proofs.Testing.{bits-same, bits-other, bits-test, numeral-fits}
 use Rattle.condition.proofs.term.side_fault.Statement.{statement}
 use Rattle.condition.proofs.term.side_fault.Tie as tie

@@ -1,7 +1,7 @@
--- `condition::term::outside` meets its contract. Assumes nothing.
+-- `exact::outside` meets its contract. Assumes nothing.
 use mir.ValLaws.{toZ-ofZ}
-use Rattle.condition.proofs.term.outside.Statement.{statement}
-use Rattle.condition.proofs.term.outside.Tie as tie
+use Rattle.exact.proofs.outside.Statement.{statement}
+use Rattle.exact.proofs.outside.Tie as tie
 
 returns : tie.Need-returns
 returns c =
