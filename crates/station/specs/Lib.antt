@@ -1,0 +1,5 @@
+pub mod Sightings
+pub mod Bounds
+pub mod Table
+pub mod Means
+pub mod Replies

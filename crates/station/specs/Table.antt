@@ -1,0 +1,38 @@
+-- The station's table: for each face, position and object, how many sightings the list has, and what they read.
+use mathlib.Core.Bool.{Bool, cond}
+use mathlib.Core.List.{List}
+use Prim.Native.Nat.{ℕ, _+_, _*_, _/_, _%_}
+use lib.IntN.{ℤ, pos}
+use lib.ListN.{getD}
+use Rattle.exact.specs.Sum.{sum}
+use Rattle.exact.specs.Tabulate.{tabulate}
+use Rattle.station.specs.Sightings.{Book, sightings, isOf}
+
+-- the sum of a value v over the list's sightings of one face, position and object
+unfoldable pub total : Book → (ℕ → ℤ) → ℕ → ℕ → ℕ → ℤ
+total b v f i j = sum (sightings b) (λ h. cond (isOf b f i j h) (v h) (pos 0))
+
+-- how many there are
+abbrev pub one : ℕ → ℤ
+one h = pos 1
+
+-- and what each reads: where there is one, the sum of the readings is its reading
+abbrev pub read : Book → ℕ → ℤ
+read b h = getD (b .reading) h (pos 0)
+
+-- "Left and right are joined only where position and object agree": the place of a face, a position and an object in a table
+abbrev pub slot : ℕ → ℕ → ℕ → ℕ
+slot f i j = 256 * f + 16 * i + j
+
+abbrev pub entry : List ℤ → ℕ → ℕ → ℕ → ℤ
+entry table f i j = getD table (slot f i j) (pos 0)
+
+abbrev pub tableOf : Book → (ℕ → ℤ) → List ℤ
+tableOf b v = tabulate 512 (λ k. total b v (k / 256) (k % 256 / 16) (k % 16))
+
+-- the table of counts, n, and the table of readings, r
+abbrev pub counts : Book → List ℤ
+counts b = tableOf b one
+
+abbrev pub readings : Book → List ℤ
+readings b = tableOf b (read b)
