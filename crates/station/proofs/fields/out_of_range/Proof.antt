@@ -1,41 +1,49 @@
+-- `fields::out_of_range` meets its contract, field by field. Assumes nothing.
+use mathlib.Core.Path.{_≡_, sym, _∙_}
 use borrow.Author.Needs.{needs}
+use mir.ValLaws.{toZ-ofZ}
+use Rattle.station.specs.Sightings.{outOfRange}
 use Rattle.station.proofs.fields.out_of_range.Statement.{statement}
 use Rattle.station.proofs.fields.out_of_range.Tie as tie
-use Rattle.station.proofs.fields.out_of_range.Reads as reads
-use Rattle.station.proofs.fields.out_of_range.Lts as lts
-use Rattle.station.proofs.fields.outside.Reads as outside-reads
 
--- src/fields.rt:53:8
 outside-requires : tie.Need-outside-requires
 outside-requires c κs = search needs
 
--- src/fields.rt:54:9
 returns : tie.Need-returns
-returns c = ?
+unfolding outOfRange
+returns c =
+    let s = c .before .before in let f = s .fits .position in
+    rw (simp toZ-ofZ at (sym (c .before .outside .ensures) ∙ c .if1 .taken))
 
--- src/fields.rt:56:8
 outside-requires-2 : tie.Need-outside-requires-2
 outside-requires-2 c κs = search needs
 
--- src/fields.rt:57:9
 returns-2 : tie.Need-returns-2
-returns-2 c = ?
+unfolding outOfRange
+returns-2 c =
+    let d = c .before .before in let s = d .before .before in let f = s .fits .position in let g = s .fits .object in
+    rw (simp toZ-ofZ at (sym (d .before .outside .ensures) ∙ d .if1 .left), simp toZ-ofZ at (sym (c .before .outside2 .ensures) ∙ c .if2 .taken))
 
--- src/fields.rt:59:8
 outside-requires-3 : tie.Need-outside-requires-3
 outside-requires-3 c κs = search needs
 
--- src/fields.rt:60:9
 returns-3 : tie.Need-returns-3
-returns-3 c = ?
+unfolding outOfRange
+returns-3 c =
+    let d = c .before .before in let e = d .before .before in let s = e .before .before in
+    let f = s .fits .position in let g = s .fits .object in let h = s .fits .face in
+    rw (simp toZ-ofZ at (sym (e .before .outside .ensures) ∙ e .if1 .left), simp toZ-ofZ at (sym (d .before .outside2 .ensures) ∙ d .if2 .left), simp toZ-ofZ at (sym (c .before .outside3 .ensures) ∙ c .if3 .taken))
 
--- src/fields.rt:62:5
 outside-requires-4 : tie.Need-outside-requires-4
 outside-requires-4 c κs = search needs
 
--- src/fields.rt:50:1
 returns-4 : tie.Need-returns-4
-returns-4 c = ?
+unfolding outOfRange
+returns-4 c =
+    let b = c .before in let d = b .before .before in let e = d .before .before in let s = e .before .before in
+    let f = s .fits .position in let g = s .fits .object in let h = s .fits .face in let k = s .fits .reading in
+    rw (simp toZ-ofZ at (sym (e .before .outside .ensures) ∙ e .if1 .left), simp toZ-ofZ at (sym (d .before .outside2 .ensures) ∙ d .if2 .left), simp toZ-ofZ at (sym (b .before .outside3 .ensures) ∙ b .if3 .left))
+    (simp toZ-ofZ at (c .outside4 .ensures))
 
 pub out-of-range-spec : {M : Type 1} → statement M
 out-of-range-spec =
