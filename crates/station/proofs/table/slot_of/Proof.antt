@@ -1,49 +1,53 @@
+-- `table::slot_of` meets its contract. Assumes nothing.
+use mathlib.Core.Path.{_≡_, _∙_, ap}
+use Prim.Native.Nat.{ℕ}
+use native.Mathlib.Omega.{arith}
 use borrow.Author.Needs.{needs}
+use lib.IntN.{natAbs}
+use Rattle.exact.proofs.Bound.{read}
 use Rattle.station.proofs.table.slot_of.Statement.{statement}
 use Rattle.station.proofs.table.slot_of.Tie as tie
-use Rattle.station.proofs.table.slot_of.Reads as reads
-use Rattle.station.proofs.table.slot_of.Lts as lts
-use Rattle.exact.proofs.magnitude.Reads as magnitude-reads
 
--- src/table.rt:17:13
 magnitude-requires : tie.Need-magnitude-requires
 magnitude-requires c κs = search needs
 
--- src/table.rt:18:13
 magnitude-requires-2 : tie.Need-magnitude-requires-2
 magnitude-requires-2 c κs = search needs
 
--- src/table.rt:19:13
 magnitude-requires-3 : tie.Need-magnitude-requires-3
 magnitude-requires-3 c κs = search needs
 
--- src/table.rt:20:5
+-- the three sizes are those of the fields
+module _ (c : tie.After-magnitude3) where
+  f : c .before .before .magnitude .result ≡ natAbs (c .before .before .before .args .face)
+  f = c .before .before .magnitude .ensures ∙ ap natAbs (read (c .before .before .before .fits .face))
+
+  p : c .before .magnitude2 .result ≡ natAbs (c .before .before .before .args .position)
+  p = c .before .magnitude2 .ensures ∙ ap natAbs (read (c .before .before .before .fits .position))
+
+  o : c .magnitude3 .result ≡ natAbs (c .before .before .before .args .object)
+  o = c .magnitude3 .ensures ∙ ap natAbs (read (c .before .before .before .fits .object))
+
 mul-result : tie.Need-mul-result
-mul-result c = ?
+mul-result c = omega (arith, f c)
 
--- src/table.rt:20:21
 sub-result : tie.Need-sub-result
-sub-result c = ?
+sub-result c = omega (arith, p c)
 
--- src/table.rt:20:15
 mul-result-2 : tie.Need-mul-result-2
-mul-result-2 c = ?
+mul-result-2 c = omega (arith, p c)
 
--- src/table.rt:20:5
 add-result : tie.Need-add-result
-add-result c = ?
+add-result c = omega (arith, f c, p c)
 
--- src/table.rt:20:31
 sub-result-2 : tie.Need-sub-result-2
-sub-result-2 c = ?
+sub-result-2 c = omega (arith, o c)
 
--- src/table.rt:20:5
 add-result-2 : tie.Need-add-result-2
-add-result-2 c = ?
+add-result-2 c = omega (arith, f c, p c, o c)
 
--- src/table.rt:13:1
 returns : tie.Need-returns
-returns c = ?
+returns c = omega (arith, f c, p c, o c)
 
 pub slot-of-spec : {M : Type 1} → statement M
 slot-of-spec =
