@@ -1,31 +1,33 @@
+-- `checks::apart_fault` meets its contract. Assumes nothing.
+use mathlib.Core.Path.{sym, _∙_, ap}
 use borrow.Author.Needs.{needs}
+use borrow.Author.Tests.{not-true, not-false}
+use lib.Dec.{ltb}
+use lib.IntN.{natAbs}
+use Rattle.station.specs.Means.{apartFault}
+use Rattle.station.proofs.Figures.{told}
 use Rattle.station.proofs.checks.apart_fault.Statement.{statement}
 use Rattle.station.proofs.checks.apart_fault.Tie as tie
-use Rattle.station.proofs.checks.apart_fault.Reads as reads
-use Rattle.station.proofs.checks.apart_fault.Lts as lts
-use Rattle.exact.proofs.magnitude.Reads as magnitude-reads
-use Rattle.station.proofs.pair.faces_differ.Reads as faces-differ-reads
-use Rattle.station.proofs.table.seen.Reads as seen-reads
 
--- src/checks.rt:59:9
 seen-requires : tie.Need-seen-requires
 seen-requires c κs = search needs
 
--- src/checks.rt:60:9
 returns : tie.Need-returns
-returns c = ?
+unfolding apartFault
+returns c = rw (sym (c .before .seen .ensures) ∙ not-true (c .before .seen .result) (c .if1 .taken))
 
--- src/checks.rt:62:30
 faces-differ-requires : tie.Need-faces-differ-requires
 faces-differ-requires c κs = search needs
 
--- src/checks.rt:62:13
 magnitude-requires : tie.Need-magnitude-requires
 magnitude-requires c κs = search needs
 
--- src/checks.rt:55:1
 returns-2 : tie.Need-returns-2
-returns-2 c = ?
+unfolding apartFault
+returns-2 c =
+    let d = c .before in let b = d .before in
+    rw (sym (b .before .seen .ensures) ∙ not-false (b .before .seen .result) (b .if1 .left))
+    (ap (ltb 60000) (c .magnitude .ensures ∙ ap natAbs (told (d .faces-differ .ok) (d .faces-differ .ensures))))
 
 pub apart-fault-spec : {M : Type 1} → statement M
 apart-fault-spec =

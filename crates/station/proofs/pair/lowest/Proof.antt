@@ -1,42 +1,48 @@
+-- `pair::lowest` meets its contract: in no position before i was the object sighted. Assumes nothing.
+use mathlib.Core.Path.{_≡_, sym, _∙_, subst}
+use mathlib.Core.Bool.{Bool}
+use Prim.Native.Nat.{ℕ, _≤_, _-_}
+use native.Mathlib.Omega.{arith}
+use borrow.Author.Needs.{needs}
+use Rattle.exact.proofs.Searching.{Failed, failed-none, failed-more, first-at, first-none}
+use Rattle.station.specs.Means.{seen, lowest}
 use Rattle.station.proofs.pair.lowest.Statement.{statement}
 use Rattle.station.proofs.pair.lowest.Tie as tie
-use Rattle.station.proofs.pair.lowest.Reads as reads
-use Rattle.station.proofs.pair.lowest.Lts as lts
-use Rattle.station.proofs.table.seen.Reads as seen-reads
 
 abbrev Inv-loop : tie.InvT-loop
-Inv-loop count j i₀ i = ?
+Inv-loop count j i₀ i = (i ≤ 16) × Failed (λ k. seen count k j) i
 
 abbrev μ-loop : tie.MeasureT-loop
-μ-loop count j i₀ i = ?
+μ-loop count j i₀ i = 16 - i
 
--- src/pair.rt:41:5
 loop-holds : tie.Need-loop-holds Inv-loop μ-loop
-loop-holds c = ?
+loop-holds c = (omega arith, failed-none _)
 
--- src/pair.rt:42:12
 seen-requires : tie.Need-seen-requires Inv-loop μ-loop
-seen-requires c κs = ?
+seen-requires c κs = search needs
 
--- src/pair.rt:43:13
 returns : tie.Need-returns Inv-loop μ-loop
-returns c = ?
+unfolding lowest
+returns c =
+    let l = c .before .before .before in let a = l .before .args in
+    sym (first-at 16 (λ k. seen (a .count .now) k (a .j)) (l .loop .i) (omega arith) (l .loop .inv .1) (sym (c .before .seen .ensures) ∙ c .if1 .taken))
 
--- src/pair.rt:41:9
 add-i : tie.Need-add-i Inv-loop μ-loop
-add-i c = ?
+add-i c = search needs
 
--- src/pair.rt:41:5
 loop-less : tie.Need-loop-less Inv-loop μ-loop
-loop-less c = ?
+loop-less c = search needs
 
--- src/pair.rt:41:5
 loop-again : tie.Need-loop-again Inv-loop μ-loop
-loop-again c = ?
+loop-again c =
+    let l = c .before .before .before in let a = l .before .args in
+    (omega arith, failed-more (λ k. seen (a .count .now) k (a .j)) (l .loop .i) (l .loop .inv .1) (sym (c .before .seen .ensures) ∙ c .if1 .left))
 
--- src/pair.rt:37:1
 returns-2 : tie.Need-returns-2 Inv-loop μ-loop
-returns-2 c = ?
+unfolding lowest
+returns-2 c =
+    let l = c .before in let a = l .before .args in let e : l .loop .i ≡ 16 = omega arith in
+    sym (first-none 16 (λ k. seen (a .count .now) k (a .j)) (subst (Failed (λ k. seen (a .count .now) k (a .j))) e (l .loop .inv .1)))
 
 pub lowest-spec : {M : Type 1} → statement M
 lowest-spec =
