@@ -1,2 +1,5 @@
 pub mod Equality
 pub mod Figures
+pub mod Selecting
+pub mod Positions
+pub mod Deciding

@@ -1,3 +1,4 @@
+pub mod SumWhere
 pub mod Sightings
 pub mod Bounds
 pub mod Table

@@ -8,9 +8,9 @@ use lib.IntN.{ℤ, pos, natAbs, _+ℤ_, _-ℤ_, _*ℤ_}
 use lib.Signed.{ltZ}
 use Rattle.exact.specs.Circle.{floor, modulo}
 use Rattle.exact.specs.First.{first}
-use Rattle.exact.specs.Sum.{sum}
 use Rattle.exact.specs.Tabulate.{tabulate}
 use Rattle.station.specs.Sightings.{eqZ}
+use Rattle.station.specs.SumWhere.{sumWhere}
 use Rattle.station.specs.Table.{entry}
 
 -- "Circle C = 1,296,000,000."
@@ -72,11 +72,11 @@ spreadFault n r i j = seen n i j && ltb 120000 (natAbs (e n r i j))
 
 -- "With P pairs": by the check of 23 each position that has the object has one pair
 unfoldable pub P : List ℤ → ℕ → ℤ
-P n j = sum 16 (λ i. cond (seen n i j) (pos 1) (pos 0))
+P n j = sumWhere 16 (λ i. seen n i j) (λ i. pos 1)
 
 -- the sum of e over the positions that have the object
 unfoldable pub sumOfE : List ℤ → List ℤ → ℕ → ℤ
-sumOfE n r j = sum 16 (λ i. cond (seen n i j) (e n r i j) (pos 0))
+sumOfE n r j = sumWhere 16 (λ i. seen n i j) (λ i. e n r i j)
 
 -- "t = P*b + sum of e"
 abbrev pub t : List ℤ → List ℤ → ℕ → ℤ

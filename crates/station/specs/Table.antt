@@ -1,16 +1,15 @@
 -- The station's table: for each face, position and object, how many sightings the list has, and what they read.
-use mathlib.Core.Bool.{Bool, cond}
 use mathlib.Core.List.{List}
 use Prim.Native.Nat.{ℕ, _+_, _*_, _/_, _%_}
 use lib.IntN.{ℤ, pos}
 use lib.ListN.{getD}
-use Rattle.exact.specs.Sum.{sum}
 use Rattle.exact.specs.Tabulate.{tabulate}
 use Rattle.station.specs.Sightings.{Book, sightings, isOf}
+use Rattle.station.specs.SumWhere.{sumWhere}
 
 -- the sum of a value v over the list's sightings of one face, position and object
 unfoldable pub total : Book → (ℕ → ℤ) → ℕ → ℕ → ℕ → ℤ
-total b v f i j = sum (sightings b) (λ h. cond (isOf b f i j h) (v h) (pos 0))
+total b v f i j = sumWhere (sightings b) (isOf b f i j) v
 
 -- how many there are
 abbrev pub one : ℕ → ℤ
