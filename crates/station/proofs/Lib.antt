@@ -1,5 +1,6 @@
 pub mod Equality
 pub mod Figures
 pub mod Selecting
+pub mod Tallying
 pub mod Positions
 pub mod Deciding
