@@ -4,6 +4,7 @@
 --   tallied                           the table after the first m sightings; tallied-none, tallied-more: before the first, and after one more
 --   stored                            the same of a table that is so far
 --   tallied-size                      how large its numbers are; tallied-all: at the end it is the whole table
+--   counts-within, readings-within    how large the numbers of the two whole tables are
 --   table-at                          what the whole table has of a face, a position and an object
 use mathlib.Core.Path.{_≡_, refl, sym, _∙_, ap, subst}
 use mathlib.Core.Bool.{Bool, true, false, _&&_, _||_}
@@ -21,7 +22,7 @@ use Rattle.exact.proofs.Filling.{tabulate-length, tabulate-at}
 use Rattle.station.specs.Bounds.{InRange, Within}
 use Rattle.station.specs.Sightings.{Book, sightings, outside, outOfRange, isOf}
 use Rattle.station.specs.SumWhere.{sumWhere}
-use Rattle.station.specs.Table.{total, slot, entry, tableOf}
+use Rattle.station.specs.Table.{total, one, read, slot, entry, tableOf, counts, readings}
 use Rattle.station.proofs.Equality.{eqZ-yes, eqZ-true, and-true}
 use Rattle.station.proofs.Selecting.{where-none, where-taken, where-passed, where-size}
 
@@ -172,3 +173,13 @@ module _ (b : Book) (v : ℕ → ℤ) where
 
       object-is : slot f i j % 16 ≡ j
       object-is = omega arith
+
+-- how large the numbers of the two tables are, for a list in range
+module _ (b : Book) (s : InRange b) where
+  pub counts-within : Within 512 (counts b)
+  counts-within k = subst (λ (l : List ℤ). natAbs (getD l k (pos 0)) ≤ 512) (tallied-all b one) (omega (arith, tallied-size b one (sightings b) 1 (λ i l. omega arith) k, s .few))
+
+  pub readings-within : Within 663552000000 (readings b)
+  readings-within k =
+      subst (λ (l : List ℤ). natAbs (getD l k (pos 0)) ≤ 663552000000) (tallied-all b (read b))
+      (omega (arith, tallied-size b (read b) (sightings b) 1295999999 (λ i l. in-fields (positionAt b i) (objectAt b i) (faceAt b i) (readingAt b i) (s .sound i l) .readings .1 .1) k, s .few))

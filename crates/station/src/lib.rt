@@ -6,6 +6,7 @@ mod checks;
 mod fields;
 mod pair;
 mod table;
+
 use reply::Refusal;
 use reply::Reply;
 ghost use mathlib.Core.Path.{_≡_};
@@ -24,7 +25,14 @@ pub fn means(
     ensures { λ r. ⌜ Answers (book (now (position .entry)) (now (object .entry)) (now (face .entry)) (now (reading .entry))) (now (direction .entry)) (now (pairs .entry)) r (now (direction .exit)) (now (pairs .exit)) ⌝ }
 {
     let n = position.len();
-    if !fields::lengths_fit(n, object.len(), face.len(), reading.len(), direction.len(), pairs.len()) {
+    if !fields::lengths_fit(
+        n,
+        object.len(),
+        face.len(),
+        reading.len(),
+        direction.len(),
+        pairs.len(),
+    ) {
         return Reply::Refused(Refusal::Sightings);
     }
     let h = fields::first_out_of_range(position, object, face, reading);

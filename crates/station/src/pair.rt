@@ -21,7 +21,10 @@ pub fn faces_differ(sums: &[i64; 512], i: usize, j: usize) -> i64
     requires { ⌜ (Within 663552000000 (now sums) × ((i < 16) × (j < 16))) ⌝ }
     ensures { λ r. ⌜ r ≡ s (now (sums .entry)) i j ⌝ }
 {
-    centred(entry(sums, 1, i, j) - entry(sums, 0, i, j) - 648000000, 648000000)
+    centred(
+        entry(sums, 1, i, j) - entry(sums, 0, i, j) - 648000000,
+        648000000,
+    )
 }
 
 // g: twice the direction from the initial, by the pair of a position and an object.
@@ -30,7 +33,10 @@ pub fn doubled_direction(sums: &[i64; 512], i: usize, j: usize) -> i64
     ensures { λ r. ⌜ r ≡ g (now (sums .entry)) i j ⌝ }
 {
     let turned = 2 * (entry(sums, 0, i, j) - entry(sums, 0, i, 0));
-    exact::modulo(turned + faces_differ(sums, i, j) - faces_differ(sums, i, 0), 2592000000)
+    exact::modulo(
+        turned + faces_differ(sums, i, j) - faces_differ(sums, i, 0),
+        2592000000,
+    )
 }
 
 // The lowest position in which the object was sighted; 16 where there is none.

@@ -53,9 +53,9 @@ loop-again c =
     let l = c .before .before .before in let i = l .loop .i in let seen-is = sym (c .before .seen .ensures) in (
       omega arith,
       ⊎-elim
-      (λ w. ap (toZ w64) (w .1) ∙ read (add-n (record { before = c .before; if1 = w .0 })) ∙ (λ t. l .loop .inv .1 t +ℤ pos 1) ∙ sym (where-taken (has (l .before)) (one (l .before)) i (seen-is ∙ w .0 .taken)))
-      (λ w. ap (toZ w64) (w .1) ∙ l .loop .inv .1 ∙ sym (where-passed (has (l .before)) (one (l .before)) i (seen-is ∙ w .0 .left)))
-      (c .if1 .came),
+          (λ w. ap (toZ w64) (w .1) ∙ read (add-n (record { before = c .before; if1 = w .0 })) ∙ (λ t. l .loop .inv .1 t +ℤ pos 1) ∙ sym (where-taken (has (l .before)) (one (l .before)) i (seen-is ∙ w .0 .taken)))
+          (λ w. ap (toZ w64) (w .1) ∙ l .loop .inv .1 ∙ sym (where-passed (has (l .before)) (one (l .before)) i (seen-is ∙ w .0 .left)))
+          (c .if1 .came),
     )
 
 returns : tie.Need-returns Inv-loop μ-loop

@@ -66,11 +66,11 @@ loop-again c =
     let l = c .before .before .before in let s = l .before in let i = l .loop .i in let seen-is = sym (c .before .seen .ensures) in (
       omega arith,
       ⊎-elim
-      (λ w.
-      let d : tie.After-from-base Inv-loop μ-loop = record { before = record { before = c .before; if1 = w .0 }; from-base = w .1 } in
-      ap (toZ w64) (w .2) ∙ read (add-total d) ∙ (λ t. l .loop .inv .1 t +ℤ off-read d t) ∙ sym (where-taken (has s) (off s) i (seen-is ∙ w .0 .taken)))
-      (λ w. ap (toZ w64) (w .1) ∙ l .loop .inv .1 ∙ sym (where-passed (has s) (off s) i (seen-is ∙ w .0 .left)))
-      (c .if1 .came),
+          (λ w.
+          let d : tie.After-from-base Inv-loop μ-loop = record { before = record { before = c .before; if1 = w .0 }; from-base = w .1 } in
+          ap (toZ w64) (w .2) ∙ read (add-total d) ∙ (λ t. l .loop .inv .1 t +ℤ off-read d t) ∙ sym (where-taken (has s) (off s) i (seen-is ∙ w .0 .taken)))
+          (λ w. ap (toZ w64) (w .1) ∙ l .loop .inv .1 ∙ sym (where-passed (has s) (off s) i (seen-is ∙ w .0 .left)))
+          (c .if1 .came),
     )
 
 returns : tie.Need-returns Inv-loop μ-loop
