@@ -4,3 +4,5 @@ pub mod Selecting
 pub mod Tallying
 pub mod Positions
 pub mod Deciding
+pub mod Uniqueness
+pub mod StationFigures
