@@ -4,5 +4,7 @@ pub mod Selecting
 pub mod Tallying
 pub mod Positions
 pub mod Deciding
+pub mod Accepting
+pub mod Pairing
 pub mod Uniqueness
 pub mod StationFigures
