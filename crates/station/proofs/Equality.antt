@@ -2,6 +2,7 @@
 --   eqZ-yes, eqZ-no        it passes for equal numbers, and fails for unequal ones; eqZ-true: where it passes, they are equal
 --   eqZ-bits               the machine's `==` on their bits is the same test
 --   and-true               both sides of an `&&` that passes
+--   same-tests             two tests that pass together are the same
 use mathlib.Core.Path.{_≡_, refl, sym, _∙_, ap, subst}
 use mathlib.Core.Bool.{Bool, true, false, _&&_}
 use Prim.Native.Nat.{ℕ}
@@ -45,3 +46,8 @@ eqZ-bits a b f g = by-test (eqb (ofZ w64 a) (ofZ w64 b)) refl
 pub and-true : (a b : Bool) → a && b ≡ true → (a ≡ true) × (b ≡ true)
 and-true true b p = (refl, p)
 and-true false b p = absurd (subst T (sym p) tt)
+
+pub same-tests : (x y : Bool) → (x ≡ true → y ≡ true) → (y ≡ true → x ≡ true) → x ≡ y
+same-tests true y f g = sym (f refl)
+same-tests false true f g = g refl
+same-tests false false f g = refl

@@ -6,5 +6,6 @@ pub mod Positions
 pub mod Deciding
 pub mod Accepting
 pub mod Pairing
+pub mod Rearranging
 pub mod Uniqueness
 pub mod StationFigures

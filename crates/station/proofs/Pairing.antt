@@ -25,7 +25,7 @@ use Rattle.station.specs.Table.{one, read, total, entry, counts, reading
 use Rattle.station.specs.Means.{L, R, seen, facesFault, P}
 use Rattle.station.specs.Replies.{replyOf}
 use Rattle.station.proofs.Accepting.{Passed, passed}
-use Rattle.station.proofs.Equality.{eqZ-yes, eqZ-true, and-true}
+use Rattle.station.proofs.Equality.{eqZ-yes, eqZ-true, and-true, same-tests}
 use Rattle.station.proofs.Selecting.{OnlyOne, where-one, where-zero, where-nonneg}
 use Rattle.station.proofs.Tallying.{InFields, in-fields, positionAt, objectAt, faceAt, readingAt, table-at}
 
@@ -165,13 +165,10 @@ module _ (b : Book) (d p : ℕ) (accepted : replyOf b d p ≡ Accepted) where
   pub pairs-counted : (j : ℕ) → j < 16 → (test : ℕ → Bool) → ((i : ℕ) → i < 16 → test i ≡ true → Joined b i j) → ((i : ℕ) → i < 16 → Joined b i j → test i ≡ true) →
       P (counts b) j ≡ sumWhere 16 test one
   unfolding P
-  pairs-counted j lj test to from = sum-ext 16 (λ i. cond (seen (counts b) i j) (pos 1) (pos 0)) (λ i. cond (test i) (pos 1) (pos 0)) (λ i li t. cond (same i li (seen (counts b) i j) refl (test i) refl t) (pos 1) (pos 0))
+  pairs-counted j lj test to from = sum-ext 16 (λ i. cond (seen (counts b) i j) (pos 1) (pos 0)) (λ i. cond (test i) (pos 1) (pos 0)) (λ i li t. cond (same i li t) (pos 1) (pos 0))
     where
-      same : (i : ℕ) → i < 16 → (x : Bool) → seen (counts b) i j ≡ x → (y : Bool) → test i ≡ y → x ≡ y
-      same i li true e true q = refl
-      same i li true e false q = absurd (subst T (sym (from i li (paired i j li lj e)) ∙ q) tt)
-      same i li false e true q = absurd (subst T (sym (is-seen b i j li lj 0 _ (omega arith) (to i li q .pair .left)) ∙ e) tt)
-      same i li false e false q = refl
+      same : (i : ℕ) → i < 16 → seen (counts b) i j ≡ test i
+      same i li = same-tests (seen (counts b) i j) (test i) (λ e. from i li (paired i j li lj e)) (λ e. is-seen b i j li lj 0 _ (omega arith) (to i li e .pair .left))
 
 -- ---- at most one pair: a sighting has one position, one object and one face
 module _ (b : Book) {p o p′ o′ h k h′ k′ : ℕ} (x : Pair b p o h k) (y : Pair b p′ o′ h′ k′) where
@@ -179,14 +176,16 @@ module _ (b : Book) {p o p′ o′ h k h′ k′ : ℕ} (x : Pair b p o h k) (y 
   number e f = ap natAbs (sym e ∙ f)
 
   pub one-pair-left : h ≡ h′ → (p ≡ p′) × (o ≡ o′)
-  one-pair-left e =
-      (number (x .left .position-is) (ap (λ (m : ℕ). getD (b .position) m (pos 0)) e ∙ y .left .position-is),
-      number (x .left .object-is) (ap (λ (m : ℕ). getD (b .object) m (pos 0)) e ∙ y .left .object-is))
+  one-pair-left e = (
+    number (x .left .position-is) (ap (λ (m : ℕ). getD (b .position) m (pos 0)) e ∙ y .left .position-is),
+    number (x .left .object-is) (ap (λ (m : ℕ). getD (b .object) m (pos 0)) e ∙ y .left .object-is),
+  )
 
   pub one-pair-right : k ≡ k′ → (p ≡ p′) × (o ≡ o′)
-  one-pair-right e =
-      (number (x .right .position-is) (ap (λ (m : ℕ). getD (b .position) m (pos 0)) e ∙ y .right .position-is),
-      number (x .right .object-is) (ap (λ (m : ℕ). getD (b .object) m (pos 0)) e ∙ y .right .object-is))
+  one-pair-right e = (
+    number (x .right .position-is) (ap (λ (m : ℕ). getD (b .position) m (pos 0)) e ∙ y .right .position-is),
+    number (x .right .object-is) (ap (λ (m : ℕ). getD (b .object) m (pos 0)) e ∙ y .right .object-is),
+  )
 
   pub left-not-right : h ≡ k′ → ⊥
   left-not-right e = let z = number (x .left .face-is) (ap (λ (m : ℕ). getD (b .face) m (pos 0)) e ∙ y .right .face-is) in omega arith

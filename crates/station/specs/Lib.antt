@@ -2,6 +2,7 @@ pub mod SumWhere
 pub mod Sightings
 pub mod Bounds
 pub mod Pairs
+pub mod Rearrangement
 pub mod Table
 pub mod Means
 pub mod Replies
