@@ -54,17 +54,28 @@ pub fn with_reading(mut b: Book, at: usize, v: i64) -> Book
 }
 
 // One sighting, at a place of the list.
-fn sighting(b: Book, at: usize, position: i64, object: i64, face: i64, reading: i64) -> Book
+fn sighting(mut b: Book, at: usize, position: i64, object: i64, face: i64, reading: i64) -> Book
     requires { ⌜ at < 513 ⌝ }
 {
-    with_reading(with_face(with_object(with_position(b, at, position), at, object), at, face), at, reading)
+    b.position[at] = position;
+    b.object[at] = object;
+    b.face[at] = face;
+    b.reading[at] = reading;
+    b
 }
 
 // One pair, at two places of the list.
 fn pair(b: Book, at: usize, position: i64, object: i64, left: i64, right: i64) -> Book
     requires { ⌜ at < 512 ⌝ }
 {
-    sighting(sighting(b, at, position, object, 0, left), at + 1, position, object, 1, right)
+    sighting(
+        sighting(b, at, position, object, 0, left),
+        at + 1,
+        position,
+        object,
+        1,
+        right,
+    )
 }
 
 // One pair of an object, without its initial.
@@ -74,12 +85,26 @@ pub fn two(position: i64, object: i64) -> Book {
 
 // Position 1: object 1 and object 2, each by its left and right reading.
 pub fn four(initial_left: i64, initial_right: i64, left: i64, right: i64) -> Book {
-    pair(pair(empty(), 0, 1, 1, initial_left, initial_right), 2, 1, 2, left, right)
+    pair(
+        pair(empty(), 0, 1, 1, initial_left, initial_right),
+        2,
+        1,
+        2,
+        left,
+        right,
+    )
 }
 
 // Two positions, the second first in the list: object 1 at 0 in both, object 2 by its readings in position 1 and in position 2.
 pub fn eight(left: i64, right: i64, other_left: i64, other_right: i64) -> Book {
-    let later = pair(pair(empty(), 0, 2, 1, 0, 648000000), 2, 2, 2, other_left, other_right);
+    let later = pair(
+        pair(empty(), 0, 2, 1, 0, 648000000),
+        2,
+        2,
+        2,
+        other_left,
+        other_right,
+    );
     pair(pair(later, 4, 1, 1, 0, 648000000), 6, 1, 2, left, right)
 }
 
@@ -100,7 +125,8 @@ fn readings(i: usize, j: usize, noisy: bool) -> BothFaces
     requires { ⌜ (i < 16) × (j < 16) ⌝ }
     ensures { λ r. ⌜ (r .left < 1296000000) × (r .right < 1296000000) ⌝ }
 {
-    let left = (81000000 * j + 40503217 * i + noise(noisy, 1000 * ((5 * i + 3 * j) % 17))) % 1296000000;
+    let left = (81000000 * j + 40503217 * i + noise(noisy, 1000 * ((5 * i + 3 * j) % 17)))
+        % 1296000000;
     let off = noise(noisy, 1000 * ((7 * i + 13 * j) % 11));
     BothFaces {
         left,
@@ -108,27 +134,28 @@ fn readings(i: usize, j: usize, noisy: bool) -> BothFaces
     }
 }
 
-// Number k of face, position and object, at a place of the list.
-fn numbered(b: Book, at: usize, k: usize, noisy: bool) -> Book
-    requires { ⌜ (at < 513) × (k < 512) ⌝ }
+// The reading of number k of face, position and object.
+fn reading_of(k: usize, noisy: bool) -> i64
+    requires { ⌜ k < 512 ⌝ }
 {
-    let i = k % 256 / 16;
-    let j = k % 16;
-    let r = readings(i, j, noisy);
+    let r = readings(k % 256 / 16, k % 16, noisy);
     if k < 256 {
-        return sighting(b, at, (i + 1) as i64, (j + 1) as i64, 0, r.left as i64);
+        return r.left as i64;
     }
-    sighting(b, at, (i + 1) as i64, (j + 1) as i64, 1, r.right as i64)
+    r.right as i64
 }
 
-// 16 positions by 16 objects by 2 faces: the sighting at place h is number (start + h * step) % 512.
+// 16 positions by 16 objects by 2 faces: the sighting at place h is number (start + h * step) % 512 of face, position and object.
 pub fn whole(noisy: bool, step: usize, start: usize) -> Book
     requires { ⌜ (step ≤ 511) × (start ≤ 511) ⌝ }
 {
     let mut b = empty();
     let mut k = start;
     for h in 0..512 {
-        b = numbered(b, h, k, noisy);
+        b.position[h] = (k % 256 / 16 + 1) as i64;
+        b.object[h] = (k % 16 + 1) as i64;
+        b.face[h] = (k / 256) as i64;
+        b.reading[h] = reading_of(k, noisy);
         k = (k + step) % 512;
     }
     b
