@@ -7,5 +7,6 @@ pub mod Deciding
 pub mod Accepting
 pub mod Pairing
 pub mod Rearranging
+pub mod Averaging
 pub mod Uniqueness
 pub mod StationFigures
