@@ -6,6 +6,7 @@ pub mod Positions
 pub mod Deciding
 pub mod Accepting
 pub mod Pairing
+pub mod Counting
 pub mod Rearranging
 pub mod Averaging
 pub mod Uniqueness

@@ -43,7 +43,7 @@ module _ (b : Book) (f i j h : ℕ) where
   tested s = rw (eqZ-yes (s .face-is), eqZ-yes (s .position-is)) (eqZ-yes (s .object-is))
 
 -- ---- one left and one right
-once-each : (n : List ℤ) (i j : ℕ) → seen n i j ≡ true → facesFault n i j ≡ false → (entry n 0 i j ≡ pos 1) × (entry n 1 i j ≡ pos 1)
+pub once-each : (n : List ℤ) (i j : ℕ) → seen n i j ≡ true → facesFault n i j ≡ false → (entry n 0 i j ≡ pos 1) × (entry n 1 i j ≡ pos 1)
 unfolding facesFault
 once-each n i j s e =
     let x = and-true (eqZ (entry n 0 i j) (pos 1)) (eqZ (entry n 1 i j) (pos 1)) (not-false _ ((λ t. sym s t && not (eqZ (entry n 0 i j) (pos 1) && eqZ (entry n 1 i j) (pos 1))) ∙ e)) in
@@ -58,10 +58,10 @@ pub record Joined (b : Book) (i j : ℕ) : Type 0 where
   pub right-reading : R (readings b) i j ≡ read b right
 
 -- the position and the object that a sighting's own fields say, counted from 0
-abbrev ownPosition : Book → ℕ → ℕ
+abbrev pub ownPosition : Book → ℕ → ℕ
 ownPosition b m = natAbs (positionAt b m) - 1
 
-abbrev ownObject : Book → ℕ → ℕ
+abbrev pub ownObject : Book → ℕ → ℕ
 ownObject b m = natAbs (objectAt b m) - 1
 
 -- ---- an object of which a position has a sighting is seen there
@@ -71,7 +71,7 @@ nothing x y a c e =
     (eq-by (search linear) (search linear) (omega (arith, orders)), eq-by (search linear) (search linear) (omega (arith, orders)))
 
 module _ (b : Book) (i j : ℕ) (li : i < 16) (lj : j < 16) where
-  counted : (f : ℕ) → f < 2 → entry (counts b) f i j ≡ sumWhere (sightings b) (isOf b f i j) one
+  pub counted : (f : ℕ) → f < 2 → entry (counts b) f i j ≡ sumWhere (sightings b) (isOf b f i j) one
   unfolding total
   counted f lf = table-at b one f i j lf li lj
 
@@ -79,7 +79,7 @@ module _ (b : Book) (i j : ℕ) (li : i < 16) (lj : j < 16) where
   counted-nonneg f lf = rw (counted f lf) (where-nonneg (isOf b f i j) (sightings b))
 
   -- where the object is not seen, both counts are 0
-  not-seen : seen (counts b) i j ≡ false → (entry (counts b) 0 i j ≡ pos 0) × (entry (counts b) 1 i j ≡ pos 0)
+  pub not-seen : seen (counts b) i j ≡ false → (entry (counts b) 0 i j ≡ pos 0) × (entry (counts b) 1 i j ≡ pos 0)
   unfolding seen
   not-seen e = nothing (entry (counts b) 0 i j) (entry (counts b) 1 i j) (counted-nonneg 0 (omega arith)) (counted-nonneg 1 (omega arith)) e
 

@@ -1,5 +1,4 @@
 -- The answer does not depend on the order of arrival. Assumes nothing.
---   where-at                a sum in which the test picks one number is the term of that number
 --   sum-rearranged          a sum keeps its value when its terms are rearranged
 --   counts-rearranged, readings-rearranged      so do the station's two tables
 --   turned                  a rearrangement is one the other way round too
@@ -32,20 +31,9 @@ use Rattle.station.specs.Means.{directions, pairCounts}
 use Rattle.station.specs.Replies.{tableReply, replyOf, leaves, Answers}
 use Rattle.station.proofs.Deciding.{fit, reply-lengths, reply-field, reply-table}
 use Rattle.station.proofs.Equality.{same-tests}
-use Rattle.station.proofs.Selecting.{chosen, where-failed}
+use Rattle.station.proofs.Selecting.{chosen, where-at}
 
 -- ---- sums
-where-at : (n m : ℕ) (f : ℕ → ℤ) → m < n → sumWhere n (λ k. eqb k m) f ≡ f m
-where-at zero m f l = absurd (omega arith)
-where-at (suc n) m f l = by-order (decLt m n) (where-at n m f)
-  where
-    by-order : Dec (m < n) → (m < n → sumWhere n (λ k. eqb k m) f ≡ f m) → sumWhere (suc n) (λ k. eqb k m) f ≡ f m
-    by-order (yes k) r = sum-next n (chosen (λ k. eqb k m) f) ∙ (λ t. r k t +ℤ cond (ne-eqb n m (λ e. omega arith) t) (f n) (pos 0)) ∙ +ℤ-idr (f m)
-    by-order (no k) r =
-        sum-next n (chosen (λ k. eqb k m) f)
-        ∙ (λ t. where-failed (λ k. eqb k m) f n (λ i q. ne-eqb i m (λ e. omega arith)) t +ℤ cond (eq-eqb n m (omega arith) t) (f n) (pos 0))
-        ∙ +ℤ-idl (f n) ∙ ap f (omega arith)
-
 module _ (n : ℕ) (from to : ℕ → ℕ) (from-in : (h : ℕ) → h < n → from h < n) (to-in : (h : ℕ) → h < n → to h < n)
     (back : (h : ℕ) → h < n → to (from h) ≡ h) (forth : (h : ℕ) → h < n → from (to h) ≡ h) (f : ℕ → ℤ) where
   same-pick : (h k : ℕ) → h < n → k < n → eqb k (from h) ≡ eqb h (to k)

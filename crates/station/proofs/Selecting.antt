@@ -3,6 +3,7 @@
 --   where-taken, where-passed        one more number: its term is added where the test holds, and nothing where it fails
 --   where-size              the size of such a sum, each term within B
 --   where-failed            a sum where the test holds nowhere is 0
+--   where-at                a sum in which the test picks one number is the term of that number
 --   where-nonneg, where-zero        a count is not below 0; a count of 0 says that the test holds nowhere
 --   OnlyOne, where-one      a count of 1 says that the test holds at one number alone, and a sum is then the term of that number
 use mathlib.Core.Path.{_≡_, refl, sym, _∙_, ap, subst}
@@ -11,7 +12,8 @@ use mathlib.Core.List.{[], _∷_}
 use Prim.Native.Nat.{ℕ, zero, suc, _+_, _*_, _<_, _≤_}
 use native.Mathlib.Decide.{decLt}
 use native.Mathlib.Omega.{arith}
-use lib.Dec.{T}
+use borrow.Author.Tests.{eq-eqb, ne-eqb}
+use lib.Dec.{T, eqb}
 use lib.IntN.{ℤ, pos, natAbs, _+ℤ_, +ℤ-idl, +ℤ-idr}
 use lib.Signed.{_≤ℤ_}
 use Rattle.exact.specs.Sum.{sum}
@@ -41,6 +43,18 @@ module _ (test : ℕ → Bool) (v : ℕ → ℤ) where
       by-test : (t : Bool) (z : ℤ) → natAbs z ≤ B → natAbs (cond t z (pos 0)) ≤ B
       by-test true z k = k
       by-test false z k = omega arith
+
+-- ---- one number alone
+pub where-at : (n m : ℕ) (f : ℕ → ℤ) → m < n → sumWhere n (λ k. eqb k m) f ≡ f m
+where-at zero m f l = absurd (omega arith)
+where-at (suc n) m f l = by-order (decLt m n) (where-at n m f)
+  where
+    by-order : Dec (m < n) → (m < n → sumWhere n (λ k. eqb k m) f ≡ f m) → sumWhere (suc n) (λ k. eqb k m) f ≡ f m
+    by-order (yes k) r = sum-next n (chosen (λ k. eqb k m) f) ∙ (λ t. r k t +ℤ cond (ne-eqb n m (λ e. omega arith) t) (f n) (pos 0)) ∙ +ℤ-idr (f m)
+    by-order (no k) r =
+        sum-next n (chosen (λ k. eqb k m) f)
+        ∙ (λ t. where-failed (λ k. eqb k m) f n (λ i q. ne-eqb i m (λ e. omega arith)) t +ℤ cond (eq-eqb n m (omega arith) t) (f n) (pos 0))
+        ∙ +ℤ-idl (f n) ∙ ap f (omega arith)
 
 -- ---- counts
 abbrev one : ℕ → ℤ
