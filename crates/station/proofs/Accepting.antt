@@ -1,14 +1,11 @@
 -- What an accepted list has passed. Assumes nothing.
 --   Passed, passed               every check, at every position and object: no field out of range, no fault of 23 to 26
 use mathlib.Core.Path.{_≡_, refl, sym, _∙_, ap, subst}
-use mathlib.Core.Bool.{Bool, true, false, not, cond}
-use mathlib.Core.List.{List}
-use Prim.Native.Nat.{ℕ, _+_, _*_, _/_, _%_, _<_, _≤_}
+use mathlib.Core.Bool.{Bool, true, false, not}
+use Prim.Native.Nat.{ℕ, _+_, _*_, _/_, _%_, _<_}
 use native.Mathlib.Omega.{arith}
 use borrow.Author.Tests.{not-false}
 use lib.Dec.{T, ltb}
-use lib.IntN.{ℤ}
-use lib.ListN.{length}
 use Rattle.exact.specs.First.{first}
 use Rattle.exact.proofs.Searching.{Failed, all-failed, first-none}
 use Rattle.reply.specs.Checks.{refuseIf, refuseFirst, _andThen_}
@@ -16,7 +13,6 @@ use Rattle.reply.specs.declared.Refusal.{Refusal}
 use Rattle.reply.specs.declared.Refusal.the-variants.{Sightings, Field}
 use Rattle.reply.specs.declared.Reply.{Reply}
 use Rattle.reply.specs.declared.Reply.the-variants.{Accepted, Refused}
-use Rattle.station.specs.declared.checks.Check.{Check}
 use Rattle.station.specs.declared.checks.Check.the-variants.{PairsWhole, InitialSeen, FacesClose, PositionsAgree}
 use Rattle.station.specs.Bounds.{InRange}
 use Rattle.station.specs.Sightings.{Book, sightings, fieldFault}

@@ -10,22 +10,22 @@ use native.Mathlib.Omega.{arith}
 use borrow.Author.Tests.{ltb-false}
 use lib.Dec.{T, ltb}
 use lib.IntN.{ℤ, pos, negℤ, natAbs, _+ℤ_, _-ℤ_, _*ℤ_}
-use lib.Signed.{ltZ, _≤ℤ_, _<ℤ_, clashℤ}
+use lib.Signed.{ltZ, _≤ℤ_, _<ℤ_}
 use Rattle.exact.specs.Circle.{floor, modulo}
-use Rattle.exact.specs.Sum.{sum}
 use Rattle.exact.proofs.Circles.{floor-low, floor-high, modulo-only}
 use Rattle.exact.proofs.Identity.{letters, polynomials, ring-by}
-use Rattle.exact.proofs.Linear.{Difference, unknowns, linear, orders, one-sided, eq-by, le-by, lt-by, abs-by, le-of, lt-of, eq-of}
+use Rattle.exact.proofs.Linear.{unknowns, linear, orders, one-sided, eq-by, le-by, lt-by, abs-by, le-of, lt-of}
 use Rattle.exact.proofs.Order.{lt-or-le, lt-le, le-antisym, mul-le-left}
 use Rattle.exact.proofs.Sum.{sum-le, sum-mul}
 use Rattle.reply.specs.declared.Reply.the-variants.{Accepted}
 use Rattle.station.specs.Sightings.{Book}
 use Rattle.station.specs.SumWhere.{sumWhere}
-use Rattle.station.specs.Table.{counts, readings}
+use Rattle.station.specs.Table.{one, counts, readings}
 use Rattle.station.specs.Means.{C, centred, seen, g, base, e, spreadFault, P, sumOfE, t, direction}
 use Rattle.station.specs.Replies.{replyOf}
 use Rattle.station.proofs.Accepting.{passed}
-use Rattle.station.proofs.Selecting.{where-nonneg, where-zero}
+use Rattle.station.proofs.Figures.{twice-above}
+use Rattle.station.proofs.Selecting.{chosen, where-nonneg, where-zero}
 
 -- ---- whole circles
 -- z is what is left of it and whole circles
@@ -39,11 +39,8 @@ centred-turns z half = apart z half (floor (z +ℤ half) (pos 2 *ℤ half))
 pub centred-only : (z half q r : ℤ) → pos 0 <ℤ half → z ≡ pos 2 *ℤ half *ℤ q +ℤ r → natAbs r < natAbs half → centred z half ≡ r
 unfolding centred
 centred-only z half q r h e l =
-    ap (λ (x : ℤ). x -ℤ half) (modulo-only (z +ℤ half) (pos 2 *ℤ half) q (r +ℤ half) twice (ap (λ (x : ℤ). x +ℤ half) e ∙ moved (pos 2 *ℤ half *ℤ q)) low high) ∙ back
+    ap (λ (x : ℤ). x -ℤ half) (modulo-only (z +ℤ half) (pos 2 *ℤ half) q (r +ℤ half) (twice-above half h) (ap (λ (x : ℤ). x +ℤ half) e ∙ moved (pos 2 *ℤ half *ℤ q)) low high) ∙ back
   where
-    twice : pos 0 <ℤ (pos 2 *ℤ half)
-    twice = let v = unknowns (half ∷ []) in lt-by (search linear) (search linear) (omega (arith, orders))
-
     moved : (x : ℤ) → x +ℤ r +ℤ half ≡ x +ℤ (r +ℤ half)
     moved x = let v = unknowns (x ∷ r ∷ half ∷ []) in eq-by (search linear) (search linear) (omega arith)
 
@@ -92,7 +89,7 @@ module _ (test : ℕ → Bool) (v : ℕ → ℤ) (B n : ℕ) (small : (i : ℕ) 
   term-low false z h = le-by (search linear) (search linear) (omega arith)
 
   abbrev number : ℤ
-  number = sumWhere n test (λ i. pos 1)
+  number = sumWhere n test one
 
   turned-round : (x : ℤ) → pos B *ℤ x ≡ x *ℤ pos B
   turned-round x = let u = unknowns (x ∷ []) in eq-by (search linear) (search linear) (omega arith)
@@ -102,13 +99,13 @@ module _ (test : ℕ → Bool) (v : ℕ → ℤ) (B n : ℕ) (small : (i : ℕ) 
 
   where-high : sumWhere n test v ≤ℤ (number *ℤ pos B)
   where-high =
-      subst (λ (x : ℤ). sumWhere n test v ≤ℤ x) (sum-mul n (pos B) (λ i. cond (test i) (pos 1) (pos 0)) ∙ turned-round number)
-      (sum-le n (λ i. cond (test i) (v i) (pos 0)) (λ i. pos B *ℤ cond (test i) (pos 1) (pos 0)) (λ i l. term-high (test i) (v i) (small i l)))
+      subst (λ (x : ℤ). sumWhere n test v ≤ℤ x) (sum-mul n (pos B) (chosen test one) ∙ turned-round number)
+      (sum-le n (chosen test v) (λ i. pos B *ℤ cond (test i) (pos 1) (pos 0)) (λ i l. term-high (test i) (v i) (small i l)))
 
   where-low : negℤ (number *ℤ pos B) ≤ℤ sumWhere n test v
   where-low =
-      subst (λ (x : ℤ). x ≤ℤ sumWhere n test v) (sum-mul n (negℤ (pos B)) (λ i. cond (test i) (pos 1) (pos 0)) ∙ turned-down number)
-      (sum-le n (λ i. negℤ (pos B) *ℤ cond (test i) (pos 1) (pos 0)) (λ i. cond (test i) (v i) (pos 0)) (λ i l. term-low (test i) (v i) (small i l)))
+      subst (λ (x : ℤ). x ≤ℤ sumWhere n test v) (sum-mul n (negℤ (pos B)) (chosen test one) ∙ turned-down number)
+      (sum-le n (λ i. negℤ (pos B) *ℤ cond (test i) (pos 1) (pos 0)) (chosen test v) (λ i l. term-low (test i) (v i) (small i l)))
 
 -- ---- the direction of an accepted list
 lt-yes : (a b : ℤ) → a <ℤ b → ltZ a b ≡ true
@@ -158,12 +155,15 @@ module _ (n r : List ℤ) (i j : ℕ) (li : i < 16) (here : seen n i j ≡ true)
   above : pos 0 <ℤ pairs
   above = some-pair n i j li here
 
-  twice-above : pos 0 <ℤ (pos 2 *ℤ pairs)
-  twice-above = let v = unknowns (pairs ∷ []) in lt-by (search linear) (search linear) (omega (arith, orders, above))
-
   -- the floor, before whole circles are taken away
   abbrev mean : ℤ
   mean = floor (t n r j +ℤ pairs) (pos 2 *ℤ pairs)
+
+  floor-below : (pos 2 *ℤ pairs *ℤ mean) ≤ℤ (t n r j +ℤ pairs)
+  floor-below = floor-low (t n r j +ℤ pairs) (pos 2 *ℤ pairs) (twice-above pairs above)
+
+  floor-above : (t n r j +ℤ pairs) <ℤ (pos 2 *ℤ pairs *ℤ mean +ℤ pos 2 *ℤ pairs)
+  floor-above = floor-high (t n r j +ℤ pairs) (pos 2 *ℤ pairs) (twice-above pairs above)
 
   is-mean : direction n r j ≡ mean -ℤ C *ℤ floor mean C
   unfolding direction modulo
@@ -172,17 +172,23 @@ module _ (n r : List ℤ) (i j : ℕ) (li : i < 16) (here : seen n i j ≡ true)
   small : (k : ℕ) → k < 16 → seen n k j ≡ true → natAbs (e n r k j) ≤ 120000
   small k l s = e-within n r k j s (agree k l)
 
-  mean-high : (pos 2 *ℤ mean) ≤ℤ (base n r j +ℤ pos 120000 +ℤ pos 1)
+  es-low : negℤ (pairs *ℤ pos 120000) ≤ℤ sumOfE n r j
   unfolding P sumOfE
+  es-low = where-low (λ k. seen n k j) (λ k. e n r k j) 120000 16 small
+
+  es-high : sumOfE n r j ≤ℤ (pairs *ℤ pos 120000)
+  unfolding P sumOfE
+  es-high = where-high (λ k. seen n k j) (λ k. e n r k j) 120000 16 small
+
+  mean-high : (pos 2 *ℤ mean) ≤ℤ (base n r j +ℤ pos 120000 +ℤ pos 1)
   mean-high =
-      not-above pairs (base n r j) (sumOfE n r j) mean (pos 120000) above (floor-low (t n r j +ℤ pairs) (pos 2 *ℤ pairs) twice-above) (floor-high (t n r j +ℤ pairs) (pos 2 *ℤ pairs) twice-above)
-      (where-low (λ k. seen n k j) (λ k. e n r k j) 120000 16 small) (where-high (λ k. seen n k j) (λ k. e n r k j) 120000 16 small)
+      not-above pairs (base n r j) (sumOfE n r j) mean (pos 120000) above floor-below floor-above
+      es-low es-high
 
   mean-low : (base n r j -ℤ pos 120000 -ℤ pos 1) ≤ℤ (pos 2 *ℤ mean)
-  unfolding P sumOfE
   mean-low =
-      not-below pairs (base n r j) (sumOfE n r j) mean (pos 120000) above (floor-low (t n r j +ℤ pairs) (pos 2 *ℤ pairs) twice-above) (floor-high (t n r j +ℤ pairs) (pos 2 *ℤ pairs) twice-above)
-      (where-low (λ k. seen n k j) (λ k. e n r k j) 120000 16 small) (where-high (λ k. seen n k j) (λ k. e n r k j) 120000 16 small)
+      not-below pairs (base n r j) (sumOfE n r j) mean (pos 120000) above floor-below floor-above
+      es-low es-high
 
   pub near-pair : natAbs (centred (pos 2 *ℤ direction n r j -ℤ g r i j) C) ≤ 240001
   unfolding e

@@ -2,19 +2,16 @@
 --   twice-the-pairs         twice the sum of all P is the number of sightings
 use mathlib.Core.Path.{_≡_, refl, sym, _∙_, ap}
 use mathlib.Core.Bool.{Bool, true, false, cond, _&&_}
-use mathlib.Core.List.{[], _∷_}
-use Prim.Native.Nat.{ℕ, zero, suc, _+_, _-_, _<_, _≤_}
+use Prim.Native.Nat.{ℕ, zero, suc, _+_, _<_, _≤_}
 use native.Mathlib.Numerals.{add-one}
 use native.Mathlib.Omega.{arith}
 use borrow.Author.Tests.{eq-eqb, eqb-true}
 use lib.Dec.{eqb}
 use lib.IntN.{ℤ, pos, natAbs, _+ℤ_, _*ℤ_}
 use Rattle.exact.specs.Sum.{sum}
-use Rattle.exact.proofs.Linear.{unknowns, linear, eq-by}
 use Rattle.exact.proofs.Sum.{sum-none, sum-next, sum-ext, sum-add, sum-mul, sum-swap}
 use Rattle.reply.specs.declared.Reply.the-variants.{Accepted}
-use Rattle.station.specs.Sightings.{Book, sightings, eqZ, isOf}
-use Rattle.station.specs.SumWhere.{sumWhere}
+use Rattle.station.specs.Sightings.{Book, sightings, positionAt, objectAt, faceAt, eqZ, isOf}
 use Rattle.station.specs.Table.{one, entry, counts}
 use Rattle.station.specs.Means.{seen, P}
 use Rattle.station.specs.Replies.{replyOf}
@@ -22,7 +19,7 @@ use Rattle.station.proofs.Accepting.{Passed, passed}
 use Rattle.station.proofs.Equality.{eqZ-yes, eqZ-true, same-tests}
 use Rattle.station.proofs.Pairing.{ownPosition, ownObject, once-each, counted, not-seen}
 use Rattle.station.proofs.Selecting.{chosen, where-at}
-use Rattle.station.proofs.Tallying.{InFields, in-fields, positionAt, objectAt, faceAt, readingAt}
+use Rattle.station.proofs.Tallying.{InFields, in-fields}
 
 -- one for each of n
 sum-ones : (n : ℕ) → sum n one ≡ pos n
@@ -45,7 +42,7 @@ one-face (suc (suc f)) l x y = absurd (omega arith)
 abbrev adds : Book → ℕ → ℕ → ℕ → ℤ
 adds b h i j = chosen (isOf b 0 i j) one h +ℤ chosen (isOf b 1 i j) one h
 
-module _ (b : Book) (h : ℕ) (s : InFields (positionAt b h) (objectAt b h) (faceAt b h) (readingAt b h)) where
+module _ (b : Book) (h : ℕ) (s : InFields b h) where
   position-test : (i : ℕ) → eqZ (positionAt b h) (pos (i + 1)) ≡ eqb i (ownPosition b h)
   position-test i =
       same-tests (eqZ (positionAt b h) (pos (i + 1))) (eqb i (ownPosition b h))
@@ -97,5 +94,5 @@ module _ (b : Book) (d p : ℕ) (accepted : replyOf b d p ≡ Accepted) where
       sym (sum-mul 16 (pos 2) (P (counts b)))
       ∙ sum-ext 16 (λ j. pos 2 *ℤ P (counts b) j) (λ j. sum (sightings b) (λ h. sum 16 (λ i. adds b h i j))) of-object
       ∙ sum-swap 16 (sightings b) (λ j h. sum 16 (λ i. adds b h i j))
-      ∙ sum-ext (sightings b) (λ h. sum 16 (λ j. sum 16 (λ i. adds b h i j))) one (λ h l. adds-once b h (in-fields (positionAt b h) (objectAt b h) (faceAt b h) (readingAt b h) (checks .ranges .sound h l)))
+      ∙ sum-ext (sightings b) (λ h. sum 16 (λ j. sum 16 (λ i. adds b h i j))) one (λ h l. adds-once b h (in-fields b h (checks .ranges .sound h l)))
       ∙ sum-ones (sightings b)

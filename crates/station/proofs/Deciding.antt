@@ -4,25 +4,23 @@
 --   in-range                       lists that pass 21 and 22 are in range
 --   reply-lengths, reply-field, reply-table
 --                                  the reply where 21 refuses, where 22 does, and where both accept
-use mathlib.Core.Path.{_≡_, refl, sym, _∙_}
-use mathlib.Core.Bool.{Bool, true, false, not, _&&_}
-use mathlib.Core.List.{List}
+use mathlib.Core.Path.{_≡_}
+use mathlib.Core.Bool.{Bool, true, false}
 use Prim.Native.Nat.{ℕ, _+_, _<_, _≤_}
 use native.Mathlib.Omega.{arith}
 use borrow.Author.Tests.{lt-ltb, le-ltb, leb-true, eqb-true}
-use lib.Dec.{ltb, leb, eqb}
+use lib.Dec.{leb, eqb}
 use lib.ListN.{length}
 use Rattle.exact.specs.First.{first}
 use Rattle.exact.proofs.Searching.{first-before}
-use Rattle.reply.specs.Checks.{refuseIf, refuseFirst, _andThen_}
+use Rattle.reply.specs.Checks.{refuseFirst}
 use Rattle.reply.specs.declared.Refusal.{Refusal}
 use Rattle.reply.specs.declared.Refusal.the-variants.{Sightings, Field}
-use Rattle.reply.specs.declared.Reply.{Reply}
 use Rattle.reply.specs.declared.Reply.the-variants.{Accepted, Refused}
 use Rattle.station.specs.Sightings.{Book, sightings, lengthsFit, fieldFault}
 use Rattle.station.specs.Bounds.{InRange}
 use Rattle.station.specs.Table.{counts, readings}
-use Rattle.station.specs.Replies.{tableReply, fieldsReply, replyOf}
+use Rattle.station.specs.Replies.{tableReply, replyOf}
 use Rattle.station.proofs.Equality.{and-true}
 
 module _ (n : ℕ) (fault : ℕ → Bool) (why : ℕ → Refusal) (k : ℕ) (p : k ≡ first n fault) where

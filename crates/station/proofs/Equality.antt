@@ -2,11 +2,11 @@
 --   eqZ-yes, eqZ-no        it passes for equal numbers, and fails for unequal ones; eqZ-true: where it passes, they are equal
 --   eqZ-bits               the machine's `==` on their bits is the same test
 --   and-true               both sides of an `&&` that passes
+--   refuted, upheld        what `!x` tells of the rule v that x is
 --   same-tests             two tests that pass together are the same
 use mathlib.Core.Path.{_≡_, refl, sym, _∙_, ap, subst}
-use mathlib.Core.Bool.{Bool, true, false, _&&_}
-use Prim.Native.Nat.{ℕ}
-use borrow.Author.Tests.{eq-eqb, ne-eqb, eqb-true, eqb-false}
+use mathlib.Core.Bool.{Bool, true, false, not, _&&_}
+use borrow.Author.Tests.{eq-eqb, eqb-true, eqb-false, not-true, not-false}
 use lib.Dec.{T, eqb}
 use lib.IntN.{ℤ, pos, negsuc}
 use mir.Syntax.{w64}
@@ -46,6 +46,12 @@ eqZ-bits a b f g = by-test (eqb (ofZ w64 a) (ofZ w64 b)) refl
 pub and-true : (a b : Bool) → a && b ≡ true → (a ≡ true) × (b ≡ true)
 and-true true b p = (refl, p)
 and-true false b p = absurd (subst T (sym p) tt)
+
+pub refuted : {x v : Bool} → x ≡ v → not x ≡ true → v ≡ false
+refuted {x} e t = sym e ∙ not-true x t
+
+pub upheld : {x v : Bool} → x ≡ v → not x ≡ false → v ≡ true
+upheld {x} e t = sym e ∙ not-false x t
 
 pub same-tests : (x y : Bool) → (x ≡ true → y ≡ true) → (y ≡ true → x ≡ true) → x ≡ y
 same-tests true y f g = sym (f refl)

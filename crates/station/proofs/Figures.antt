@@ -1,9 +1,10 @@
 -- How large the figures of a pair can be, and what the machine reads of a call's result. Assumes nothing.
 --   told                              what the machine reads of a call's result is what the call promised
 --   entry-within                      an entry of a table whose numbers are within m
+--   twice-above                       twice a number above 0
 --   modulo-size, centred-size         what is left of a number lies within its circle, and within half of it once centred
 --   s-size, g-size, e-size            so do s, g and e
-use mathlib.Core.Path.{_≡_, refl, sym, _∙_}
+use mathlib.Core.Path.{_≡_, _∙_}
 use mathlib.Core.List.{List, [], _∷_}
 use Prim.Native.Nat.{ℕ, _<_, _≤_, _^_}
 use native.Mathlib.Omega.{arith}
@@ -14,7 +15,7 @@ use mir.Val.{toZ, ofZ}
 use Rattle.exact.specs.Circle.{modulo}
 use Rattle.exact.proofs.Bound.{read, fits-of-mag}
 use Rattle.exact.proofs.Circles.{modulo-low, modulo-high}
-use Rattle.exact.proofs.Linear.{Difference, unknowns, linear, orders, one-sided, lt-by, abs-by, lt-of}
+use Rattle.exact.proofs.Linear.{unknowns, linear, orders, one-sided, lt-by, abs-by, lt-of}
 use Rattle.station.specs.Bounds.{Within}
 use Rattle.station.specs.Table.{slot, entry}
 use Rattle.station.specs.Means.{C, centred, s, g, e}
@@ -31,13 +32,13 @@ modulo-size z m h = within (modulo z m) (modulo-low z m h) (modulo-high z m h)
     within : (x : ℤ) → pos 0 ≤ℤ x → x <ℤ m → natAbs x ≤ natAbs m
     within x a b = let v = unknowns (x ∷ m ∷ []) in omega (arith, orders, one-sided)
 
+pub twice-above : (z : ℤ) → pos 0 <ℤ z → pos 0 <ℤ (pos 2 *ℤ z)
+twice-above z h = let v = unknowns (z ∷ []) in lt-by (search linear) (search linear) (omega (arith, orders))
+
 pub centred-size : (z half : ℤ) → pos 0 <ℤ half → natAbs (centred z half) ≤ natAbs half
 unfolding centred
-centred-size z half h = within (modulo (z +ℤ half) (pos 2 *ℤ half)) (modulo-low (z +ℤ half) (pos 2 *ℤ half) twice) (modulo-high (z +ℤ half) (pos 2 *ℤ half) twice)
+centred-size z half h = within (modulo (z +ℤ half) (pos 2 *ℤ half)) (modulo-low (z +ℤ half) (pos 2 *ℤ half) (twice-above half h)) (modulo-high (z +ℤ half) (pos 2 *ℤ half) (twice-above half h))
   where
-    twice : pos 0 <ℤ (pos 2 *ℤ half)
-    twice = let v = unknowns (half ∷ []) in lt-by (search linear) (search linear) (omega (arith, orders))
-
     within : (x : ℤ) → pos 0 ≤ℤ x → x <ℤ (pos 2 *ℤ half) → natAbs (x -ℤ half) ≤ natAbs half
     within x a b =
         let v = unknowns (x ∷ half ∷ []) in let k = lt-of b (search linear) (search linear) in

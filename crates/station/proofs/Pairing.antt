@@ -13,29 +13,28 @@ use native.Mathlib.Omega.{arith}
 use borrow.Author.Tests.{not-false}
 use lib.Dec.{T}
 use lib.IntN.{ℤ, pos, natAbs, _+ℤ_}
-use lib.ListN.{getD}
 use lib.Signed.{ltZ, _≤ℤ_}
 use Rattle.exact.proofs.Linear.{Difference, unknowns, linear, orders, lt-failed, eq-by}
 use Rattle.exact.proofs.Sum.{sum-ext}
 use Rattle.reply.specs.declared.Reply.the-variants.{Accepted}
-use Rattle.station.specs.Sightings.{Book, sightings, eqZ, isOf}
+use Rattle.station.specs.Sightings.{Book, sightings, positionAt, objectAt, faceAt, readingAt, eqZ, isOf}
 use Rattle.station.specs.Pairs.{Sighted, Pair}
 use Rattle.station.specs.SumWhere.{sumWhere}
-use Rattle.station.specs.Table.{one, read, total, entry, counts, readings}
+use Rattle.station.specs.Table.{one, total, entry, counts, readings}
 use Rattle.station.specs.Means.{L, R, seen, facesFault, P}
 use Rattle.station.specs.Replies.{replyOf}
 use Rattle.station.proofs.Accepting.{Passed, passed}
 use Rattle.station.proofs.Equality.{eqZ-yes, eqZ-true, and-true, same-tests}
 use Rattle.station.proofs.Selecting.{OnlyOne, where-one, where-zero, where-nonneg}
-use Rattle.station.proofs.Tallying.{InFields, in-fields, positionAt, objectAt, faceAt, readingAt, table-at}
+use Rattle.station.proofs.Tallying.{InFields, in-fields, table-at}
 
 -- ---- a sighting of a face, position and object, by the test and in words
 module _ (b : Book) (f i j h : ℕ) where
   sighted : h < sightings b → isOf b f i j h ≡ true → Sighted b f (i + 1) (j + 1) h
   unfolding isOf
   sighted l e =
-      let x = and-true (eqZ (getD (b .face) h (pos 0)) (pos f)) _ e in
-      let y = and-true (eqZ (getD (b .position) h (pos 0)) (pos (i + 1))) (eqZ (getD (b .object) h (pos 0)) (pos (j + 1))) (x .1) in
+      let x = and-true (eqZ (faceAt b h) (pos f)) _ e in
+      let y = and-true (eqZ (positionAt b h) (pos (i + 1))) (eqZ (objectAt b h) (pos (j + 1))) (x .1) in
       record { listed = l; face-is = eqZ-true _ _ (x .0); position-is = eqZ-true _ _ (y .0); object-is = eqZ-true _ _ (y .1) }
 
   tested : Sighted b f (i + 1) (j + 1) h → isOf b f i j h ≡ true
@@ -54,8 +53,8 @@ pub record Joined (b : Book) (i j : ℕ) : Type 0 where
   pub left : ℕ
   pub right : ℕ
   pub pair : Pair b (i + 1) (j + 1) left right
-  pub left-reading : L (readings b) i j ≡ read b left
-  pub right-reading : R (readings b) i j ≡ read b right
+  pub left-reading : L (readings b) i j ≡ readingAt b left
+  pub right-reading : R (readings b) i j ≡ readingAt b right
 
 -- the position and the object that a sighting's own fields say, counted from 0
 abbrev pub ownPosition : Book → ℕ → ℕ
@@ -105,9 +104,9 @@ module _ (b : Book) (d p : ℕ) (accepted : replyOf b d p ≡ Accepted) where
     single : (f : ℕ) → f < 2 → entry (counts b) f i j ≡ pos 1 → OnlyOne (isOf b f i j) (sightings b)
     single f lf e = where-one (isOf b f i j) (sightings b) (sym (counted b i j li lj f lf) ∙ e)
 
-    reads : (f : ℕ) → f < 2 → (o : OnlyOne (isOf b f i j) (sightings b)) → entry (readings b) f i j ≡ read b (o .at)
+    reads : (f : ℕ) → f < 2 → (o : OnlyOne (isOf b f i j) (sightings b)) → entry (readings b) f i j ≡ readingAt b (o .at)
     unfolding total
-    reads f lf o = table-at b (read b) f i j lf li lj ∙ o .value (read b)
+    reads f lf o = table-at b (readingAt b) f i j lf li lj ∙ o .value (readingAt b)
 
     pub paired : seen (counts b) i j ≡ true → Joined b i j
     paired s =
@@ -136,8 +135,8 @@ module _ (b : Book) (d p : ℕ) (accepted : replyOf b d p ≡ Accepted) where
   pub entered : (m : ℕ) → m < sightings b → Entered m
   entered m l = by-face (natAbs (faceAt b m)) (s .faces .1 .1) (s .faces .0)
     where
-      s : InFields (positionAt b m) (objectAt b m) (faceAt b m) (readingAt b m)
-      s = in-fields (positionAt b m) (objectAt b m) (faceAt b m) (readingAt b m) (checks .ranges .sound m l)
+      s : InFields b m
+      s = in-fields b m (checks .ranges .sound m l)
 
       li : ownPosition b m < 16
       li = omega (arith, s .positions .1)
@@ -177,15 +176,15 @@ module _ (b : Book) {p o p′ o′ h k h′ k′ : ℕ} (x : Pair b p o h k) (y 
 
   pub one-pair-left : h ≡ h′ → (p ≡ p′) × (o ≡ o′)
   one-pair-left e = (
-    number (x .left .position-is) (ap (λ (m : ℕ). getD (b .position) m (pos 0)) e ∙ y .left .position-is),
-    number (x .left .object-is) (ap (λ (m : ℕ). getD (b .object) m (pos 0)) e ∙ y .left .object-is),
+    number (x .left .position-is) (ap (λ (m : ℕ). positionAt b m) e ∙ y .left .position-is),
+    number (x .left .object-is) (ap (λ (m : ℕ). objectAt b m) e ∙ y .left .object-is),
   )
 
   pub one-pair-right : k ≡ k′ → (p ≡ p′) × (o ≡ o′)
   one-pair-right e = (
-    number (x .right .position-is) (ap (λ (m : ℕ). getD (b .position) m (pos 0)) e ∙ y .right .position-is),
-    number (x .right .object-is) (ap (λ (m : ℕ). getD (b .object) m (pos 0)) e ∙ y .right .object-is),
+    number (x .right .position-is) (ap (λ (m : ℕ). positionAt b m) e ∙ y .right .position-is),
+    number (x .right .object-is) (ap (λ (m : ℕ). objectAt b m) e ∙ y .right .object-is),
   )
 
   pub left-not-right : h ≡ k′ → ⊥
-  left-not-right e = let z = number (x .left .face-is) (ap (λ (m : ℕ). getD (b .face) m (pos 0)) e ∙ y .right .face-is) in omega arith
+  left-not-right e = let z = number (x .left .face-is) (ap (λ (m : ℕ). faceAt b m) e ∙ y .right .face-is) in omega arith

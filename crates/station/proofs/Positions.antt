@@ -3,8 +3,8 @@
 --   lowest-least            no position that has the object is below its lowest
 --   lowest-in               an object with a pair has a lowest position
 --   P-size, sumOfE-size     at most 16 pairs, and the sum of their e
-use mathlib.Core.Path.{_≡_, refl, sym, _∙_, ap, subst}
-use mathlib.Core.Bool.{Bool, true, false, cond}
+use mathlib.Core.Path.{_≡_, sym, _∙_, subst}
+use mathlib.Core.Bool.{Bool, true}
 use mathlib.Core.List.{List}
 use Prim.Native.Nat.{ℕ, _<_, _≤_}
 use native.Mathlib.Omega.{arith}

@@ -4,29 +4,28 @@
 --   turned                  a rearrangement is one the other way round too
 --   order-free              of two orders of the same sightings, the replies and both lists are equal, unless the place of the refusal is an ordinal
 --   field-stays             and that refusal keeps its number
-use mathlib.Core.Path.{_≡_, refl, sym, _∙_, ap, subst}
-use mathlib.Core.Bool.{Bool, true, false, cond, not, _&&_}
+use mathlib.Core.Path.{_≡_, refl, sym, _∙_, ap}
+use mathlib.Core.Bool.{Bool, true, false, cond, _&&_}
 use mathlib.Core.List.{List}
-use Prim.Native.Nat.{ℕ, zero, suc, _+_, _/_, _%_, _<_, _≤_}
+use Prim.Native.Nat.{ℕ, _+_, _/_, _%_, _<_}
 use native.Mathlib.Decide.{decLt}
 use native.Mathlib.Omega.{arith}
-use borrow.Author.Tests.{eq-eqb, ne-eqb, eqb-true, ltb-true, ltb-false}
-use lib.Dec.{T, eqb, ltb}
-use lib.IntN.{ℤ, pos, _+ℤ_, +ℤ-idl, +ℤ-idr}
-use lib.ListN.{length, getD}
+use borrow.Author.Tests.{eq-eqb, eqb-true}
+use lib.Dec.{eqb}
+use lib.IntN.{ℤ, pos}
+use lib.ListN.{length}
 use Rattle.exact.specs.Sum.{sum}
 use Rattle.exact.specs.First.{first}
 use Rattle.exact.specs.Tabulate.{tabulate}
-use Rattle.exact.proofs.Sum.{sum-next, sum-ext, sum-swap}
+use Rattle.exact.proofs.Sum.{sum-ext, sum-swap}
 use Rattle.exact.proofs.Searching.{Failed, first-before, first-none}
-use Rattle.station.specs.Sightings.{Book, sightings, lengthsFit, outOfRange, fieldFault, eqZ, isOf}
+use Rattle.station.specs.Sightings.{Book, sightings, positionAt, objectAt, faceAt, readingAt, lengthsFit, outOfRange, fieldFault, eqZ, isOf}
 use Rattle.station.specs.Rearrangement.{Rearranged}
 use Rattle.station.specs.SumWhere.{sumWhere}
-use Rattle.station.specs.Table.{one, read, total, counts, readings}
-use Rattle.reply.specs.declared.Refusal.{Refusal}
-use Rattle.reply.specs.declared.Refusal.the-variants.{Sightings, Field}
+use Rattle.station.specs.Table.{one, total, counts, readings}
+use Rattle.reply.specs.declared.Refusal.the-variants.{Field}
 use Rattle.reply.specs.declared.Reply.{Reply}
-use Rattle.reply.specs.declared.Reply.the-variants.{Accepted, Refused}
+use Rattle.reply.specs.declared.Reply.the-variants.{Refused}
 use Rattle.station.specs.Means.{directions, pairCounts}
 use Rattle.station.specs.Replies.{tableReply, replyOf, leaves, Answers}
 use Rattle.station.proofs.Deciding.{fit, reply-lengths, reply-field, reply-table}
@@ -65,7 +64,7 @@ module _ {b b′ : Book} (q : Rearranged b b′) where
   counts-rearranged = λ t. tabulate 512 (λ k. total-rearranged one one (λ h l. refl) (k / 256) (k % 256 / 16) (k % 16) t)
 
   pub readings-rearranged : readings b′ ≡ readings b
-  readings-rearranged = λ t. tabulate 512 (λ k. total-rearranged (read b) (read b′) (q .reading-is) (k / 256) (k % 256 / 16) (k % 16) t)
+  readings-rearranged = λ t. tabulate 512 (λ k. total-rearranged (readingAt b) (readingAt b′) (q .reading-is) (k / 256) (k % 256 / 16) (k % 16) t)
 
   fault-moved : (h : ℕ) → h < sightings b → fieldFault b′ h ≡ fieldFault b (q .from h)
   fault-moved h l = λ t. outOfRange (q .position-is h l t) (q .object-is h l t) (q .face-is h l t) (q .reading-is h l t)
@@ -79,10 +78,10 @@ module _ {b b′ : Book} (q : Rearranged b b′) where
     to-in = λ h l. rw (q .positions-long) (q .from-in h (here h l));
     back = λ h l. q .forth h (here h l);
     forth = λ h l. q .back h (here h l);
-    position-is = λ h l. sym (q .position-is (q .to h) (q .to-in h (here h l)) ∙ ap (λ (k : ℕ). getD (b .position) k (pos 0)) (q .forth h (here h l)));
-    object-is = λ h l. sym (q .object-is (q .to h) (q .to-in h (here h l)) ∙ ap (λ (k : ℕ). getD (b .object) k (pos 0)) (q .forth h (here h l)));
-    face-is = λ h l. sym (q .face-is (q .to h) (q .to-in h (here h l)) ∙ ap (λ (k : ℕ). getD (b .face) k (pos 0)) (q .forth h (here h l)));
-    reading-is = λ h l. sym (q .reading-is (q .to h) (q .to-in h (here h l)) ∙ ap (λ (k : ℕ). getD (b .reading) k (pos 0)) (q .forth h (here h l)));
+    position-is = λ h l. sym (q .position-is (q .to h) (q .to-in h (here h l)) ∙ ap (λ (k : ℕ). positionAt b k) (q .forth h (here h l)));
+    object-is = λ h l. sym (q .object-is (q .to h) (q .to-in h (here h l)) ∙ ap (λ (k : ℕ). objectAt b k) (q .forth h (here h l)));
+    face-is = λ h l. sym (q .face-is (q .to h) (q .to-in h (here h l)) ∙ ap (λ (k : ℕ). faceAt b k) (q .forth h (here h l)));
+    reading-is = λ h l. sym (q .reading-is (q .to h) (q .to-in h (here h l)) ∙ ap (λ (k : ℕ). readingAt b k) (q .forth h (here h l)));
     positions-long = sym (q .positions-long);
     objects-long = sym (q .objects-long);
     faces-long = sym (q .faces-long);

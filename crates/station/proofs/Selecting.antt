@@ -16,10 +16,10 @@ use borrow.Author.Tests.{eq-eqb, ne-eqb}
 use lib.Dec.{T, eqb}
 use lib.IntN.{ℤ, pos, natAbs, _+ℤ_, +ℤ-idl, +ℤ-idr}
 use lib.Signed.{_≤ℤ_}
-use Rattle.exact.specs.Sum.{sum}
 use Rattle.exact.proofs.Linear.{unknowns, linear, eq-by, eq-of}
 use Rattle.exact.proofs.Sum.{sum-none, sum-next, sum-more, sum-ext, sum-zero, sum-nonneg, sum-zeros, sum-abs}
 use Rattle.station.specs.SumWhere.{sumWhere}
+use Rattle.station.specs.Table.{one}
 
 module _ (test : ℕ → Bool) (v : ℕ → ℤ) where
   abbrev pub chosen : ℕ → ℤ
@@ -57,9 +57,6 @@ where-at (suc n) m f l = by-order (decLt m n) (where-at n m f)
         ∙ +ℤ-idl (f n) ∙ ap f (omega arith)
 
 -- ---- counts
-abbrev one : ℕ → ℤ
-one i = pos 1
-
 not-negative : (t : Bool) → pos 0 ≤ℤ cond t (pos 1) (pos 0)
 not-negative true = record { le = tt }
 not-negative false = record { le = tt }

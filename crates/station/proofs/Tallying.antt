@@ -7,22 +7,22 @@
 --   counts-within, readings-within    how large the numbers of the two whole tables are
 --   table-at                          what the whole table has of a face, a position and an object
 use mathlib.Core.Path.{_≡_, refl, sym, _∙_, ap, subst}
-use mathlib.Core.Bool.{Bool, true, false, _&&_, _||_}
+use mathlib.Core.Bool.{Bool, true, false, _||_}
 use mathlib.Core.List.{List}
-use Prim.Native.Nat.{ℕ, zero, suc, _+_, _*_, _-_, _/_, _%_, _<_, _≤_}
-use native.Mathlib.Decide.{decLt, decLe}
+use Prim.Native.Nat.{ℕ, _+_, _*_, _-_, _/_, _%_, _<_, _≤_}
+use native.Mathlib.Decide.{decLt}
 use native.Mathlib.Omega.{arith}
 use borrow.Author.Tests.{ltb-false}
 use lib.Dec.{T, ltb}
 use lib.IntN.{ℤ, pos, negsuc, natAbs, _+ℤ_}
-use lib.ListN.{length, getD, set, replicate, length-set, length-replicate, getD-replicate, List·getD-eq-default}
+use lib.ListN.{getD, set, replicate, length-set, length-replicate, getD-replicate, List·getD-eq-default}
 use lib.Seq.{ext-getD, getD-set-same, getD-set-other}
 use Rattle.exact.specs.Tabulate.{tabulate}
 use Rattle.exact.proofs.Filling.{tabulate-length, tabulate-at}
 use Rattle.station.specs.Bounds.{InRange, Within}
-use Rattle.station.specs.Sightings.{Book, sightings, outside, outOfRange, isOf}
+use Rattle.station.specs.Sightings.{Book, sightings, positionAt, objectAt, faceAt, readingAt, outside, outOfRange, fieldFault, isOf}
 use Rattle.station.specs.SumWhere.{sumWhere}
-use Rattle.station.specs.Table.{total, one, read, slot, entry, tableOf, counts, readings}
+use Rattle.station.specs.Table.{total, one, slot, entry, tableOf, counts, readings}
 use Rattle.station.proofs.Equality.{eqZ-yes, eqZ-true, and-true}
 use Rattle.station.proofs.Selecting.{where-none, where-taken, where-passed, where-size}
 
@@ -42,42 +42,35 @@ among (pos n) lo hi p =
     (refl, (ltb-false n lo (k .0), ltb-false hi n (k .1)))
 among (negsuc n) lo hi p = absurd (subst T p tt)
 
-pub record InFields (position object face reading : ℤ) : Type 0 where
-  pub positions : (position ≡ pos (natAbs position)) × ((1 ≤ natAbs position) × (natAbs position ≤ 16))
-  pub objects : (object ≡ pos (natAbs object)) × ((1 ≤ natAbs object) × (natAbs object ≤ 16))
-  pub faces : (face ≡ pos (natAbs face)) × ((0 ≤ natAbs face) × (natAbs face ≤ 1))
-  pub readings : (reading ≡ pos (natAbs reading)) × ((0 ≤ natAbs reading) × (natAbs reading ≤ 1295999999))
+pub record InFields (b : Book) (h : ℕ) : Type 0 where
+  pub positions : (positionAt b h ≡ pos (natAbs (positionAt b h))) × ((1 ≤ natAbs (positionAt b h)) × (natAbs (positionAt b h) ≤ 16))
+  pub objects : (objectAt b h ≡ pos (natAbs (objectAt b h))) × ((1 ≤ natAbs (objectAt b h)) × (natAbs (objectAt b h) ≤ 16))
+  pub faces : (faceAt b h ≡ pos (natAbs (faceAt b h))) × ((0 ≤ natAbs (faceAt b h)) × (natAbs (faceAt b h) ≤ 1))
+  pub readings : (readingAt b h ≡ pos (natAbs (readingAt b h))) × ((0 ≤ natAbs (readingAt b h)) × (natAbs (readingAt b h) ≤ 1295999999))
 
-pub in-fields : (position object face reading : ℤ) → outOfRange position object face reading ≡ false → InFields position object face reading
+pub in-fields : (b : Book) (h : ℕ) → fieldFault b h ≡ false → InFields b h
 unfolding outOfRange
-in-fields p o f r e =
-    let a = neither (outside p (pos 1) (pos 16)) _ e in
-    let b = neither (outside o (pos 1) (pos 16)) _ (a .1) in
-    let c = neither (outside f (pos 0) (pos 1)) (outside r (pos 0) (pos 1295999999)) (b .1) in
-    record { positions = among p 1 16 (a .0); objects = among o 1 16 (b .0); faces = among f 0 1 (c .0); readings = among r 0 1295999999 (c .1) }
+in-fields b h e =
+    let p = neither (outside (positionAt b h) (pos 1) (pos 16)) _ e in
+    let o = neither (outside (objectAt b h) (pos 1) (pos 16)) _ (p .1) in
+    let f = neither (outside (faceAt b h) (pos 0) (pos 1)) (outside (readingAt b h) (pos 0) (pos 1295999999)) (o .1) in
+    record {
+      positions = among (positionAt b h) 1 16 (p .0);
+      objects = among (objectAt b h) 1 16 (o .0);
+      faces = among (faceAt b h) 0 1 (f .0);
+      readings = among (readingAt b h) 0 1295999999 (f .1);
+    }
 
 -- which sightings are of the face, position and object of slot k
 abbrev pub inSlot : Book → ℕ → ℕ → Bool
 inSlot b k = isOf b (k / 256) (k % 256 / 16) (k % 16)
 
 module _ (b : Book) (h : ℕ) where
-  abbrev pub positionAt : ℤ
-  positionAt = getD (b .position) h (pos 0)
-
-  abbrev pub objectAt : ℤ
-  objectAt = getD (b .object) h (pos 0)
-
-  abbrev pub faceAt : ℤ
-  faceAt = getD (b .face) h (pos 0)
-
-  abbrev pub readingAt : ℤ
-  readingAt = getD (b .reading) h (pos 0)
-
   -- the slot that a sighting's own fields say
   abbrev pub slotAt : ℕ
-  slotAt = slot (natAbs faceAt) (natAbs positionAt - 1) (natAbs objectAt - 1)
+  slotAt = slot (natAbs (faceAt b h)) (natAbs (positionAt b h) - 1) (natAbs (objectAt b h) - 1)
 
-  module _ (s : InFields positionAt objectAt faceAt readingAt) where
+  module _ (s : InFields b h) where
     pub slot-in : slotAt < 512
     slot-in = omega (arith, s .faces .1 .1, s .positions .1, s .objects .1)
 
@@ -85,8 +78,8 @@ module _ (b : Book) (h : ℕ) where
     unfolding isOf
     of-slot k q =
         let f = s .faces in let p = s .positions in let o = s .objects in
-        let a : natAbs faceAt ≡ k / 256 = omega arith in let c : natAbs positionAt ≡ k % 256 / 16 + 1 = omega arith in
-        let d : natAbs objectAt ≡ k % 16 + 1 = omega arith in
+        let a : natAbs (faceAt b h) ≡ k / 256 = omega arith in let c : natAbs (positionAt b h) ≡ k % 256 / 16 + 1 = omega arith in
+        let d : natAbs (objectAt b h) ≡ k % 16 + 1 = omega arith in
         rw (eqZ-yes (f .0 ∙ ap pos a), eqZ-yes (p .0 ∙ ap pos c)) (eqZ-yes (o .0 ∙ ap pos d))
 
     pub of-other : (k : ℕ) → k < 512 → (k ≡ slotAt → ⊥) → inSlot b k h ≡ false
@@ -96,9 +89,9 @@ module _ (b : Book) (h : ℕ) where
         own : inSlot b k h ≡ true → k ≡ slotAt
         own e =
             let x = and-true _ _ e in let y = and-true _ _ (x .1) in
-            let a = ap natAbs (eqZ-true faceAt (pos (k / 256)) (x .0)) in
-            let c = ap natAbs (eqZ-true positionAt (pos (k % 256 / 16 + 1)) (y .0)) in
-            let d = ap natAbs (eqZ-true objectAt (pos (k % 16 + 1)) (y .1)) in
+            let a = ap natAbs (eqZ-true (faceAt b h) (pos (k / 256)) (x .0)) in
+            let c = ap natAbs (eqZ-true (positionAt b h) (pos (k % 256 / 16 + 1)) (y .0)) in
+            let d = ap natAbs (eqZ-true (objectAt b h) (pos (k % 16 + 1)) (y .1)) in
             omega arith
 
         by-test : (t : Bool) → inSlot b k h ≡ t → t ≡ false
@@ -136,7 +129,7 @@ module _ (b : Book) (v : ℕ → ℤ) where
       ext-getD (pos 0) (replicate 512 (pos 0)) (tallied 0) (length-replicate 512 (pos 0) ∙ sym (tabulate-length 512 (soFar 0)))
       (λ k l. let m : k < 512 = omega (arith, length-replicate 512 (pos 0)) in getD-replicate 512 k (pos 0) (pos 0) m ∙ sym (tabulate-at 512 (soFar 0) k (pos 0) m ∙ where-none (inSlot b k) v))
 
-  pub tallied-more : (m : ℕ) → InFields (positionAt b m) (objectAt b m) (faceAt b m) (readingAt b m) →
+  pub tallied-more : (m : ℕ) → InFields b m →
       set (tallied m) (slotAt b m) (getD (tallied m) (slotAt b m) (pos 0) +ℤ v m) ≡ tallied (m + 1)
   tallied-more m s =
       tabulate-set 512 (soFar m) (soFar (m + 1)) (slotAt b m) _ (slot-in b m s)
@@ -151,7 +144,7 @@ module _ (b : Book) (v : ℕ → ℤ) where
       by-order (no l) = rw (List·getD-eq-default (tallied m) (pos 0) {n = k} (omega (arith, tabulate-length 512 (soFar m)))) (omega arith)
 
   -- a table xs that is so far, with x stored at the place k of the sighting m
-  pub stored : (m : ℕ) (s : InFields (positionAt b m) (objectAt b m) (faceAt b m) (readingAt b m)) {xs : List ℤ} {k : ℕ} {x : ℤ} →
+  pub stored : (m : ℕ) (s : InFields b m) {xs : List ℤ} {k : ℕ} {x : ℤ} →
       xs ≡ tallied m → k ≡ slotAt b m → x ≡ getD xs k (pos 0) +ℤ v m → set xs k x ≡ tallied (m + 1)
   stored m s p q r = (λ t. set (p t) (q t) ((r ∙ (λ u. getD (p u) (q u) (pos 0) +ℤ v m)) t)) ∙ tallied-more m s
 
@@ -181,5 +174,5 @@ module _ (b : Book) (s : InRange b) where
 
   pub readings-within : Within 663552000000 (readings b)
   readings-within k =
-      subst (λ (l : List ℤ). natAbs (getD l k (pos 0)) ≤ 663552000000) (tallied-all b (read b))
-      (omega (arith, tallied-size b (read b) (sightings b) 1295999999 (λ i l. in-fields (positionAt b i) (objectAt b i) (faceAt b i) (readingAt b i) (s .sound i l) .readings .1 .1) k, s .few))
+      subst (λ (l : List ℤ). natAbs (getD l k (pos 0)) ≤ 663552000000) (tallied-all b (readingAt b))
+      (omega (arith, tallied-size b (readingAt b) (sightings b) 1295999999 (λ i l. in-fields b i (s .sound i l) .readings .1 .1) k, s .few))

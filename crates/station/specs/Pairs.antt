@@ -1,16 +1,15 @@
 -- What a pair is, in the words of the list: its numbers of position and object, from 1.
 use mathlib.Core.Path.{_≡_}
 use Prim.Native.Nat.{ℕ, _<_}
-use lib.IntN.{ℤ, pos}
-use lib.ListN.{getD}
-use Rattle.station.specs.Sightings.{Book, sightings}
+use lib.IntN.{pos}
+use Rattle.station.specs.Sightings.{Book, sightings, positionAt, objectAt, faceAt}
 
 -- the sighting at place h of the list is of face f (0 left, 1 right), position p and object o
 pub record Sighted (b : Book) (f p o h : ℕ) : Type 0 where
   pub listed : h < sightings b
-  pub face-is : getD (b .face) h (pos 0) ≡ pos f
-  pub position-is : getD (b .position) h (pos 0) ≡ pos p
-  pub object-is : getD (b .object) h (pos 0) ≡ pos o
+  pub face-is : faceAt b h ≡ pos f
+  pub position-is : positionAt b h ≡ pos p
+  pub object-is : objectAt b h ≡ pos o
 
 -- "Left and right are joined only where position and object agree": the sightings at h and k are the one left and the one right of position p and object o
 pub record Pair (b : Book) (p o h k : ℕ) : Type 0 where

@@ -21,6 +21,19 @@ book position object face reading = record { position = position; object = objec
 abbrev pub sightings : Book → ℕ
 sightings b = length (b .position)
 
+-- the fields of the sighting at place h of the lists, counted from 0
+abbrev pub positionAt : Book → ℕ → ℤ
+positionAt b h = getD (b .position) h (pos 0)
+
+abbrev pub objectAt : Book → ℕ → ℤ
+objectAt b h = getD (b .object) h (pos 0)
+
+abbrev pub faceAt : Book → ℕ → ℤ
+faceAt b h = getD (b .face) h (pos 0)
+
+abbrev pub readingAt : Book → ℕ → ℤ
+readingAt b h = getD (b .reading) h (pos 0)
+
 -- "A list has 1 to 512 sightings": the four lists are of one length, and the two lent answer lists have a place for each of the 16 objects
 unfoldable pub lengthsFit : ℕ → ℕ → ℕ → ℕ → ℕ → ℕ → Bool
 lengthsFit positions objects faces readings directions pairs =
@@ -35,9 +48,9 @@ unfoldable pub outOfRange : ℤ → ℤ → ℤ → ℤ → Bool
 outOfRange position object face reading =
     outside position (pos 1) (pos 16) || (outside object (pos 1) (pos 16) || (outside face (pos 0) (pos 1) || outside reading (pos 0) (pos 1295999999)))
 
--- the same of the sighting at place h of the lists, counted from 0
+-- the same of the sighting at place h
 abbrev pub fieldFault : Book → ℕ → Bool
-fieldFault b h = outOfRange (getD (b .position) h (pos 0)) (getD (b .object) h (pos 0)) (getD (b .face) h (pos 0)) (getD (b .reading) h (pos 0))
+fieldFault b h = outOfRange (positionAt b h) (objectAt b h) (faceAt b h) (readingAt b h)
 
 -- two whole numbers are the same
 unfoldable pub eqZ : ℤ → ℤ → Bool
@@ -49,4 +62,4 @@ eqZ (negsuc a) (negsuc b) = eqb a b
 -- The lists number positions and objects from 1; below, i and j number them from 0: position i + 1, object j + 1. Object 1, the initial, is j = 0.
 -- the sighting at place h is of face f, position i + 1 and object j + 1
 unfoldable pub isOf : Book → ℕ → ℕ → ℕ → ℕ → Bool
-isOf b f i j h = eqZ (getD (b .face) h (pos 0)) (pos f) && (eqZ (getD (b .position) h (pos 0)) (pos (i + 1)) && eqZ (getD (b .object) h (pos 0)) (pos (j + 1)))
+isOf b f i j h = eqZ (faceAt b h) (pos f) && (eqZ (positionAt b h) (pos (i + 1)) && eqZ (objectAt b h) (pos (j + 1)))

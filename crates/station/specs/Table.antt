@@ -4,20 +4,12 @@ use Prim.Native.Nat.{ℕ, _+_, _*_, _/_, _%_}
 use lib.IntN.{ℤ, pos}
 use lib.ListN.{getD}
 use Rattle.exact.specs.Tabulate.{tabulate}
-use Rattle.station.specs.Sightings.{Book, sightings, isOf}
+use Rattle.station.specs.Sightings.{Book, sightings, readingAt, isOf}
 use Rattle.station.specs.SumWhere.{sumWhere}
 
 -- the sum of a value v over the list's sightings of one face, position and object
 unfoldable pub total : Book → (ℕ → ℤ) → ℕ → ℕ → ℕ → ℤ
 total b v f i j = sumWhere (sightings b) (isOf b f i j) v
-
--- how many there are
-abbrev pub one : ℕ → ℤ
-one h = pos 1
-
--- and what each reads: where there is one, the sum of the readings is its reading
-abbrev pub read : Book → ℕ → ℤ
-read b h = getD (b .reading) h (pos 0)
 
 -- "Left and right are joined only where position and object agree": the place of a face, a position and an object in a table
 abbrev pub slot : ℕ → ℕ → ℕ → ℕ
@@ -29,9 +21,13 @@ entry table f i j = getD table (slot f i j) (pos 0)
 abbrev pub tableOf : Book → (ℕ → ℤ) → List ℤ
 tableOf b v = tabulate 512 (λ k. total b v (k / 256) (k % 256 / 16) (k % 16))
 
--- the table of counts, n, and the table of readings, r
+-- the table n of counts: each sighting is one
+abbrev pub one : ℕ → ℤ
+one h = pos 1
+
 abbrev pub counts : Book → List ℤ
 counts b = tableOf b one
 
+-- the table r of readings: where there is one sighting, the sum is its reading
 abbrev pub readings : Book → List ℤ
-readings b = tableOf b (read b)
+readings b = tableOf b (readingAt b)

@@ -9,7 +9,6 @@ mod table;
 
 use reply::Refusal;
 use reply::Reply;
-ghost use mathlib.Core.Path.{_≡_};
 ghost use Rattle.station.specs.Sightings.{book};
 ghost use Rattle.station.specs.Replies.{Answers};
 

@@ -5,7 +5,7 @@ ghost use mathlib.Core.Path.{_≡_};
 ghost use Prim.Native.Nat.{_<_, _≤_};
 ghost use lib.IntN.{pos, natAbs, _-ℤ_};
 ghost use lib.Signed.{_<ℤ_};
-ghost use Rattle.station.specs.Means.{centred, s, g, lowest, seen, base, e};
+ghost use Rattle.station.specs.Means.{centred, s, g, lowest, seen, base};
 ghost use Rattle.station.specs.Bounds.{Within};
 
 // z brought by whole circles of twice the half into [-half, half).

@@ -3,7 +3,7 @@
 ghost use mathlib.Core.Path.{_≡_};
 ghost use Prim.Native.Nat.{_+_, _*_, _-_, _<_, _≤_};
 ghost use lib.IntN.{pos, natAbs};
-ghost use lib.ListN.{length, replicate};
+ghost use lib.ListN.{replicate};
 ghost use Rattle.station.specs.Sightings.{book};
 ghost use Rattle.station.specs.Table.{slot, entry, counts, readings};
 ghost use Rattle.station.specs.Means.{seen};

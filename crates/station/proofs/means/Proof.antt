@@ -1,17 +1,16 @@
 -- `station::means` meets its contract. Assumes nothing.
 use mathlib.Core.Path.{_≡_, refl, sym, _∙_, subst}
-use mathlib.Core.Bool.{Bool, true, false}
+use mathlib.Core.Bool.{Bool, true}
 use mathlib.Core.List.{List}
 use borrow.Author.Needs.{needs}
-use borrow.Author.Tests.{not-true, not-false}
 use lib.IntN.{ℤ}
 use lib.ListN.{length}
 use Rattle.station.specs.Bounds.{InRange, Within}
 use Rattle.station.specs.Sightings.{Book, book}
-use Rattle.station.specs.Table.{counts, readings}
 use Rattle.station.specs.Means.{directions, pairCounts}
 use Rattle.station.specs.Replies.{tableReply, replyOf}
 use Rattle.station.proofs.Deciding.{LengthsFit, lengths-fit, fit, reply-lengths, reply-field, reply-table, in-range}
+use Rattle.station.proofs.Equality.{refuted, upheld}
 use Rattle.station.proofs.Tallying.{counts-within, readings-within}
 use Rattle.station.proofs.means.Statement.{statement}
 use Rattle.station.proofs.means.Tie as tie
@@ -29,13 +28,13 @@ fits s = fit (sighted s) (length (s .args .direction .now)) (length (s .args .pa
 returns : tie.Need-returns
 returns c =
     record {
-      replied = sym (reply-lengths (sighted (c .before .before)) _ _ (sym (c .before .lengths-fit .ensures) ∙ not-true (c .before .lengths-fit .result) (c .if1 .taken)));
+      replied = sym (reply-lengths (sighted (c .before .before)) _ _ (refuted (c .before .lengths-fit .ensures) (c .if1 .taken)));
       directionsAre = refl;
       pairsAre = refl;
     }
 
 fit-true : (c : tie.Else1) → fits (c .before .before) ≡ true
-fit-true c = sym (c .before .lengths-fit .ensures) ∙ not-false (c .before .lengths-fit .result) (c .if1 .left)
+fit-true c = upheld (c .before .lengths-fit .ensures) (c .if1 .left)
 
 -- what the test of the lengths told
 lengths : (c : tie.Else1) → let a = c .before .before .args in

@@ -1,9 +1,6 @@
 -- `answer::direction_of` meets its contract: at most 16 pairs, g within two circles and e within one, so t + P fits. Assumes nothing.
 use mathlib.Core.Path.{_≡_, refl, sym, _∙_, ap}
-use mathlib.Core.Bool.{true, false, cond}
-use mathlib.Core.List.{[], _∷_}
-use Prim.Native.Nat.{ℕ, _<_}
-use native.Mathlib.Omega.{arith}
+use Prim.Native.Nat.{ℕ}
 use borrow.Author.Needs.{needs}
 use lib.IntN.{ℤ, pos, _+ℤ_, _*ℤ_}
 use lib.Signed.{ltZ, _<ℤ_}
@@ -11,10 +8,9 @@ use mir.Syntax.{w64}
 use mir.Val.{toZ, ofZ}
 use Rattle.exact.specs.Circle.{floor, modulo}
 use Rattle.exact.proofs.Bound.{Bounded, bounded, bounds, fits-in, read}
-use Rattle.exact.proofs.Linear.{unknowns, linear, orders, lt-by}
 use Rattle.exact.proofs.Order.{lt-true}
-use Rattle.station.specs.Means.{C, g, base, P, sumOfE, t, direction}
-use Rattle.station.proofs.Figures.{told, g-size}
+use Rattle.station.specs.Means.{C, g, base, P, sumOfE, direction}
+use Rattle.station.proofs.Figures.{told, twice-above, g-size}
 use Rattle.station.proofs.Positions.{lowest-in, P-size, sumOfE-size}
 use Rattle.station.proofs.answer.direction_of.Statement.{statement}
 use Rattle.station.proofs.answer.direction_of.Tie as tie
@@ -99,9 +95,6 @@ mul-floor c = rw (p-read (c .before .before .before .before)) (let z = sizes (st
 
 twice-p : (c : tie.After-sum-from-base) → toZ w64 (ofZ w64 (pos 2 *ℤ machine-p c)) ≡ pos 2 *ℤ p (start c)
 twice-p c = read (mul-floor c) ∙ (λ u. pos 2 *ℤ p-read (c .before .before .before .before) u)
-
-twice-above : (z : ℤ) → pos 0 <ℤ z → pos 0 <ℤ (pos 2 *ℤ z)
-twice-above z k = let v = unknowns (z ∷ []) in lt-by (search linear) (search linear) (omega (arith, orders))
 
 floor-requires : tie.Need-floor-requires
 floor-requires c κs = rw (twice-p c) (twice-above (p (start c)) (p-above (c .before .before .before)))

@@ -1,11 +1,11 @@
 -- `checks::apart_fault` meets its contract. Assumes nothing.
-use mathlib.Core.Path.{sym, _∙_, ap}
+use mathlib.Core.Path.{_∙_, ap}
 use borrow.Author.Needs.{needs}
-use borrow.Author.Tests.{not-true, not-false}
 use lib.Dec.{ltb}
 use lib.IntN.{natAbs}
 use Rattle.station.specs.Means.{apartFault}
 use Rattle.station.proofs.Figures.{told}
+use Rattle.station.proofs.Equality.{refuted, upheld}
 use Rattle.station.proofs.checks.apart_fault.Statement.{statement}
 use Rattle.station.proofs.checks.apart_fault.Tie as tie
 
@@ -14,7 +14,7 @@ seen-requires c κs = search needs
 
 returns : tie.Need-returns
 unfolding apartFault
-returns c = rw (sym (c .before .seen .ensures) ∙ not-true (c .before .seen .result) (c .if1 .taken))
+returns c = rw (refuted (c .before .seen .ensures) (c .if1 .taken))
 
 faces-differ-requires : tie.Need-faces-differ-requires
 faces-differ-requires c κs = search needs
@@ -26,7 +26,7 @@ returns-2 : tie.Need-returns-2
 unfolding apartFault
 returns-2 c =
     let d = c .before in let b = d .before in
-    rw (sym (b .before .seen .ensures) ∙ not-false (b .before .seen .result) (b .if1 .left))
+    rw (upheld (b .before .seen .ensures) (b .if1 .left))
     (ap (ltb 60000) (c .magnitude .ensures ∙ ap natAbs (told (d .faces-differ .ok) (d .faces-differ .ensures))))
 
 pub apart-fault-spec : {M : Type 1} → statement M

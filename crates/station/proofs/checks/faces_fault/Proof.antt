@@ -1,8 +1,8 @@
 -- `checks::faces_fault` meets its contract. Assumes nothing.
 use mathlib.Core.Path.{_≡_, sym, _∙_, ap}
-use mathlib.Core.Bool.{Bool, not}
+use mathlib.Core.Bool.{not}
 use borrow.Author.Needs.{needs}
-use borrow.Author.Tests.{not-true, not-false, eq-eqb, ne-eqb}
+use borrow.Author.Tests.{eq-eqb, ne-eqb}
 use lib.Dec.{eqb}
 use lib.IntN.{ℤ, pos}
 use lib.Signed.{mag}
@@ -12,7 +12,7 @@ use Prim.Native.Nat.{_<_, _^_}
 use Rattle.exact.proofs.Bound.{fits-of-mag, fits-in, bounds}
 use Rattle.station.specs.Sightings.{eqZ}
 use Rattle.station.specs.Means.{facesFault}
-use Rattle.station.proofs.Equality.{eqZ-bits}
+use Rattle.station.proofs.Equality.{eqZ-bits, refuted, upheld}
 use Rattle.station.proofs.checks.faces_fault.Statement.{statement}
 use Rattle.station.proofs.checks.faces_fault.Tie as tie
 
@@ -21,7 +21,7 @@ seen-requires c κs = search needs
 
 returns : tie.Need-returns
 unfolding facesFault
-returns c = rw (sym (c .before .seen .ensures) ∙ not-true (c .before .seen .result) (c .if1 .taken))
+returns c = rw (refuted (c .before .seen .ensures) (c .if1 .taken))
 
 entry-requires : tie.Need-entry-requires
 entry-requires c κs = search needs
@@ -34,7 +34,7 @@ returns-2 : tie.Need-returns-2
 unfolding facesFault
 returns-2 c =
     let b = c .before in let d = b .before in
-    rw (sym (d .before .seen .ensures) ∙ not-false (d .before .seen .result) (d .if1 .left), sym (is-one (b .entry .ok) (b .entry .ensures)) ∙ ne-eqb _ _ (c .if2 .taken))
+    rw (upheld (d .before .seen .ensures) (d .if1 .left), sym (is-one (b .entry .ok) (b .entry .ensures)) ∙ ne-eqb _ _ (c .if2 .taken))
 
 entry-requires-2 : tie.Need-entry-requires-2
 entry-requires-2 c κs = search needs
@@ -43,7 +43,7 @@ returns-3 : tie.Need-returns-3
 unfolding facesFault
 returns-3 c =
     let a = c .before in let b = a .before in let d = b .before in
-    rw (sym (d .before .seen .ensures) ∙ not-false (d .before .seen .result) (d .if1 .left), sym (is-one (b .entry .ok) (b .entry .ensures)) ∙ eq-eqb _ _ (a .if2 .left))
+    rw (upheld (d .before .seen .ensures) (d .if1 .left), sym (is-one (b .entry .ok) (b .entry .ensures)) ∙ eq-eqb _ _ (a .if2 .left))
     (ap not (is-one (c .entry2 .ok) (c .entry2 .ensures)))
 
 pub faces-fault-spec : {M : Type 1} → statement M

@@ -1,9 +1,9 @@
 -- `checks::initial_fault` meets its contract. Assumes nothing.
-use mathlib.Core.Path.{sym, _∙_, ap}
+use mathlib.Core.Path.{ap}
 use mathlib.Core.Bool.{not}
 use borrow.Author.Needs.{needs}
-use borrow.Author.Tests.{not-true, not-false}
 use Rattle.station.specs.Means.{initialFault}
+use Rattle.station.proofs.Equality.{refuted, upheld}
 use Rattle.station.proofs.checks.initial_fault.Statement.{statement}
 use Rattle.station.proofs.checks.initial_fault.Tie as tie
 
@@ -12,7 +12,7 @@ seen-requires c κs = search needs
 
 returns : tie.Need-returns
 unfolding initialFault
-returns c = rw (sym (c .before .seen .ensures) ∙ not-true (c .before .seen .result) (c .if1 .taken))
+returns c = rw (refuted (c .before .seen .ensures) (c .if1 .taken))
 
 seen-requires-2 : tie.Need-seen-requires-2
 seen-requires-2 c κs = search needs
@@ -21,7 +21,7 @@ returns-2 : tie.Need-returns-2
 unfolding initialFault
 returns-2 c =
     let b = c .before in
-    rw (sym (b .before .seen .ensures) ∙ not-false (b .before .seen .result) (b .if1 .left)) (ap not (c .seen2 .ensures))
+    rw (upheld (b .before .seen .ensures) (b .if1 .left)) (ap not (c .seen2 .ensures))
 
 pub initial-fault-spec : {M : Type 1} → statement M
 initial-fault-spec = tie.close (tie.spec seen-requires returns seen-requires-2 returns-2)

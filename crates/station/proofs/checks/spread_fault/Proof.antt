@@ -1,17 +1,17 @@
 -- `checks::spread_fault` meets its contract: an object that was sighted has a lowest position, whose g is the base. Assumes nothing.
-use mathlib.Core.Path.{_≡_, sym, _∙_, ap}
+use mathlib.Core.Path.{_≡_, _∙_, ap}
 use mathlib.Core.Bool.{true}
 use Prim.Native.Nat.{ℕ, _<_}
 use native.Mathlib.Omega.{arith}
 use borrow.Author.Needs.{needs}
-use borrow.Author.Tests.{not-true, not-false}
 use lib.Dec.{ltb}
-use lib.IntN.{ℤ, natAbs, _-ℤ_}
+use lib.IntN.{natAbs, _-ℤ_}
 use mir.Syntax.{w64}
 use mir.Val.{toZ, ofZ}
 use Rattle.station.specs.Means.{C, centred, seen, g, base, e, spreadFault}
 use Rattle.station.proofs.Figures.{told, g-size}
 use Rattle.station.proofs.Positions.{lowest-least}
+use Rattle.station.proofs.Equality.{refuted, upheld}
 use Rattle.station.proofs.checks.spread_fault.Statement.{statement}
 use Rattle.station.proofs.checks.spread_fault.Tie as tie
 
@@ -20,13 +20,13 @@ seen-requires c κs = search needs
 
 returns : tie.Need-returns
 unfolding spreadFault
-returns c = rw (sym (c .before .seen .ensures) ∙ not-true (c .before .seen .result) (c .if1 .taken))
+returns c = rw (refuted (c .before .seen .ensures) (c .if1 .taken))
 
 lowest-requires : tie.Need-lowest-requires
 lowest-requires c κs = search needs
 
 sighted : (c : tie.Else1) → let a = c .before .before .args in seen (a .count .now) (a .i) (a .j) ≡ true
-sighted c = sym (c .before .seen .ensures) ∙ not-false (c .before .seen .result) (c .if1 .left)
+sighted c = upheld (c .before .seen .ensures) (c .if1 .left)
 
 lowest-in : (c : tie.After-lowest) → c .lowest .result < 16
 lowest-in c =

@@ -1,5 +1,5 @@
 -- `fields::out_of_range` meets its contract, field by field. Assumes nothing.
-use mathlib.Core.Path.{_≡_, sym, _∙_}
+use mathlib.Core.Path.{sym, _∙_}
 use borrow.Author.Needs.{needs}
 use mir.ValLaws.{toZ-ofZ}
 use Rattle.station.specs.Sightings.{outOfRange}

@@ -1,5 +1,4 @@
 -- `fields::outside` meets its contract. Assumes nothing.
-use mathlib.Core.Path.{_∙_, sym}
 use mir.ValLaws.{toZ-ofZ}
 use Rattle.station.specs.Sightings.{outside}
 use Rattle.station.proofs.fields.outside.Statement.{statement}

@@ -1,19 +1,14 @@
 -- `pair::centred` meets its contract: the machine forms z + half, twice the half and the difference, which fit. Assumes nothing.
 use mathlib.Core.Path.{_≡_, _∙_}
-use mathlib.Core.List.{[], _∷_}
 use Prim.Native.Nat.{_≤_}
 use native.Mathlib.Nat.{le-trans}
-use native.Mathlib.Omega.{arith}
-use lib.IntN.{ℤ, pos, natAbs, _+ℤ_, _*ℤ_, _-ℤ_}
-use lib.Signed.{_<ℤ_}
+use lib.IntN.{pos, natAbs, _+ℤ_, _*ℤ_, _-ℤ_}
 use mir.Syntax.{w64}
 use mir.Val.{toZ, ofZ}
-use mir.ValLaws.{toZ-ofZ}
 use Rattle.exact.specs.Circle.{modulo}
 use Rattle.exact.proofs.Bound.{bounded, bounds, fits-in, abs-in, read}
-use Rattle.exact.proofs.Linear.{unknowns, linear, orders, lt-by}
 use Rattle.station.specs.Means.{centred}
-use Rattle.station.proofs.Figures.{told, modulo-size}
+use Rattle.station.proofs.Figures.{told, twice-above, modulo-size}
 use Rattle.station.proofs.pair.centred.Statement.{statement}
 use Rattle.station.proofs.pair.centred.Tie as tie
 
@@ -29,9 +24,6 @@ sum-read c = read (add-modulo c) ∙ (λ t. read (c .fits .z) t +ℤ read (c .fi
 
 circle-read : (c : tie.Start) → toZ w64 (ofZ w64 (pos 2 *ℤ toZ w64 (ofZ w64 (c .args .half)))) ≡ pos 2 *ℤ c .args .half
 circle-read c = read (mul-modulo c) ∙ (λ t. pos 2 *ℤ read (c .fits .half) t)
-
-twice-above : (h : ℤ) → pos 0 <ℤ h → pos 0 <ℤ (pos 2 *ℤ h)
-twice-above h k = let v = unknowns (h ∷ []) in lt-by (search linear) (search linear) (omega (arith, orders))
 
 modulo-requires : tie.Need-modulo-requires
 modulo-requires c κs = rw (circle-read c) (twice-above (c .args .half) (c .pre .1 .0))

@@ -1,7 +1,7 @@
 -- `pair::faces_differ` meets its contract: the two readings are within 512 circles, so their difference fits. Assumes nothing.
 use mathlib.Core.Path.{_≡_, _∙_}
 use borrow.Author.Needs.{needs}
-use lib.IntN.{ℤ, pos, _-ℤ_}
+use lib.IntN.{ℤ, _-ℤ_}
 use mir.Syntax.{w64}
 use mir.Val.{toZ, ofZ}
 use Rattle.exact.proofs.Bound.{Bounded, bounded, bounds, fits-in, abs-in, read}

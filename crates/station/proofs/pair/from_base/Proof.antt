@@ -1,7 +1,7 @@
 -- `pair::from_base` meets its contract: g and the base lie within two circles. Assumes nothing.
 use mathlib.Core.Path.{_≡_, _∙_}
 use borrow.Author.Needs.{needs}
-use lib.IntN.{ℤ, pos, _-ℤ_}
+use lib.IntN.{ℤ, _-ℤ_}
 use mir.Syntax.{w64}
 use mir.Val.{toZ, ofZ}
 use Rattle.exact.proofs.Bound.{Bounded, bounded, bounds, fits-in, abs-in, read}

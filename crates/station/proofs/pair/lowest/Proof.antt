@@ -1,7 +1,6 @@
 -- `pair::lowest` meets its contract: in no position before i was the object sighted. Assumes nothing.
 use mathlib.Core.Path.{_≡_, sym, _∙_, subst}
-use mathlib.Core.Bool.{Bool}
-use Prim.Native.Nat.{ℕ, _≤_, _-_}
+use Prim.Native.Nat.{_≤_, _-_}
 use native.Mathlib.Omega.{arith}
 use borrow.Author.Needs.{needs}
 use Rattle.exact.proofs.Searching.{Failed, failed-none, failed-more, first-at, first-none}

@@ -1,7 +1,7 @@
 -- `table::seen` meets its contract. Assumes nothing.
-use mathlib.Core.Path.{_≡_, sym, _∙_, ap}
+use mathlib.Core.Path.{_∙_, ap}
 use borrow.Author.Needs.{needs}
-use lib.IntN.{ℤ, pos, natAbs, _+ℤ_}
+use lib.IntN.{pos, _+ℤ_}
 use lib.Signed.{ltZ}
 use Rattle.exact.proofs.Bound.{bounded, bounds, fits-in, read}
 use Rattle.station.specs.Means.{seen}

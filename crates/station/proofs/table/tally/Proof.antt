@@ -1,22 +1,21 @@
 -- `table::tally` meets its contract: after h sightings the two tables are those of the first h. Assumes nothing.
-use mathlib.Core.Path.{_≡_, sym, _∙_, ap}
-use mathlib.Core.List.{List}
-use Prim.Native.Nat.{ℕ, _+_, _*_, _≤_, _<_, _-_}
+use mathlib.Core.Path.{_≡_, _∙_, ap}
+use Prim.Native.Nat.{ℕ, _≤_, _<_, _-_}
 use native.Mathlib.Omega.{arith}
 use borrow.Author.Needs.{needs}
 use lib.IntN.{ℤ, pos, natAbs, _+ℤ_}
-use lib.ListN.{length, getD, set}
+use lib.ListN.{length, getD}
 use mir.Syntax.{w64}
-use mir.Val.{SFits, toZ, ofZ}
-use Rattle.exact.proofs.Bound.{bounded, bounds, fits-in, fits-within, fits-of-mag, read as read-back}
-use Rattle.station.specs.Sightings.{Book, book}
-use Rattle.station.specs.Table.{slot, one, read}
-use Rattle.station.proofs.Tallying.{InFields, in-fields, positionAt, objectAt, faceAt, readingAt, slotAt, slot-in, tallied, tallied-none, stored, tallied-size, tallied-all}
+use mir.Val.{SFits}
+use Rattle.exact.proofs.Bound.{bounded, bounds, fits-in, fits-within, read}
+use Rattle.station.specs.Sightings.{Book, book, positionAt, objectAt, faceAt, readingAt}
+use Rattle.station.specs.Table.{slot, one}
+use Rattle.station.proofs.Tallying.{InFields, in-fields, slotAt, slot-in, tallied, tallied-none, stored, tallied-size, tallied-all}
 use Rattle.station.proofs.table.tally.Statement.{statement}
 use Rattle.station.proofs.table.tally.Tie as tie
 
 abbrev Inv-loop : tie.InvT-loop
-Inv-loop position object face reading count₀ sums₀ h₀ count sums h = (h ≤ length position) × ((count ≡ tallied (book position object face reading) one h) × (sums ≡ tallied (book position object face reading) (read (book position object face reading)) h))
+Inv-loop position object face reading count₀ sums₀ h₀ count sums h = (h ≤ length position) × ((count ≡ tallied (book position object face reading) one h) × (sums ≡ tallied (book position object face reading) (readingAt (book position object face reading)) h))
 
 abbrev μ-loop : tie.MeasureT-loop
 μ-loop position object face reading count₀ sums₀ h₀ count sums h = length position - h
@@ -32,8 +31,8 @@ module _ (c : tie.In-loop Inv-loop μ-loop) where
   abbrev h : ℕ
   h = c .before .loop .h
 
-  fields : InFields (positionAt list h) (objectAt list h) (faceAt list h) (readingAt list h)
-  fields = in-fields (positionAt list h) (objectAt list h) (faceAt list h) (readingAt list h) (c .before .before .pre .0 .sound h (omega arith))
+  fields : InFields list h
+  fields = in-fields list h (c .before .before .pre .0 .sound h (omega arith))
 
   face-fits : SFits w64 (faceAt list h)
   face-fits = fits-within (faceAt list h) (fields .faces .1 .1) tt
@@ -49,10 +48,10 @@ module _ (c : tie.In-loop Inv-loop μ-loop) where
 
   -- of the readings so far
   reading-sizes : (i : ℕ) → i < h → natAbs (readingAt list i) ≤ 1295999999
-  reading-sizes i l = in-fields (positionAt list i) (objectAt list i) (faceAt list i) (readingAt list i) (c .before .before .pre .0 .sound i (omega arith)) .readings .1 .1
+  reading-sizes i l = in-fields list i (c .before .before .pre .0 .sound i (omega arith)) .readings .1 .1
 
 loop-holds : tie.Need-loop-holds Inv-loop μ-loop
-loop-holds c = (omega arith, (c .pre .1 .0 ∙ tallied-none (sighted c) one, c .pre .1 .1 ∙ tallied-none (sighted c) (read (sighted c))))
+loop-holds c = (omega arith, (c .pre .1 .0 ∙ tallied-none (sighted c) one, c .pre .1 .1 ∙ tallied-none (sighted c) (readingAt (sighted c))))
 
 mul-slot-of : tie.Need-mul-slot-of Inv-loop μ-loop
 mul-slot-of c = search needs
@@ -75,7 +74,7 @@ shared-slice-copy-out-slot-of-3 c = omega (arith, c .before .before .before .bef
 slot-of-requires : tie.Need-slot-of-requires Inv-loop μ-loop
 slot-of-requires c κs =
     let i = c .before .before .before in let s = fields i in
-    rw (read-back (face-fits i), read-back (position-fits i), read-back (object-fits i)) (s .faces .1 .1, (s .positions .1, s .objects .1))
+    rw (read (face-fits i), read (position-fits i), read (object-fits i)) (s .faces .1 .1, (s .positions .1, s .objects .1))
 
 -- the place of the sighting is that of its own face, position and object
 module _ (c : tie.After-slot-of Inv-loop μ-loop) where
@@ -83,7 +82,7 @@ module _ (c : tie.After-slot-of Inv-loop μ-loop) where
   turn = c .before .before .before .before
 
   place : c .slot-of .result ≡ slotAt (list turn) (h turn)
-  place = c .slot-of .ensures ∙ (λ t. slot (natAbs (read-back (face-fits turn) t)) (natAbs (read-back (position-fits turn) t) - 1) (natAbs (read-back (object-fits turn) t) - 1))
+  place = c .slot-of .ensures ∙ (λ t. slot (natAbs (read (face-fits turn) t)) (natAbs (read (position-fits turn) t) - 1) (natAbs (read (object-fits turn) t) - 1))
 
   place-in : c .slot-of .result < 512
   place-in = rw place (slot-in (list turn) (h turn) (fields turn))
@@ -99,7 +98,7 @@ module _ (c : tie.After-slot-of Inv-loop μ-loop) where
   count-size = rw (turn .before .loop .inv .1 .0) (omega (arith, tallied-size (list turn) one (h turn) 1 (λ i l. omega arith) (c .slot-of .result), turn .before .before .pre .0 .few))
 
   sum-size : natAbs summed ≤ 663552000000
-  sum-size = rw (turn .before .loop .inv .1 .1) (omega (arith, tallied-size (list turn) (read (list turn)) (h turn) 1295999999 (reading-sizes turn) (c .slot-of .result), turn .before .before .pre .0 .few))
+  sum-size = rw (turn .before .loop .inv .1 .1) (omega (arith, tallied-size (list turn) (readingAt (list turn)) (h turn) 1295999999 (reading-sizes turn) (c .slot-of .result), turn .before .before .pre .0 .few))
 
   count-fits : SFits w64 counted
   count-fits = fits-within counted count-size tt
@@ -161,15 +160,15 @@ loop-again c =
     let k = c .before .before .before in let i = turn k in let l = i .before .loop in (
       omega arith,
       (
-        stored (list i) one (h i) (fields i) (l .inv .1 .0) (place k) (read-back (add-count (c .before .before)) ∙ (λ t. read-back (count-fits k) t +ℤ pos 1)),
-        stored (list i) (read (list i)) (h i) (fields i) (l .inv .1 .1) (place k) (read-back (add-sums c) ∙ (λ t. read-back (sum-fits k) t +ℤ read-back (reading-fits i) t)),
+        stored (list i) one (h i) (fields i) (l .inv .1 .0) (place k) (read (add-count (c .before .before)) ∙ (λ t. read (count-fits k) t +ℤ pos 1)),
+        stored (list i) (readingAt (list i)) (h i) (fields i) (l .inv .1 .1) (place k) (read (add-sums c) ∙ (λ t. read (sum-fits k) t +ℤ read (reading-fits i) t)),
       ),
     )
 
 returns : tie.Need-returns Inv-loop μ-loop
 returns c =
     let l = c .before in let b = sighted (l .before) in let e : l .loop .h ≡ length (l .before .args .position .now) = omega arith in
-    (l .loop .inv .1 .0 ∙ ap (tallied b one) e ∙ tallied-all b one, l .loop .inv .1 .1 ∙ ap (tallied b (read b)) e ∙ tallied-all b (read b))
+    (l .loop .inv .1 .0 ∙ ap (tallied b one) e ∙ tallied-all b one, l .loop .inv .1 .1 ∙ ap (tallied b (readingAt b)) e ∙ tallied-all b (readingAt b))
 
 pub tally-spec : {M : Type 1} → statement M
 tally-spec =

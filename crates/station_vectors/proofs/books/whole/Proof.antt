@@ -1,8 +1,5 @@
-use native.Mathlib.Omega.{arith}
-use mathlib.Core.Path.{_≡_, refl, sym, _∙_, ap}
-use Prim.Native.Nat.{ℕ, _+_, _*_, _-_, _≤_, _<_}
-use denote.Ref.{now}
-use lib.ListN.{length, getD, set, take, drop, length-set}
+-- `books::whole` is safe: h stays within the lists, and k below 512. Assumes nothing.
+use Prim.Native.Nat.{_-_, _≤_}
 use borrow.Author.Needs.{needs}
 use Rattle.station_vectors.proofs.books.whole.Statement.{statement}
 use Rattle.station_vectors.proofs.books.whole.Tie as tie
@@ -13,87 +10,66 @@ Inv-loop noisy step start b₀ k₀ h₀ b k h = (h ≤ 512) × (k ≤ 511)
 abbrev μ-loop : tie.MeasureT-loop
 μ-loop noisy step start b₀ k₀ h₀ b k h = 512 - h
 
--- src/books.rt:130:17
 empty-requires : tie.Need-empty-requires Inv-loop μ-loop
 empty-requires c κs = search needs
 
--- src/books.rt:132:5
 loop-holds : tie.Need-loop-holds Inv-loop μ-loop
 loop-holds c = search needs
 
--- src/books.rt:133:26
 add-b : tie.Need-add-b Inv-loop μ-loop
 add-b c = search needs
 
--- src/books.rt:133:25
 cast-b : tie.Need-cast-b Inv-loop μ-loop
 cast-b c = search needs
 
--- src/books.rt:133:9
 mul-b : tie.Need-mul-b Inv-loop μ-loop
 mul-b c = search needs
 
--- src/books.rt:133:9
 element-set-from-b : tie.Need-element-set-from-b Inv-loop μ-loop
 element-set-from-b c = search needs
 
--- src/books.rt:134:24
 add-b-2 : tie.Need-add-b-2 Inv-loop μ-loop
 add-b-2 c = search needs
 
--- src/books.rt:134:23
 cast-b-2 : tie.Need-cast-b-2 Inv-loop μ-loop
 cast-b-2 c = search needs
 
--- src/books.rt:134:9
 mul-b-2 : tie.Need-mul-b-2 Inv-loop μ-loop
 mul-b-2 c = search needs
 
--- src/books.rt:134:9
 element-set-from-b-2 : tie.Need-element-set-from-b-2 Inv-loop μ-loop
 element-set-from-b-2 c = search needs
 
--- src/books.rt:135:21
 cast-b-3 : tie.Need-cast-b-3 Inv-loop μ-loop
 cast-b-3 c = search needs
 
--- src/books.rt:135:9
 mul-b-3 : tie.Need-mul-b-3 Inv-loop μ-loop
 mul-b-3 c = search needs
 
--- src/books.rt:135:9
 element-set-from-b-3 : tie.Need-element-set-from-b-3 Inv-loop μ-loop
 element-set-from-b-3 c = search needs
 
--- src/books.rt:136:24
 reading-of-requires : tie.Need-reading-of-requires Inv-loop μ-loop
 reading-of-requires c κs = search needs
 
--- src/books.rt:136:9
 mul-t13 : tie.Need-mul-t13 Inv-loop μ-loop
 mul-t13 c = search needs
 
--- src/books.rt:136:9
 element-set-from-b-4 : tie.Need-element-set-from-b-4 Inv-loop μ-loop
 element-set-from-b-4 c = search needs
 
--- src/books.rt:137:14
 add-k : tie.Need-add-k Inv-loop μ-loop
 add-k c = search needs
 
--- src/books.rt:132:9
 add-h : tie.Need-add-h Inv-loop μ-loop
 add-h c = search needs
 
--- src/books.rt:132:5
 loop-less : tie.Need-loop-less Inv-loop μ-loop
 loop-less c = search needs
 
--- src/books.rt:132:5
 loop-again : tie.Need-loop-again Inv-loop μ-loop
 loop-again c = search needs
 
--- src/books.rt:127:1
 returns : tie.Need-returns Inv-loop μ-loop
 returns c = search needs
 
