@@ -18,3 +18,11 @@ pub record InRange (b : Book) : Type 0 where
 -- every number of a table is at most m in size
 abbrev pub Within : ℕ → List ℤ → Type 0
 Within m table = (k : ℕ) → natAbs (getD table k (pos 0)) ≤ m
+
+-- a table of counts, of at most 512 sightings
+abbrev pub CountTable : List ℤ → Type 0
+CountTable n = Within 512 n
+
+-- a table of sums, of at most 512 readings: 512 circles
+abbrev pub SumTable : List ℤ → Type 0
+SumTable r = Within 663552000000 r

@@ -15,9 +15,11 @@ total b v f i j = sumWhere (sightings b) (isOf b f i j) v
 abbrev pub slot : ℕ → ℕ → ℕ → ℕ
 slot f i j = 256 * f + 16 * i + j
 
+-- what a table has there
 abbrev pub entry : List ℤ → ℕ → ℕ → ℕ → ℤ
 entry table f i j = getD table (slot f i j) (pos 0)
 
+-- the table of the sums of v: 2 faces by 16 positions by 16 objects
 abbrev pub tableOf : Book → (ℕ → ℤ) → List ℤ
 tableOf b v = tabulate 512 (λ k. total b v (k / 256) (k % 256 / 16) (k % 16))
 

@@ -12,7 +12,12 @@ ghost use Prim.Native.Nat.{_<_};
 ghost use Rattle.exact.specs.First.{first};
 ghost use Rattle.station.specs.Means.{facesFault, initialFault, apartFault, spreadFault};
 ghost use Rattle.station.specs.Replies.{fault, tableReply};
-ghost use Rattle.station.specs.Bounds.{Within};
+ghost use Rattle.station.specs.Bounds.{CountTable, SumTable};
+
+// How far the faces of a pair may be apart, in 0.001 second, and how far g of a position may be from the base.
+const MOST_APART: u64 = 60000;
+
+const MOST_SPREAD: u64 = 120000;
 
 // What a check over the table asks of each place.
 pub enum Check {
@@ -28,7 +33,7 @@ pub enum Check {
 
 // 23: the object was sighted in the position, but not once left and once right.
 fn faces_fault(count: &[i64; 512], i: usize, j: usize) -> bool
-    requires { ⌜ (Within 512 (now count) × ((i < 16) × (j < 16))) ⌝ }
+    requires { ⌜ (CountTable (now count) × ((i < 16) × (j < 16))) ⌝ }
     ensures { λ r. ⌜ r ≡ facesFault (now (count .entry)) i j ⌝ }
 {
     if !seen(count, i, j) {
@@ -42,7 +47,7 @@ fn faces_fault(count: &[i64; 512], i: usize, j: usize) -> bool
 
 // 24: the object was sighted in the position, and object 1 was not.
 fn initial_fault(count: &[i64; 512], i: usize, j: usize) -> bool
-    requires { ⌜ (Within 512 (now count) × ((i < 16) × (j < 16))) ⌝ }
+    requires { ⌜ (CountTable (now count) × ((i < 16) × (j < 16))) ⌝ }
     ensures { λ r. ⌜ r ≡ initialFault (now (count .entry)) i j ⌝ }
 {
     if !seen(count, i, j) {
@@ -53,30 +58,30 @@ fn initial_fault(count: &[i64; 512], i: usize, j: usize) -> bool
 
 // 25: the faces of the pair are over 60,000 apart.
 fn apart_fault(count: &[i64; 512], sums: &[i64; 512], i: usize, j: usize) -> bool
-    requires { ⌜ (Within 512 (now count) × (Within 663552000000 (now sums) × ((i < 16) × (j < 16)))) ⌝ }
+    requires { ⌜ (CountTable (now count) × (SumTable (now sums) × ((i < 16) × (j < 16)))) ⌝ }
     ensures { λ r. ⌜ r ≡ apartFault (now (count .entry)) (now (sums .entry)) i j ⌝ }
 {
     if !seen(count, i, j) {
         return false;
     }
-    60000 < exact::magnitude(faces_differ(sums, i, j))
+    MOST_APART < exact::magnitude(faces_differ(sums, i, j))
 }
 
 // 26: the pair's doubled direction is over 120,000 from that of the object's lowest position.
 fn spread_fault(count: &[i64; 512], sums: &[i64; 512], i: usize, j: usize) -> bool
-    requires { ⌜ (Within 512 (now count) × (Within 663552000000 (now sums) × ((i < 16) × (j < 16)))) ⌝ }
+    requires { ⌜ (CountTable (now count) × (SumTable (now sums) × ((i < 16) × (j < 16)))) ⌝ }
     ensures { λ r. ⌜ r ≡ spreadFault (now (count .entry)) (now (sums .entry)) i j ⌝ }
 {
     if !seen(count, i, j) {
         return false;
     }
     let base = doubled_direction(sums, lowest(count, j), j);
-    120000 < exact::magnitude(from_base(sums, i, j, base))
+    MOST_SPREAD < exact::magnitude(from_base(sums, i, j, base))
 }
 
 // The fault of a check at the k-th place of its order.
 fn fault_at(check: Check, count: &[i64; 512], sums: &[i64; 512], k: usize) -> bool
-    requires { ⌜ (Within 512 (now count) × (Within 663552000000 (now sums) × (k < 256))) ⌝ }
+    requires { ⌜ (CountTable (now count) × (SumTable (now sums) × (k < 256))) ⌝ }
     ensures { λ r. ⌜ r ≡ fault check (now (count .entry)) (now (sums .entry)) k ⌝ }
 {
     let row = k / 16;
@@ -91,7 +96,7 @@ fn fault_at(check: Check, count: &[i64; 512], sums: &[i64; 512], k: usize) -> bo
 
 // The first place at fault of a check; 256 where there is none.
 fn first_fault(check: Check, count: &[i64; 512], sums: &[i64; 512]) -> usize
-    requires { ⌜ (Within 512 (now count) × Within 663552000000 (now sums)) ⌝ }
+    requires { ⌜ (CountTable (now count) × SumTable (now sums)) ⌝ }
     ensures { λ r. ⌜ r ≡ first 256 (fault check (now (count .entry)) (now (sums .entry))) ⌝ }
 {
     for k in 0..256 {
@@ -104,7 +109,7 @@ fn first_fault(check: Check, count: &[i64; 512], sums: &[i64; 512]) -> usize
 
 // The reply of the table's checks, in their order.
 pub fn table_reply(count: &[i64; 512], sums: &[i64; 512]) -> Reply
-    requires { ⌜ (Within 512 (now count) × Within 663552000000 (now sums)) ⌝ }
+    requires { ⌜ (CountTable (now count) × SumTable (now sums)) ⌝ }
     ensures { λ r. ⌜ r ≡ tableReply (now (count .entry)) (now (sums .entry)) ⌝ }
 {
     let k = first_fault(Check::PairsWhole, count, sums);

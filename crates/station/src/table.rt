@@ -7,7 +7,7 @@ ghost use lib.ListN.{replicate};
 ghost use Rattle.station.specs.Sightings.{book};
 ghost use Rattle.station.specs.Table.{slot, entry, counts, readings};
 ghost use Rattle.station.specs.Means.{seen};
-ghost use Rattle.station.specs.Bounds.{InRange, Within};
+ghost use Rattle.station.specs.Bounds.{InRange, CountTable};
 
 // The place in a table of a face, a position and an object as the list has them.
 fn slot_of(face: i64, position: i64, object: i64) -> usize
@@ -51,7 +51,7 @@ pub fn entry(table: &[i64; 512], f: usize, i: usize, j: usize) -> i64
 
 // The object was sighted in the position, by either face.
 pub fn seen(count: &[i64; 512], i: usize, j: usize) -> bool
-    requires { ⌜ (Within 512 (now count) × ((i < 16) × (j < 16))) ⌝ }
+    requires { ⌜ (CountTable (now count) × ((i < 16) × (j < 16))) ⌝ }
     ensures { λ r. ⌜ r ≡ seen (now (count .entry)) i j ⌝ }
 {
     0 < entry(count, 0, i, j) + entry(count, 1, i, j)
