@@ -9,5 +9,6 @@ pub mod Pairing
 pub mod Counting
 pub mod Rearranging
 pub mod Averaging
+pub mod Directions
 pub mod Uniqueness
 pub mod StationFigures
