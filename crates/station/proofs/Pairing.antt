@@ -1,13 +1,13 @@
--- The inspectorate's first question: left and right are joined only where position and object agree. Assumes nothing.
+-- The pairs of an accepted list: the steps of the inspectorate's first question, which proofs/Joining answers. Assumes nothing.
 --   paired                  every pair that enters a direction is the one left and the one right sighting of its position and object
 --   is-seen                 and the pair of every position and object that has a sighting enters
---   entered                 each sighting of an accepted list is the left or the right of the pair of its own position and object,
---   one-pair-left, one-pair-right, left-not-right      and of no other
+--   entered                 each sighting of an accepted list is the left or the right of the pair of its own position and object
+--   one-place               and is of one face, one position and one object
 --   pairs-counted           P counts the positions that have a pair
 use mathlib.Core.Path.{_≡_, refl, sym, _∙_, ap, subst}
 use mathlib.Core.Bool.{Bool, true, false, cond, not, _&&_}
 use mathlib.Core.List.{List, [], _∷_}
-use mathlib.Core.Logic.{_⊎_, inl, inr}
+use mathlib.Core.Logic.{inl, inr}
 use Prim.Native.Nat.{ℕ, zero, suc, _+_, _-_, _<_, _≤_}
 use native.Mathlib.Omega.{arith}
 use borrow.Author.Tests.{not-false}
@@ -18,10 +18,10 @@ use Rattle.exact.proofs.Linear.{Difference, unknowns, linear, orders, lt-failed
 use Rattle.exact.proofs.Sum.{sum-ext}
 use Rattle.reply.specs.declared.Reply.the-variants.{Accepted}
 use Rattle.station.specs.Sightings.{Book, sightings, positionAt, objectAt, faceAt, readingAt, eqZ, isOf}
-use Rattle.station.specs.Pairs.{Sighted, Pair}
+use Rattle.station.specs.Pairs.{Sighted, Joined, Entered}
 use Rattle.station.specs.SumWhere.{sumWhere}
 use Rattle.station.specs.Table.{one, total, entry, counts, readings}
-use Rattle.station.specs.Means.{L, R, seen, facesFault, P}
+use Rattle.station.specs.Means.{seen, facesFault, P}
 use Rattle.station.specs.Replies.{replyOf}
 use Rattle.station.proofs.Accepting.{Passed, passed}
 use Rattle.station.proofs.Equality.{eqZ-yes, eqZ-true, and-true, same-tests}
@@ -47,14 +47,6 @@ unfolding facesFault
 once-each n i j s e =
     let x = and-true (eqZ (entry n 0 i j) (pos 1)) (eqZ (entry n 1 i j) (pos 1)) (not-false _ ((λ t. sym s t && not (eqZ (entry n 0 i j) (pos 1) && eqZ (entry n 1 i j) (pos 1))) ∙ e)) in
     (eqZ-true _ _ (x .0), eqZ-true _ _ (x .1))
-
--- the pair of a position and an object, with its two readings
-pub record Joined (b : Book) (i j : ℕ) : Type 0 where
-  pub left : ℕ
-  pub right : ℕ
-  pub pair : Pair b (i + 1) (j + 1) left right
-  pub left-reading : L (readings b) i j ≡ readingAt b left
-  pub right-reading : R (readings b) i j ≡ readingAt b right
 
 -- the position and the object that a sighting's own fields say, counted from 0
 abbrev pub ownPosition : Book → ℕ → ℕ
@@ -125,14 +117,8 @@ module _ (b : Book) (d p : ℕ) (accepted : replyOf b d p ≡ Accepted) where
           right-reading = reads 1 (omega arith) r;
         }
 
-  -- each sighting of the list is the left or the right of a pair: that of its own position and object
-  pub record Entered (m : ℕ) : Type 0 where
-    pub i : ℕ
-    pub j : ℕ
-    pub joined : Joined b i j
-    pub which : (m ≡ joined .left) ⊎ (m ≡ joined .right)
-
-  pub entered : (m : ℕ) → m < sightings b → Entered m
+  -- each sighting of the list is the left or the right of the pair of its own position and object
+  pub entered : (m : ℕ) → m < sightings b → Entered b m
   entered m l = by-face (natAbs (faceAt b m)) (s .faces .1 .1) (s .faces .0)
     where
       s : InFields b m
@@ -155,7 +141,7 @@ module _ (b : Book) (d p : ℕ) (accepted : replyOf b d p ≡ Accepted) where
       pair-here : (f : ℕ) → f < 2 → faceAt b m ≡ pos f → Joined b (ownPosition b m) (ownObject b m)
       pair-here f lf e = paired (ownPosition b m) (ownObject b m) li lj (is-seen b (ownPosition b m) (ownObject b m) li lj f m lf (own f e))
 
-      by-face : (f : ℕ) → f ≤ 1 → faceAt b m ≡ pos f → Entered m
+      by-face : (f : ℕ) → f ≤ 1 → faceAt b m ≡ pos f → Entered b m
       by-face zero lf e = let q = pair-here 0 (omega arith) e in record { i = ownPosition b m; j = ownObject b m; joined = q; which = inl (q .pair .only-left m (own 0 e)) }
       by-face (suc zero) lf e = let q = pair-here 1 (omega arith) e in record { i = ownPosition b m; j = ownObject b m; joined = q; which = inr (q .pair .only-right m (own 1 e)) }
       by-face (suc (suc f)) lf e = absurd (omega arith)
@@ -170,21 +156,8 @@ module _ (b : Book) (d p : ℕ) (accepted : replyOf b d p ≡ Accepted) where
       same i li = same-tests (seen (counts b) i j) (test i) (λ e. from i li (paired i j li lj e)) (λ e. is-seen b i j li lj 0 _ (omega arith) (to i li e .pair .left))
 
 -- ---- at most one pair: a sighting has one position, one object and one face
-module _ (b : Book) {p o p′ o′ h k h′ k′ : ℕ} (x : Pair b p o h k) (y : Pair b p′ o′ h′ k′) where
-  number : {z : ℤ} {m n : ℕ} → z ≡ pos m → z ≡ pos n → m ≡ n
-  number e f = ap natAbs (sym e ∙ f)
+same-number : {z : ℤ} {m n : ℕ} → z ≡ pos m → z ≡ pos n → m ≡ n
+same-number e f = ap natAbs (sym e ∙ f)
 
-  pub one-pair-left : h ≡ h′ → (p ≡ p′) × (o ≡ o′)
-  one-pair-left e = (
-    number (x .left .position-is) (ap (λ (m : ℕ). positionAt b m) e ∙ y .left .position-is),
-    number (x .left .object-is) (ap (λ (m : ℕ). objectAt b m) e ∙ y .left .object-is),
-  )
-
-  pub one-pair-right : k ≡ k′ → (p ≡ p′) × (o ≡ o′)
-  one-pair-right e = (
-    number (x .right .position-is) (ap (λ (m : ℕ). positionAt b m) e ∙ y .right .position-is),
-    number (x .right .object-is) (ap (λ (m : ℕ). objectAt b m) e ∙ y .right .object-is),
-  )
-
-  pub left-not-right : h ≡ k′ → ⊥
-  left-not-right e = let z = number (x .left .face-is) (ap (λ (m : ℕ). faceAt b m) e ∙ y .right .face-is) in omega arith
+pub one-place : (b : Book) {f f′ p o p′ o′ h : ℕ} → Sighted b f p o h → Sighted b f′ p′ o′ h → (f ≡ f′) × ((p ≡ p′) × (o ≡ o′))
+one-place b x y = (same-number (x .face-is) (y .face-is), (same-number (x .position-is) (y .position-is), same-number (x .object-is) (y .object-is)))

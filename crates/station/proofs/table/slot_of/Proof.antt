@@ -28,19 +28,19 @@ module _ (c : tie.After-magnitude3) where
   o = c .magnitude3 .ensures ∙ ap natAbs (read (c .before .before .before .fits .object))
 
 mul-result : tie.Need-mul-result
-mul-result c = omega (arith, f c)
+mul-result c = omega (arith, f c, p c, o c)
 
 sub-result : tie.Need-sub-result
-sub-result c = omega (arith, p c)
+sub-result c = omega (arith, f c, p c, o c)
 
 mul-result-2 : tie.Need-mul-result-2
-mul-result-2 c = omega (arith, p c)
+mul-result-2 c = omega (arith, f c, p c, o c)
 
 add-result : tie.Need-add-result
-add-result c = omega (arith, f c, p c)
+add-result c = omega (arith, f c, p c, o c)
 
 sub-result-2 : tie.Need-sub-result-2
-sub-result-2 c = omega (arith, o c)
+sub-result-2 c = omega (arith, f c, p c, o c)
 
 add-result-2 : tie.Need-add-result-2
 add-result-2 c = omega (arith, f c, p c, o c)
