@@ -1,5 +1,6 @@
 -- What every answer has, whatever the tables hold. Assumes nothing.
 --   in-circle               a direction lies from 0 to C - 1
+--   e-base                  the base differs from itself by 0
 --   initial-zero            object 1 has direction 0
 --   never-seen              "an object never seen has 0 and 0"
 use mathlib.Core.Path.{_≡_, refl, sym, _∙_, ap, subst}
@@ -15,7 +16,7 @@ use Rattle.exact.proofs.Circles.{floor-only, modulo-low, modulo-high}
 use Rattle.exact.proofs.Linear.{unknowns, linear, orders, eq-by, lt-by}
 use Rattle.exact.proofs.Order.{lt-le}
 use Rattle.exact.proofs.Sum.{sum-ext, sum-zero}
-use Rattle.station.specs.Means.{C, L, centred, seen, s, g, lowest, e, P, sumOfE, t, direction}
+use Rattle.station.specs.Means.{C, L, centred, seen, s, g, lowest, base, e, P, sumOfE, t, direction}
 use Rattle.station.proofs.Figures.{twice-above}
 use Rattle.station.proofs.Selecting.{chosen, where-failed}
 
@@ -26,6 +27,13 @@ in-circle n r j = by-test (ltZ (pos 0) (P n j)) (floor (t n r j +ℤ P n j) (pos
     by-test : (x : Bool) (k : ℤ) → (pos 0 ≤ℤ cond x (modulo k C) (pos 0)) × (cond x (modulo k C) (pos 0) <ℤ C)
     by-test true k = (modulo-low k C (record { lt = tt }), modulo-high k C (record { lt = tt }))
     by-test false k = (record { le = tt }, record { lt = tt })
+
+pub e-base : (n r : List ℤ) (j : ℕ) → e n r (lowest n j) j ≡ pos 0
+unfolding e centred modulo floor
+e-base n r j = ap (λ (z : ℤ). centred z C) (itself (base n r j))
+  where
+    itself : (x : ℤ) → x -ℤ x ≡ pos 0
+    itself x = let v = unknowns (x ∷ []) in eq-by (search linear) (search linear) (omega arith)
 
 -- ---- object 1
 g-initial : (r : List ℤ) (i : ℕ) → g r i 0 ≡ pos 0
