@@ -1,4 +1,4 @@
--- `station::means` meets its contract. Assumes nothing.
+-- `station::means` meets its contract: each return is one step of the fixed order of checks, and lists are written only after the last. Assumes nothing.
 use mathlib.Core.Path.{_≡_, refl, sym, _∙_, subst}
 use mathlib.Core.Bool.{Bool, true}
 use mathlib.Core.List.{List}
