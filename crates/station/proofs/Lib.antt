@@ -1,0 +1,15 @@
+pub mod Equality
+pub mod Figures
+pub mod Selecting
+pub mod Tallying
+pub mod Positions
+pub mod Deciding
+pub mod Accepting
+pub mod Pairing
+pub mod Counting
+pub mod Joining
+pub mod Rearranging
+pub mod Averaging
+pub mod Directions
+pub mod Uniqueness
+pub mod StationFigures
