@@ -11,13 +11,13 @@ use Rattle.station.proofs.answer.write.Statement.{statement}
 use Rattle.station.proofs.answer.write.Tie as tie
 
 abbrev Inv-loop : tie.InvT-loop
-Inv-loop count sums direction₀ pairs₀ j₀ direction pairs j = (j ≤ 16) × (Filled (pos 0) (directionOf count sums) j direction₀ direction × Filled (pos 0) (P count) j pairs₀ pairs)
+Inv-loop count sums direction₀ pairs₀ j₀ direction pairs j = (j ≤ 16) × (Filled (pos 0) (directionOf count sums) 0 j direction₀ direction × Filled (pos 0) (P count) 0 j pairs₀ pairs)
 
 abbrev μ-loop : tie.MeasureT-loop
 μ-loop count sums direction₀ pairs₀ j₀ direction pairs j = 16 - j
 
 loop-holds : tie.Need-loop-holds Inv-loop μ-loop
-loop-holds c = (omega arith, (filled-none (pos 0) _ (c .args .direction .now), filled-none (pos 0) _ (c .args .pairs .now)))
+loop-holds c = (omega arith, (filled-none (pos 0) _ 0 (c .args .direction .now), filled-none (pos 0) _ 0 (c .args .pairs .now)))
 
 direction-of-requires : tie.Need-direction-of-requires Inv-loop μ-loop
 direction-of-requires c κs = search needs
@@ -48,8 +48,8 @@ loop-again c =
     let l = c .before .before .before in let s = l .before in let d = c .before .direction-of in (
       omega arith,
       (
-        filled-more (pos 0) (directionOf (s .args .count .now) (s .args .sums .now)) (l .loop .j) (s .args .direction .now) (l .loop .direction) _ (omega (arith, s .pre .1 .1 .0)) (l .loop .inv .1 .0) (told (d .ok) (d .ensures)),
-        filled-more (pos 0) (P (s .args .count .now)) (l .loop .j) (s .args .pairs .now) (l .loop .pairs) _ (omega (arith, s .pre .1 .1 .1)) (l .loop .inv .1 .1) (told (c .pairs-of .ok) (c .pairs-of .ensures)),
+        filled-more (pos 0) (directionOf (s .args .count .now) (s .args .sums .now)) 0 (l .loop .j) (s .args .direction .now) (l .loop .direction) _ (omega (arith, s .pre .1 .1 .0)) (l .loop .inv .1 .0) (told (d .ok) (d .ensures)),
+        filled-more (pos 0) (P (s .args .count .now)) 0 (l .loop .j) (s .args .pairs .now) (l .loop .pairs) _ (omega (arith, s .pre .1 .1 .1)) (l .loop .inv .1 .1) (told (c .pairs-of .ok) (c .pairs-of .ensures)),
       ),
     )
 
@@ -62,8 +62,8 @@ same-length-2 c = c .before .loop .inv .1 .1 .long
 returns : tie.Need-returns Inv-loop μ-loop
 returns c =
     let l = c .before in let s = l .before in let e : l .loop .j ≡ 16 = omega arith in (
-      filled-all (pos 0) _ 16 (s .args .direction .now) (l .loop .direction) (s .pre .1 .1 .0) (subst (λ (k : ℕ). Filled (pos 0) (directionOf (s .args .count .now) (s .args .sums .now)) k (s .args .direction .now) (l .loop .direction)) e (l .loop .inv .1 .0)),
-      filled-all (pos 0) _ 16 (s .args .pairs .now) (l .loop .pairs) (s .pre .1 .1 .1) (subst (λ (k : ℕ). Filled (pos 0) (P (s .args .count .now)) k (s .args .pairs .now) (l .loop .pairs)) e (l .loop .inv .1 .1)),
+      filled-all (pos 0) _ 16 (s .args .direction .now) (l .loop .direction) (s .pre .1 .1 .0) (subst (λ (k : ℕ). Filled (pos 0) (directionOf (s .args .count .now) (s .args .sums .now)) 0 k (s .args .direction .now) (l .loop .direction)) e (l .loop .inv .1 .0)),
+      filled-all (pos 0) _ 16 (s .args .pairs .now) (l .loop .pairs) (s .pre .1 .1 .1) (subst (λ (k : ℕ). Filled (pos 0) (P (s .args .count .now)) 0 k (s .args .pairs .now) (l .loop .pairs)) e (l .loop .inv .1 .1)),
     )
 
 pub write-spec : {M : Type 1} → statement M
