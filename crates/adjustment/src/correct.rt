@@ -4,7 +4,7 @@ ghost use mathlib.Core.Path.{_≡_};
 ghost use Prim.Native.Nat.{ℕ, _+_, _*_, _≤_, _<_};
 ghost use lib.Dec.{ltb};
 ghost use lib.ListN.{length, getD};
-ghost use lib.IntN.{ℤ, pos, natAbs, _+ℤ_, _*ℤ_};
+ghost use lib.IntN.{pos, natAbs, _+ℤ_, _*ℤ_};
 ghost use Rattle.exact.specs.Sum.{sum};
 ghost use Rattle.exact.specs.Nearest.{nearest};
 ghost use Rattle.exact.specs.Circle.{C, modulo};
@@ -62,7 +62,8 @@ fn weighted(q: i64, s: i64) -> i64
 pub fn corrections(q: &[i64], a: &[i64], w: &[i64], k: [i64; 24]) -> [i64; 64]
     requires { ⌜ Sound (now q) (now a) (now w) ⌝ }
     requires { ⌜ Small 100000000 k (length (now w)) ⌝ }
-    ensures { λ r. ⌜ ((i : ℕ) → i < length (now (q .entry)) → getD r i (pos 0) ≡ V-of (tableOf (now (q .entry)) (now (a .entry)) (now (w .entry))) (at k) i) ⌝ }
+    ensures { λ r. ⌜ ((i : ℕ) → i < length (now (q .entry)) →
+        getD r i (pos 0) ≡ V-of (tableOf (now (q .entry)) (now (a .entry)) (now (w .entry))) (at k) i) ⌝ }
 {
     let m = q.len();
     let n = w.len();
@@ -107,8 +108,10 @@ fn remainder(s: i64, w: i64) -> i64
 pub fn remainders(q: &[i64], a: &[i64], w: &[i64], v: &[i64]) -> Remaining
     requires { ⌜ Sound (now q) (now a) (now w) ⌝ }
     requires { ⌜ (length (now q) ≤ length (now v)) × Small 48000000000000 (now v) (length (now q)) ⌝ }
-    ensures { λ r. ⌜ r .close ≡ first (length (now (w .entry))) (λ j. ltb 50000000 (natAbs (closing (tableOf (now (q .entry)) (now (a .entry)) (now (w .entry))) (at (now (v .entry))) j))) ⌝ }
-    ensures { λ r. ⌜ ((j : ℕ) → j < r .close → getD (r .r) j (pos 0) ≡ closing (tableOf (now (q .entry)) (now (a .entry)) (now (w .entry))) (at (now (v .entry))) j) ⌝ }
+    ensures { λ r. ⌜ r .close ≡ first (length (now (w .entry)))
+        (λ j. ltb 50000000 (natAbs (closing (tableOf (now (q .entry)) (now (a .entry)) (now (w .entry))) (at (now (v .entry))) j))) ⌝ }
+    ensures { λ r. ⌜ ((j : ℕ) → j < r .close →
+        getD (r .r) j (pos 0) ≡ closing (tableOf (now (q .entry)) (now (a .entry)) (now (w .entry))) (at (now (v .entry))) j) ⌝ }
 {
     let m = q.len();
     let mut r = [0i64; 24];
@@ -144,7 +147,8 @@ pub fn store(from: &[i64], to: &mut [i64])
 // u = nearest(V / 10^5), into a lent list.
 pub fn print_corrections(v: &[i64], u: &mut [i64])
     requires { ⌜ length (now u) ≤ length (now v) ⌝ }
-    ensures { λ _. ⌜ now (u .exit) ≡ tabulate (length (now (u .entry))) (λ i. nearest (getD (now (v .entry)) i (pos 0)) (pos 100000)) ⌝ }
+    ensures { λ _. ⌜ now (u .exit) ≡ tabulate (length (now (u .entry)))
+        (λ i. nearest (getD (now (v .entry)) i (pos 0)) (pos 100000)) ⌝ }
 {
     let mut i = 0;
     while i < u.len() {
@@ -166,7 +170,8 @@ fn turned(direction: i64, u: i64) -> i64
 pub fn adjust_directions(directions: &[i64], u: &[i64], adjusted: &mut [i64])
     requires { ⌜ (length (now adjusted) ≤ length (now directions)) × (length (now adjusted) ≤ length (now u)) ⌝ }
     requires { ⌜ Small 1296000000 (now directions) (length (now adjusted)) × Small 480000001 (now u) (length (now adjusted)) ⌝ }
-    ensures { λ _. ⌜ now (adjusted .exit) ≡ tabulate (length (now (adjusted .entry))) (λ i. modulo (getD (now (directions .entry)) i (pos 0) +ℤ getD (now (u .entry)) i (pos 0)) C) ⌝ }
+    ensures { λ _. ⌜ now (adjusted .exit) ≡ tabulate (length (now (adjusted .entry)))
+        (λ i. modulo (getD (now (directions .entry)) i (pos 0) +ℤ getD (now (u .entry)) i (pos 0)) C) ⌝ }
 {
     let mut i = 0;
     while i < adjusted.len() {
@@ -190,7 +195,8 @@ pub fn print_remainders(q: &[i64], a: &[i64], w: &[i64], u: &[i64], printed: &mu
     requires { ⌜ Sound (now q) (now a) (now w) ⌝ }
     requires { ⌜ (length (now q) ≤ length (now u)) × (length (now printed) ≡ length (now w)) ⌝ }
     requires { ⌜ Small 480000001 (now u) (length (now q)) ⌝ }
-    ensures { λ _. ⌜ now (printed .exit) ≡ tabulate (length (now (w .entry))) (λ j. pos 100000 *ℤ seen (tableOf (now (q .entry)) (now (a .entry)) (now (w .entry))) j (at (now (u .entry))) +ℤ pos 10000000 *ℤ getD (now (w .entry)) j (pos 0)) ⌝ }
+    ensures { λ _. ⌜ now (printed .exit) ≡ tabulate (length (now (w .entry)))
+        (λ j. pos 100000 *ℤ seen (tableOf (now (q .entry)) (now (a .entry)) (now (w .entry))) j (at (now (u .entry))) +ℤ pos 10000000 *ℤ getD (now (w .entry)) j (pos 0)) ⌝ }
 {
     let m = q.len();
     let mut start = 0;

@@ -1,17 +1,14 @@
 // Adjustment of a condition table: the one public operation, `adjust`. It checks the lent table, solves it, and only then writes the lent answer lists.
-pub mod correct;
-pub mod correlate;
-pub mod reduce;
-pub mod table;
+mod correct;
+mod correlate;
+mod reduce;
+mod table;
 
 ghost use mathlib.Core.Path.{_≡_};
-ghost use Prim.Native.Nat.{_≤_};
 ghost use lib.ListN.{length};
 ghost use Rattle.reply.specs.declared.Reply.the-variants.{Accepted};
-ghost use Rattle.exact.specs.Tabulate.{tabulate};
 ghost use Rattle.adjustment.specs.Table.{at, tableOf};
 ghost use Rattle.adjustment.specs.Solution.{K};
-ghost use Rattle.adjustment.specs.Corrections.{V-of, R-of, u-of, adjusted-of, Q-of};
 ghost use Rattle.adjustment.specs.Refusals.{solutionReply};
 ghost use Rattle.adjustment.specs.Promise.{Adjusts, lists, answersOf};
 ghost use Rattle.adjustment.specs.Inner.{Small, Sound, Solved};
@@ -19,7 +16,7 @@ use reply::Refusal;
 use reply::Reply;
 
 // The correlates, corrections and remainders of a table that is accepted.
-pub struct Solution {
+struct Solution {
     pub reply: Reply,
     pub k: [i64; 24],
     pub v: [i64; 64],
@@ -41,7 +38,8 @@ fn refused(why: Refusal) -> Solution
 fn solve(q: &[i64], a: &[i64], w: &[i64]) -> Solution
     requires { ⌜ Sound (now q) (now a) (now w) ⌝ }
     ensures { λ s. ⌜ s .reply ≡ solutionReply (tableOf (now (q .entry)) (now (a .entry)) (now (w .entry))) ⌝ }
-    ensures { λ s. ⌜ (s .reply ≡ Accepted → Solved (tableOf (now (q .entry)) (now (a .entry)) (now (w .entry))) (s .k) (s .v) (s .r)) ⌝ }
+    ensures { λ s. ⌜ (s .reply ≡ Accepted →
+        Solved (tableOf (now (q .entry)) (now (a .entry)) (now (w .entry))) (s .k) (s .v) (s .r)) ⌝ }
 {
     let n = w.len();
     let reduction = reduce::reduce(q, a, w);
@@ -92,7 +90,9 @@ fn answer(
     requires { ⌜ (length (now directions) ≡ length (now q)) × Small 1296000000 (now directions) (length (now q)) ⌝ }
     requires { ⌜ (length (now corrections) ≡ length (now q)) × (length (now printed) ≡ length (now q)) × (length (now adjusted) ≡ length (now q)) ⌝ }
     requires { ⌜ (length (now correlates) ≡ length (now w)) × (length (now remainders) ≡ length (now w)) × (length (now misses) ≡ length (now w)) ⌝ }
-    ensures { λ _. ⌜ lists (now (corrections .exit)) (now (printed .exit)) (now (adjusted .exit)) (now (correlates .exit)) (now (remainders .exit)) (now (misses .exit)) ≡ answersOf (tableOf (now (q .entry)) (now (a .entry)) (now (w .entry))) (K (tableOf (now (q .entry)) (now (a .entry)) (now (w .entry)))) (at (now (directions .entry))) ⌝ }
+    ensures { λ _. ⌜ lists (now (corrections .exit)) (now (printed .exit)) (now (adjusted .exit)) (now (correlates .exit)) (now (remainders .exit)) (now (misses .exit))
+        ≡ answersOf (tableOf (now (q .entry)) (now (a .entry)) (now (w .entry)))
+        (K (tableOf (now (q .entry)) (now (a .entry)) (now (w .entry)))) (at (now (directions .entry))) ⌝ }
 {
     correct::store(&v, corrections);
     correct::store(&k, correlates);
@@ -116,7 +116,10 @@ pub fn adjust(
     remainders: &mut [i64],
     misses: &mut [i64],
 ) -> Reply
-    ensures { λ reply. ⌜ Adjusts (now (directions .entry)) (now (q .entry)) (now (a .entry)) (now (w .entry)) (lists (now (corrections .entry)) (now (printed .entry)) (now (adjusted .entry)) (now (correlates .entry)) (now (remainders .entry)) (now (misses .entry))) reply (lists (now (corrections .exit)) (now (printed .exit)) (now (adjusted .exit)) (now (correlates .exit)) (now (remainders .exit)) (now (misses .exit))) ⌝ }
+    ensures { λ reply. ⌜ Adjusts (now (directions .entry)) (now (q .entry)) (now (a .entry)) (now (w .entry))
+        (lists (now (corrections .entry)) (now (printed .entry)) (now (adjusted .entry)) (now (correlates .entry)) (now (remainders .entry)) (now (misses .entry)))
+        reply
+        (lists (now (corrections .exit)) (now (printed .exit)) (now (adjusted .exit)) (now (correlates .exit)) (now (remainders .exit)) (now (misses .exit))) ⌝ }
 {
     let m = directions.len();
     let n = w.len();

@@ -3,7 +3,7 @@ ghost use mathlib.Core.Path.{_≡_};
 ghost use mathlib.Core.Bool.{true, false, _&&_};
 ghost use Prim.Native.Nat.{ℕ, _+_, _*_, _≤_, _<_};
 ghost use lib.ListN.{length, getD};
-ghost use lib.IntN.{ℤ, pos, negℤ, natAbs, _+ℤ_, _*ℤ_};
+ghost use lib.IntN.{pos, negℤ, natAbs, _+ℤ_, _*ℤ_};
 ghost use lib.Signed.{_<ℤ_};
 ghost use lib.Dec.{ltb, leb};
 ghost use Rattle.exact.specs.Sum.{sum};
@@ -46,7 +46,8 @@ fn normal(q: &[i64], a: &[i64], at: usize, to: usize) -> i64
     requires { ⌜ (at + length (now q) ≤ length (now a)) × (to + length (now q) ≤ length (now a)) ⌝ }
     requires { ⌜ Small 10 (now q) (length (now q)) ⌝ }
     requires { ⌜ Within 2000 (now a) at (length (now q)) × Within 2000 (now a) to (length (now q)) ⌝ }
-    ensures { λ r. ⌜ r ≡ sum (length (now (q .entry))) (λ i. getD (now (q .entry)) i (pos 0) *ℤ getD (now (a .entry)) (at + i) (pos 0) *ℤ getD (now (a .entry)) (to + i) (pos 0)) ⌝ }
+    ensures { λ r. ⌜ r ≡ sum (length (now (q .entry)))
+        (λ i. getD (now (q .entry)) i (pos 0) *ℤ getD (now (a .entry)) (at + i) (pos 0) *ℤ getD (now (a .entry)) (to + i) (pos 0)) ⌝ }
 {
     let mut s = 0;
     let mut i = 0;
@@ -192,8 +193,10 @@ fn finished(row: Row, j: usize, n: usize) -> Tested
 // All rows in their order, up to the first weak one.
 pub fn reduce(q: &[i64], a: &[i64], w: &[i64]) -> Reduction
     requires { ⌜ Sound (now q) (now a) (now w) ⌝ }
-    ensures { λ r. ⌜ r .sound ≡ first (length (now (w .entry))) (weak (tableOf (now (q .entry)) (now (a .entry)) (now (w .entry)))) ⌝ }
-    ensures { λ r. ⌜ ((h : ℕ) → h < r .sound → IsRow (tableOf (now (q .entry)) (now (a .entry)) (now (w .entry))) h (getD (r .rows) h noRow)) ⌝ }
+    ensures { λ r. ⌜ r .sound ≡ first (length (now (w .entry)))
+        (weak (tableOf (now (q .entry)) (now (a .entry)) (now (w .entry)))) ⌝ }
+    ensures { λ r. ⌜ ((h : ℕ) → h < r .sound →
+        IsRow (tableOf (now (q .entry)) (now (a .entry)) (now (w .entry))) h (getD (r .rows) h noRow)) ⌝ }
 {
     let n = w.len();
     let none = Row {

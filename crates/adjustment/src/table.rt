@@ -1,7 +1,6 @@
 // The input checks of a lent condition table, in their order: 2 for counts and lengths, 3 by direction, 4 and 5 by condition.
 ghost use mathlib.Core.Path.{_≡_};
-ghost use mathlib.Core.Bool.{_||_};
-ghost use Prim.Native.Nat.{ℕ, _+_, _*_, _≤_};
+ghost use Prim.Native.Nat.{_+_, _*_, _≤_};
 ghost use lib.ListN.{length, getD};
 ghost use lib.IntN.{pos, natAbs};
 ghost use lib.Dec.{ltb};
