@@ -15,6 +15,7 @@ use lib.IntN.{ℤ, pos, negℤ, natAbs}
 use lib.ListN.{length, getD, List·getD-eq-default}
 use lib.Signed.{_≤ℤ_}
 use Rattle.exact.specs.Outside.{outside}
+use Rattle.exact.specs.Within.{Within}
 use Rattle.exact.proofs.Linear.{unknowns, linear, orders, one-sided, abs-by}
 use Rattle.exact.proofs.Order.{lt-false}
 use Rattle.reply.specs.declared.Refusal.the-variants.{Malformed, Count, OutOfRange}
@@ -29,7 +30,7 @@ use Rattle.condition.specs.declared.term.Letter.the-variants.{P, F, L, R
 use Rattle.condition.specs.declared.term.Term.{Term}
 use Rattle.condition.specs.Terms.{suits, astray, sideFault, faultOf}
 use Rattle.condition.specs.Rules.{Lent, term, unequal, directionsMiscounted, termsMiscounted, countsFault, targetCheck, termCheck, termsCheck, checks}
-use Rattle.condition.specs.Sound.{Number, Ends, SideTerm, SoundOf, Sound, Within, Fields, AllSound}
+use Rattle.condition.specs.Sound.{Number, Ends, SideTerm, SoundOf, Sound, Fields, AllSound}
 
 -- ---- counts and lengths
 pub record Counts (l : Lent) : Type 0 where

@@ -12,6 +12,7 @@ use lib.ListN.{getD}
 use lib.Signed.{_≤ℤ_, _<ℤ_}
 use Rattle.exact.specs.Sum.{sum}
 use Rattle.exact.specs.Circle.{C}
+use Rattle.exact.specs.Within.{Within}
 use Rattle.exact.proofs.Bound.{abs-neg}
 use Rattle.exact.proofs.Circles.{modulo-low, modulo-high, modulo-size}
 use Rattle.exact.proofs.Sum.{sum-abs}
@@ -19,7 +20,7 @@ use Rattle.condition.specs.declared.term.Letter.{Letter}
 use Rattle.condition.specs.declared.term.Letter.the-variants.{P, F, L, R, Unknown}
 use Rattle.condition.specs.declared.term.Term.{Term}
 use Rattle.condition.specs.Terms.{directionAt, angle, partOf, part}
-use Rattle.condition.specs.Sound.{SoundOf, Sound, Within, AllSound}
+use Rattle.condition.specs.Sound.{SoundOf, Sound, AllSound}
 
 module _ (directions : List ℤ) where
   pub direction-next : (n : ℕ) → (n ≡ 0 → ⊥) → directionAt directions n ≡ getD directions (n - 1) (pos 0)

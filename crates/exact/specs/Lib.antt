@@ -5,3 +5,4 @@ pub mod First
 pub mod Tabulate
 pub mod Outside
 pub mod Same
+pub mod Within

@@ -13,10 +13,10 @@ use lib.Signed.{mag, _≤ℤ_, _<ℤ_}
 use mir.Syntax.{w64}
 use mir.Val.{toZ, ofZ}
 use Rattle.exact.specs.Circle.{C, modulo}
+use Rattle.exact.specs.Within.{Within}
 use Rattle.exact.proofs.Bound.{read-at}
 use Rattle.exact.proofs.Circles.{modulo-low, modulo-high, modulo-size}
 use Rattle.exact.proofs.Linear.{unknowns, linear, orders, one-sided, lt-by, abs-by, lt-of}
-use Rattle.station.specs.Bounds.{Within}
 use Rattle.station.specs.Table.{slot, entry}
 use Rattle.station.specs.Means.{centred, s, g, e}
 

@@ -5,7 +5,8 @@ use mathlib.Core.List.{List}
 use borrow.Author.Needs.{needs}
 use lib.IntN.{ℤ}
 use lib.ListN.{length}
-use Rattle.station.specs.Bounds.{InRange, Within}
+use Rattle.exact.specs.Within.{Within}
+use Rattle.station.specs.Bounds.{InRange}
 use Rattle.station.specs.Sightings.{Book, book}
 use Rattle.station.specs.Means.{directions, pairCounts}
 use Rattle.station.specs.Replies.{tableReply, replyOf}
