@@ -14,25 +14,23 @@ use lib.Dec.{eqb}
 use lib.IntN.{ℤ, pos, negℤ, natAbs}
 use lib.ListN.{length, getD, List·getD-eq-default}
 use lib.Signed.{_≤ℤ_}
+use Rattle.exact.specs.Outside.{outside}
+use Rattle.exact.specs.Within.{Within}
 use Rattle.exact.proofs.Linear.{unknowns, linear, orders, one-sided, abs-by}
 use Rattle.exact.proofs.Order.{lt-false}
 use Rattle.reply.specs.declared.Refusal.the-variants.{Malformed, Count, OutOfRange}
 use Rattle.reply.specs.declared.Reply.the-variants.{Accepted}
 use Rattle.reply.specs.Checks.{refuseIf}
+use Rattle.reply.proofs.Checking.{neither, both-accepted, if-accepted, none-refused, turn-each}
+use Rattle.direction.specs.Ranges.{outOfRange, faultAt, directionsReply}
 use Rattle.condition.specs.declared.Kind.{Kind}
 use Rattle.condition.specs.declared.Kind.the-variants.{Angle, Side}
 use Rattle.condition.specs.declared.term.Letter.{Letter}
 use Rattle.condition.specs.declared.term.Letter.the-variants.{P, F, L, R, Unknown}
 use Rattle.condition.specs.declared.term.Term.{Term}
-use Rattle.exact.specs.Outside.{outside}
 use Rattle.condition.specs.Terms.{suits, astray, sideFault, faultOf}
-use Rattle.direction.specs.Ranges.{outOfRange}
-use Rattle.direction.specs.Ranges.{faultAt}
-use Rattle.condition.specs.Rules.{Lent, term, unequal, directionsMiscounted, termsMiscounted, countsFault}
-use Rattle.direction.specs.Ranges.{directionsReply}
-use Rattle.condition.specs.Rules.{targetCheck, termCheck, termsCheck, checks}
-use Rattle.condition.specs.Sound.{Number, Ends, SideTerm, SoundOf, Sound, Within, Fields, AllSound}
-use Rattle.reply.proofs.Checking.{neither, both-accepted, if-accepted, none-refused, turn-each}
+use Rattle.condition.specs.Rules.{Lent, term, unequal, directionsMiscounted, termsMiscounted, countsFault, targetCheck, termCheck, termsCheck, checks}
+use Rattle.condition.specs.Sound.{Number, Ends, SideTerm, SoundOf, Sound, Fields, AllSound}
 
 -- ---- counts and lengths
 pub record Counts (l : Lent) : Type 0 where

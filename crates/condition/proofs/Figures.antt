@@ -7,17 +7,17 @@ use mathlib.Core.List.{List, [], _∷_}
 use lib.IntN.{ℤ, pos, negℤ}
 use Rattle.exact.specs.Circle.{floor, modulo}
 use Rattle.exact.specs.First.{first}
+use Rattle.exact.specs.Same.{same}
 use Rattle.exact.specs.Sum.{sum}
 use Rattle.exact.specs.Tabulate.{tabulate}
 use Rattle.reply.specs.declared.Refusal.the-variants.{OutOfRange}
 use Rattle.reply.specs.declared.Reply.the-variants.{Refused}
 use Rattle.reply.specs.declared.Figure.the-variants.{Value, Refused as NoFigure}
+use Rattle.reply.specs.Checks.{inTurn}
+use Rattle.direction.specs.Ranges.{directionsReply}
 use Rattle.condition.specs.declared.Kind.the-variants.{Angle, Side}
 use Rattle.condition.specs.Terms.{letterOf, share, angle, part}
-use Rattle.direction.specs.Ranges.{directionsReply}
-use Rattle.reply.specs.Checks.{inTurn}
-use Rattle.condition.specs.Rules.{Lent, lent, directionsMiscounted, termsMiscounted, termsCheck, checks}
-use Rattle.condition.specs.Rules.{coefficient, coefficientsReply, coefficientsList, misclosure, misclosureFigure}
+use Rattle.condition.specs.Rules.{Lent, lent, directionsMiscounted, termsMiscounted, termsCheck, checks, coefficient, coefficientsReply, coefficientsList, misclosure, misclosureFigure}
 
 abbrev directions : List ℤ
 directions = pos 216000000 ∷ pos 216003000 ∷ pos 215997000 ∷ []
@@ -40,37 +40,37 @@ side =
     (pos 105 ∷ negℤ (pos 212) ∷ pos 0 ∷ []) (pos 0 ∷ pos 1 ∷ pos 0 ∷ []) (pos 1 ∷ pos 2 ∷ pos 0 ∷ [])
 
 pub first-coefficients : coefficientsList (triangle (pos 1) (pos 2)) zeros ≡ pos 100 ∷ pos 100 ∷ pos 0 ∷ []
-unfolding directionsMiscounted termsMiscounted directionsReply inTurn termsCheck checks coefficient coefficientsReply coefficientsList letterOf share first sum tabulate
+unfolding directionsMiscounted termsMiscounted directionsReply inTurn termsCheck checks coefficient coefficientsReply coefficientsList same letterOf share first sum tabulate
 first-coefficients = refl
 
 pub first-misclosure : misclosureFigure (triangle (pos 1) (pos 2)) ≡ Value (pos 3000)
-unfolding directionsMiscounted termsMiscounted directionsReply inTurn termsCheck checks misclosure misclosureFigure letterOf part angle first sum floor modulo
+unfolding directionsMiscounted termsMiscounted directionsReply inTurn termsCheck checks misclosure misclosureFigure same letterOf part angle first sum floor modulo
 first-misclosure = refl
 
 pub second-coefficients : coefficientsList (triangle (pos 2) (pos 3)) zeros ≡ pos 0 ∷ pos 100 ∷ pos 100 ∷ []
-unfolding directionsMiscounted termsMiscounted directionsReply inTurn termsCheck checks coefficient coefficientsReply coefficientsList letterOf share first sum tabulate
+unfolding directionsMiscounted termsMiscounted directionsReply inTurn termsCheck checks coefficient coefficientsReply coefficientsList same letterOf share first sum tabulate
 second-coefficients = refl
 
 pub second-misclosure : misclosureFigure (triangle (pos 2) (pos 3)) ≡ Value (pos 0)
-unfolding directionsMiscounted termsMiscounted directionsReply inTurn termsCheck checks misclosure misclosureFigure letterOf part angle first sum floor modulo
+unfolding directionsMiscounted termsMiscounted directionsReply inTurn termsCheck checks misclosure misclosureFigure same letterOf part angle first sum floor modulo
 second-misclosure = refl
 
 pub side-coefficients : coefficientsList side zeros ≡ negℤ (pos 107) ∷ pos 212 ∷ pos 0 ∷ []
-unfolding directionsMiscounted termsMiscounted directionsReply inTurn termsCheck checks coefficient coefficientsReply coefficientsList letterOf share first sum tabulate
+unfolding directionsMiscounted termsMiscounted directionsReply inTurn termsCheck checks coefficient coefficientsReply coefficientsList same letterOf share first sum tabulate
 side-coefficients = refl
 
 pub side-misclosure : misclosureFigure side ≡ Value (pos 100000)
-unfolding directionsMiscounted termsMiscounted directionsReply inTurn termsCheck checks misclosure misclosureFigure letterOf part angle first sum floor modulo
+unfolding directionsMiscounted termsMiscounted directionsReply inTurn termsCheck checks misclosure misclosureFigure same letterOf part angle first sum floor modulo
 side-misclosure = refl
 
 pub refused-reply : coefficientsReply (triangle (pos 1) (pos 4)) 3 ≡ Refused (OutOfRange 2)
-unfolding directionsMiscounted termsMiscounted directionsReply inTurn termsCheck checks coefficient coefficientsReply letterOf share first sum
+unfolding directionsMiscounted termsMiscounted directionsReply inTurn termsCheck checks coefficient coefficientsReply same letterOf share first sum
 refused-reply = refl
 
 pub refused-list : coefficientsList (triangle (pos 1) (pos 4)) ones ≡ ones
-unfolding directionsMiscounted termsMiscounted directionsReply inTurn termsCheck checks coefficient coefficientsReply coefficientsList letterOf share first sum tabulate
+unfolding directionsMiscounted termsMiscounted directionsReply inTurn termsCheck checks coefficient coefficientsReply coefficientsList same letterOf share first sum tabulate
 refused-list = refl
 
 pub refused-figure : misclosureFigure (triangle (pos 1) (pos 4)) ≡ NoFigure (OutOfRange 2)
-unfolding directionsMiscounted termsMiscounted directionsReply inTurn termsCheck checks misclosure misclosureFigure letterOf part angle first sum floor modulo
+unfolding directionsMiscounted termsMiscounted directionsReply inTurn termsCheck checks misclosure misclosureFigure same letterOf part angle first sum floor modulo
 refused-figure = refl

@@ -4,23 +4,23 @@
 --   angle-low, angle-high           an angle lies from 0 to C - 1
 --   part-size, total-size           what a term adds, and what n terms add
 use mathlib.Core.Path.{_≡_, refl, ap}
-use mathlib.Core.List.{List, [], _∷_}
+use mathlib.Core.List.{List}
 use Prim.Native.Nat.{ℕ, zero, suc, _-_, _≤_}
 use native.Mathlib.Omega.{arith}
 use lib.IntN.{ℤ, pos, natAbs, _-ℤ_}
 use lib.ListN.{getD}
 use lib.Signed.{_≤ℤ_, _<ℤ_}
 use Rattle.exact.specs.Sum.{sum}
-use Rattle.exact.proofs.Linear.{unknowns, orders, one-sided}
+use Rattle.exact.specs.Circle.{C}
+use Rattle.exact.specs.Within.{Within}
 use Rattle.exact.proofs.Bound.{abs-neg}
-use Rattle.exact.proofs.Circles.{modulo-low, modulo-high}
+use Rattle.exact.proofs.Circles.{modulo-low, modulo-high, modulo-size}
 use Rattle.exact.proofs.Sum.{sum-abs}
 use Rattle.condition.specs.declared.term.Letter.{Letter}
 use Rattle.condition.specs.declared.term.Letter.the-variants.{P, F, L, R, Unknown}
 use Rattle.condition.specs.declared.term.Term.{Term}
-use Rattle.exact.specs.Circle.{C}
 use Rattle.condition.specs.Terms.{directionAt, angle, partOf, part}
-use Rattle.condition.specs.Sound.{SoundOf, Sound, Within, AllSound}
+use Rattle.condition.specs.Sound.{SoundOf, Sound, AllSound}
 
 module _ (directions : List ℤ) where
   pub direction-next : (n : ℕ) → (n ≡ 0 → ⊥) → directionAt directions n ≡ getD directions (n - 1) (pos 0)
@@ -45,10 +45,8 @@ module _ (directions : List ℤ) where
     angle-high = modulo-high (directionAt directions (natAbs (t .k)) -ℤ directionAt directions (natAbs (t .i))) C above-zero
 
     pub angle-size : natAbs (angle directions t) ≤ 1296000000
-    angle-size = within (angle directions t) angle-low angle-high
-      where
-        within : (z : ℤ) → pos 0 ≤ℤ z → z <ℤ C → natAbs z ≤ 1296000000
-        within z l h = let v = unknowns (z ∷ []) in omega (arith, orders, one-sided)
+    unfolding angle
+    angle-size = modulo-size (directionAt directions (natAbs (t .k)) -ℤ directionAt directions (natAbs (t .i))) C above-zero
 
     -- ---- what it adds to w
     of-kind : (letter : Letter) (m : ℕ) → SoundOf letter m t → natAbs (partOf letter directions t) ≤ 1296000000

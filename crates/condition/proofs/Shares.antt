@@ -5,19 +5,19 @@
 --   share-sum                           over all directions, number 0 counted in, a term adds nothing
 --   coefficients-sum                    and so do the coefficients of a whole condition
 --   sound-among                         a term that is sound among m directions is sound among more
-use mathlib.Core.Path.{_≡_, refl, sym, _∙_, ap, subst}
+use mathlib.Core.Path.{_≡_, refl, sym, _∙_, subst}
 use mathlib.Core.Bool.{Bool, true, false, cond}
 use mathlib.Core.List.{List}
 use Prim.Native.Nat.{ℕ, zero, suc, _<_, _≤_}
 use native.Mathlib.Omega.{arith}
-use borrow.Author.Tests.{ne-eqb, eqb-true, eqb-false}
+use borrow.Author.Tests.{eq-eqb, ne-eqb, eqb-true, eqb-false}
 use lib.Dec.{eqb}
-use lib.IntN.{ℤ, pos, negℤ, natAbs, _+ℤ_, +ℤ-idl, +ℤ-idr, +ℤ-invl}
+use lib.IntN.{ℤ, pos, negℤ, natAbs, _+ℤ_, +ℤ-idr, +ℤ-invl}
 use lib.ListN.{length, getD, set, replicate}
 use lib.Seq.{getD-set-same, getD-set-other}
 use Rattle.exact.specs.Sum.{sum}
 use Rattle.exact.proofs.Bound.{abs-add, abs-neg}
-use Rattle.exact.proofs.Sum.{sum-next, sum-ext, sum-add, sum-zero, sum-swap, sum-abs}
+use Rattle.exact.proofs.Sum.{sum-ext, sum-add, sum-zero, sum-only, sum-swap, sum-abs}
 use Rattle.reply.specs.declared.Reply.the-variants.{Accepted}
 use Rattle.condition.specs.declared.term.Letter.{Letter}
 use Rattle.condition.specs.declared.term.Letter.the-variants.{P, F, L, R, Unknown}
@@ -75,16 +75,10 @@ pub tally-size : (m n : ℕ) (term : ℕ → Term) → n ≤ 12 → AllSound m n
 tally-size m n term few s h = omega (arith, sum-abs n 4000 (λ j. share (term j) h) (λ j l. share-size (term j) m (s j l) h))
 
 -- ---- sums over the direction numbers 0 to m
-only-none : (h : ℕ) (x : ℤ) (n : ℕ) → n ≤ h → sum n (only h x) ≡ pos 0
-only-none h x n l = sum-ext n (only h x) (λ i. pos 0) (λ i k. ap (λ (b : Bool). cond b x (pos 0)) (ne-eqb h i (λ e. omega arith))) ∙ sum-zero n
-
 pub only-sum : (h : ℕ) (x : ℤ) (n : ℕ) → h < n → sum n (only h x) ≡ x
-only-sum h x zero l = absurd (omega arith)
-only-sum h x (suc n) l = sum-next n (only h x) ∙ by-test (eqb h n) refl (only-sum h x n)
-  where
-    by-test : (b : Bool) → eqb h n ≡ b → (h < n → sum n (only h x) ≡ x) → sum n (only h x) +ℤ cond b x (pos 0) ≡ x
-    by-test true e rec = ap (λ (s : ℤ). s +ℤ x) (only-none h x n (omega (arith, eqb-true h n e))) ∙ +ℤ-idl x
-    by-test false e rec = let f = eqb-false h n e in +ℤ-idr (sum n (only h x)) ∙ rec (omega arith)
+only-sum h x n l =
+    sum-only n h (only h x) l (λ i k e t. cond (ne-eqb h i (λ d. e (sym d)) t) x (pos 0))
+    ∙ (λ t. cond (eq-eqb h h refl t) x (pos 0))
 
 module _ (m : ℕ) (t : Term) where
   pub turned-sum : (x : ℤ) → Ends m t → sum (suc m) (turned x t) ≡ pos 0

@@ -3,7 +3,7 @@ use mathlib.Core.Path.{_≡_}
 use mathlib.Core.List.{List}
 use Prim.Native.Nat.{ℕ, _<_, _≤_}
 use lib.IntN.{ℤ, pos, natAbs}
-use lib.ListN.{length, getD}
+use lib.ListN.{length}
 use lib.Signed.{_≤ℤ_}
 use Rattle.condition.specs.declared.term.Letter.{Letter}
 use Rattle.condition.specs.declared.term.Letter.the-variants.{P, F, L, R, Unknown}
@@ -33,10 +33,6 @@ SoundOf Unknown m t = Unit {0}
 -- a term that the checks accept among m directions
 abbrev pub Sound : ℕ → Term → Type 0
 Sound m t = SoundOf (t .letter) m t
-
--- every number of a list lies within b
-abbrev pub Within : ℕ → List ℤ → Type 0
-Within b xs = (h : ℕ) → natAbs (getD xs h (pos 0)) ≤ b
 
 -- field lists of one length, for 12 terms at most
 pub record Fields (kinds values d i k : List ℤ) : Type 0 where

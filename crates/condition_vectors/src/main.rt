@@ -1,9 +1,7 @@
 // Runs both operations on conditions at the ends of every range, and prints what they answer: first the coefficients' reply and the lent list
 // as it is left (it held 7 everywhere), then the misclosure. What it must print was worked out apart from it.
 use condition::Kind;
-use libc::STDOUT_FILENO;
 use reply::Figure;
-use reply::Refusal;
 use reply::Reply;
 ghost use Prim.Native.Nat.{_≤_};
 
@@ -19,38 +17,15 @@ const L: i64 = 76;
 
 const R: i64 = 82;
 
-fn print(v: i64) {
-    io::write_all(STDOUT_FILENO, b" ");
-    if v < 0 {
-        io::write_all(STDOUT_FILENO, b"-");
-    }
-    io::print_decimal(STDOUT_FILENO, exact::magnitude(v));
-}
-
-fn print_list(a: &[i64]) {
-    let mut h: usize = 0;
-    while h < a.len() {
-        print(a[h]);
-        h += 1;
-    }
-}
-
 fn print_kind(kind: Kind) {
     match kind {
         Kind::Angle => {
-            io::write_all(STDOUT_FILENO, b" A");
+            vectors::text(b" A");
         }
         Kind::Side => {
-            io::write_all(STDOUT_FILENO, b" S");
+            vectors::text(b" S");
         }
     }
-}
-
-fn print_refusal(why: Refusal) {
-    io::write_all(STDOUT_FILENO, b" refused ");
-    io::print_decimal(STDOUT_FILENO, reply::number(why));
-    io::write_all(STDOUT_FILENO, b" ");
-    io::print_decimal(STDOUT_FILENO, reply::place(why));
 }
 
 // The rest of a line: what the two operations answer, and what the first leaves in a.
@@ -66,23 +41,23 @@ fn show(
     k: &[i64],
     a: &mut [i64],
 ) {
-    io::write_all(STDOUT_FILENO, b":");
+    vectors::text(b":");
     let answer = condition::coefficients(directions, q, kind, target, kinds, values, d, i, k, a);
     match answer {
         Reply::Accepted => {
-            io::write_all(STDOUT_FILENO, b" accepted");
+            vectors::text(b" accepted");
         }
-        Reply::Refused(why) => print_refusal(why),
+        Reply::Refused(why) => vectors::refusal(why),
     }
-    io::write_all(STDOUT_FILENO, b":");
-    print_list(a);
-    io::write_all(STDOUT_FILENO, b"; w");
+    vectors::text(b":");
+    vectors::list(a);
+    vectors::text(b"; w");
     let w = condition::misclosure(directions, q, kind, target, kinds, values, d, i, k);
     match w {
-        Figure::Value(v) => print(v),
-        Figure::Refused(why) => print_refusal(why),
+        Figure::Value(v) => vectors::signed(v),
+        Figure::Refused(why) => vectors::refusal(why),
     }
-    io::write_all(STDOUT_FILENO, b"\n");
+    vectors::text(b"\n");
 }
 
 // Lists of these lengths, of fixed angles of 0: every number is in range.
@@ -90,8 +65,8 @@ fn counts(m: usize, q: usize, n: usize, values: usize, d: usize, i: usize, k: us
     requires { ⌜ (m ≤ 66) × ((q ≤ 66) × (room ≤ 66)) ⌝ }
     requires { ⌜ (n ≤ 14) × ((values ≤ 14) × ((d ≤ 14) × ((i ≤ 14) × (k ≤ 14)))) ⌝ }
 {
-    io::write_all(STDOUT_FILENO, b"counts");
-    print_list(
+    vectors::text(b"counts");
+    vectors::list(
         &[
             m as i64,
             q as i64,
@@ -127,9 +102,9 @@ fn counts(m: usize, q: usize, n: usize, values: usize, d: usize, i: usize, k: us
 
 // The angle P 0 2 among 64 directions, of which the first and the last are given with their q.
 fn directions(first: i64, first_q: i64, last: i64, last_q: i64) {
-    io::write_all(STDOUT_FILENO, b"directions");
+    vectors::text(b"directions");
     let given = [first, first_q, last, last_q];
-    print_list(&given);
+    vectors::list(&given);
     let mut directions = [5i64; 64];
     let mut q = [1i64; 64];
     directions[0] = first;
@@ -153,10 +128,10 @@ fn directions(first: i64, first_q: i64, last: i64, last_q: i64) {
 
 // A condition of one term among the three directions of the rules' figure 3.
 fn one(kind: Kind, target: i64, code: i64, value: i64, d: i64, i: i64, k: i64) {
-    io::write_all(STDOUT_FILENO, b"one");
+    vectors::text(b"one");
     print_kind(kind);
     let given = [target, code, value, d, i, k];
-    print_list(&given);
+    vectors::list(&given);
     let directions = [216_000_000, 216_003_000, 215_997_000];
     let q = [1, 10, 5];
     let mut a = [7i64; 3];
@@ -176,12 +151,12 @@ fn one(kind: Kind, target: i64, code: i64, value: i64, d: i64, i: i64, k: i64) {
 
 // A condition of three terms among the same directions, each by its kind, value, d, i and k.
 fn three(kind: Kind, target: i64, first: [i64; 5], second: [i64; 5], third: [i64; 5]) {
-    io::write_all(STDOUT_FILENO, b"three");
+    vectors::text(b"three");
     print_kind(kind);
-    print(target);
-    print_list(&first);
-    print_list(&second);
-    print_list(&third);
+    vectors::signed(target);
+    vectors::list(&first);
+    vectors::list(&second);
+    vectors::list(&third);
     let directions = [216_000_000, 216_003_000, 215_997_000];
     let q = [1, 10, 5];
     let kinds = [first[0], second[0], third[0]];
@@ -260,10 +235,10 @@ fn field(first: i64, last: i64, between: i64) -> [i64; 12] {
 
 // 12 terms, the first and the last as given, by kind, value, d, i and k; between them fixed angles of 0, or fixed lengths.
 fn ends(kind: Kind, first: [i64; 5], last: [i64; 5]) {
-    io::write_all(STDOUT_FILENO, b"ends");
+    vectors::text(b"ends");
     print_kind(kind);
-    print_list(&first);
-    print_list(&last);
+    vectors::list(&first);
+    vectors::list(&last);
     let between = match kind {
         Kind::Angle => F,
         Kind::Side => L,
@@ -278,10 +253,10 @@ fn ends(kind: Kind, first: [i64; 5], last: [i64; 5]) {
 
 // 12 terms of one kind, from the initial to the directions 1 to 12.
 fn full(kind: Kind, target: i64, code: i64, value: i64, d: i64) {
-    io::write_all(STDOUT_FILENO, b"full");
+    vectors::text(b"full");
     print_kind(kind);
     let given = [target, code, value, d];
-    print_list(&given);
+    vectors::list(&given);
     let k = [1, 2, 3, 4, 5, 6, 7, 8, 9, 10, 11, 12];
     twelve(
         kind,

@@ -4,7 +4,7 @@
 --   Bounded, bounded, bounded-by    z with a bound of its size; of a number that equals an expression
 --   bounds                          the set for `search`
 --   fits-in, abs-in                 `fits-in (search bounds) tt`: the expression fits an i64; `abs-in`: it is within a numeral
---   fits-within                     a number within a numeral fits: `fits-within z h tt`; fits-of-mag from a call's `.ok`
+--   fits-within                     a number within a numeral fits: `fits-within z h tt`; fits-of-mag from a call's `.ok`; numeral-fits: a numeral
 --   read, read-at, read-within, bits-equal   what the machine reads back of a number that fits is the number; equal bits are equal numbers
 use mathlib.Core.Path.{_≡_, refl, sym, _∙_, ap}
 use mathlib.Core.List.{[], _∷_}
@@ -117,3 +117,6 @@ abs-in {z} {m} s t = omega (arith, leb→le (s .bound) m t)
 
 pub fits-within : (z : ℤ) {m : ℕ} → natAbs z ≤ m → T (ltb m (2 ^ 63)) → SFits w64 z
 fits-within z {m} h t = abs-fits (omega (arith, ltb→lt m (2 ^ 63) t))
+
+pub numeral-fits : (n : ℕ) → T (ltb n (2 ^ 63)) → SFits w64 (pos n)
+numeral-fits n t = fits-in (bounded-pos n) t

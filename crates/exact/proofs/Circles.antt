@@ -1,14 +1,14 @@
 -- The laws of `floor` and `modulo`, for a divisor above 0. Assumes nothing.
 --   floor-only                     the one k with z = d * k + r and r from 0 to d - 1 is floor (z / d)
 --   floor-low, floor-high          d times the floor is not above z, and one more d is
---   modulo-low, modulo-high        what is left lies from 0 to m - 1
+--   modulo-low, modulo-high        what is left lies from 0 to m - 1; modulo-size: so its size is at most that of m
 --   modulo-only                    and is the only such number that differs from z by whole m
 --   floor-kept, floor-down, modulo-kept, modulo-up
 --                                  by the remainder of the machine's division: for the code of `floor` and `modulo`
 use mathlib.Core.Path.{_≡_, sym, _∙_, ap}
 use mathlib.Core.List.{[], _∷_}
 use mathlib.Core.Logic.{_⊎_, inl, inr}
-use Prim.Native.Nat.{_<_}
+use Prim.Native.Nat.{_<_, _≤_}
 use native.Mathlib.Nat.{div-add-mod, mod-lt}
 use native.Mathlib.Omega.{arith}
 use lib.Dec.{ltb→lt}
@@ -105,3 +105,9 @@ module _ (z d : ℤ) (h : pos 0 <ℤ d) where
 
   pub modulo-up : r <ℤ pos 0 → modulo z d ≡ r +ℤ d
   modulo-up k = modulo-only z d (q -ℤ pos 1) (r +ℤ d) h (one-down q r (quot-rem z d h)) (small r (rem-below z d h) .1) (less r k)
+
+pub modulo-size : (z m : ℤ) → pos 0 <ℤ m → natAbs (modulo z m) ≤ natAbs m
+modulo-size z m h = within (modulo z m) (modulo-low z m h) (modulo-high z m h)
+  where
+    within : (x : ℤ) → pos 0 ≤ℤ x → x <ℤ m → natAbs x ≤ natAbs m
+    within x a b = let v = unknowns (x ∷ m ∷ []) in omega (arith, orders, one-sided)

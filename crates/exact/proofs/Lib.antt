@@ -3,6 +3,7 @@ pub mod Linear
 pub mod Identity
 pub mod Order
 pub mod Bound
+pub mod Sameness
 pub mod Sum
 pub mod Division
 pub mod Rounding

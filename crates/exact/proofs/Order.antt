@@ -1,5 +1,5 @@
 -- The order of ℤ: laws that lib.Signed lacks. The linear ones have one proof, `omega` over differences. Assumes nothing.
---   le-trans, le-antisym, lt-le, le-of-eq       the order itself; lt-or-le: one of two numbers is the lesser
+--   le-trans, le-antisym, lt-le                 the order itself; lt-or-le: one of two numbers is the lesser
 --   add-le, sub-nonneg                          with sums
 --   mul-nonneg, mul-le-left, square-nonneg      with products
 --   mul-zero                                    a product is 0 only where a factor is
@@ -12,7 +12,7 @@ use Prim.Native.Nat.{zero, suc, _+_, _*_, _≤_, zero-le}
 use native.Mathlib.Omega.{arith}
 use native.Mathlib.Decide.{decLe}
 use lib.Dec.{T, le→leb}
-use lib.IntN.{ℤ, pos, negsuc, negℤ, natAbs, _+ℤ_, _-ℤ_, _*ℤ_}
+use lib.IntN.{ℤ, pos, negsuc, natAbs, _+ℤ_, _-ℤ_, _*ℤ_}
 use lib.Signed.{ltZ, leZ, _≤ℤ_, _<ℤ_, ltZ-yes, ltZ-no, leZ-yes}
 use Rattle.exact.proofs.Linear.{above, below, difference-neg, difference-pos, unknowns, linear, orders, eq-by, le-by, lt-by, le-of, eq-of}
 
@@ -27,12 +27,6 @@ lt-le {a} {b} h = let v = unknowns (a ∷ b ∷ []) in le-by (search linear) (se
 
 pub le-antisym : {a b : ℤ} → a ≤ℤ b → b ≤ℤ a → a ≡ b
 le-antisym {a} {b} h k = let v = unknowns (a ∷ b ∷ []) in eq-by (search linear) (search linear) (omega (arith, orders))
-
-pub le-of-eq : {a b : ℤ} → a ≡ b → a ≤ℤ b
-le-of-eq {a} {b} h = let v = unknowns (a ∷ b ∷ []) in le-by (search linear) (search linear) (omega (arith, orders))
-
-pub neg-le : {a b : ℤ} → a ≤ℤ b → negℤ b ≤ℤ negℤ a
-neg-le {a} {b} h = let v = unknowns (a ∷ b ∷ []) in le-by (search linear) (search linear) (omega (arith, orders))
 
 pub sub-nonneg : {a b : ℤ} → a ≤ℤ b → pos 0 ≤ℤ (b -ℤ a)
 sub-nonneg {a} {b} h = let v = unknowns (a ∷ b ∷ []) in le-by (search linear) (search linear) (omega (arith, orders))

@@ -2,17 +2,18 @@
 --   first-at            it is the number that passes the test after all before it have failed
 --   first-none          n where all fail; some-at, some-none the same of `some-below`
 --   first-before        whatever lies before it fails; all-failed: where none passes, all fail
+--   first-least         no number that passes the test is below it
 --   first-ext           of tests that agree below n
 --   from-failed, from-test, from-ext, from-none      a search that begins at j: whatever lies before j fails, from j on the test decides
 --   Failed, failed-none, failed-more       the loop's invariant: all below i fail
-use mathlib.Core.Path.{_≡_, refl, sym, _∙_, ap}
+use mathlib.Core.Path.{_≡_, refl, sym, _∙_, ap, subst}
 use mathlib.Core.Bool.{Bool, true, false, cond, _&&_}
 use Prim.Native.Nat.{ℕ, zero, suc, _+_, _<_, _≤_}
 use native.Mathlib.Omega.{arith}
-use native.Mathlib.Decide.{decLe}
+use native.Mathlib.Decide.{decLe, decLt}
 use borrow.Author.Tests.{lt-ltb, le-ltb, le-leb, lt-leb, ltb-false}
 use borrow.Author.Count.{below-more}
-use lib.Dec.{leb}
+use lib.Dec.{T, leb}
 use Rattle.exact.specs.First.{first, some-below}
 
 -- all numbers below i fail the test
@@ -51,6 +52,13 @@ first-before (suc n) p h l = by-test (p 0) refl (first-before n (λ i. p (suc i)
     by-test true e r h l = absurd (omega arith)
     by-test false e r zero l = e
     by-test false e r (suc h) l = r h (omega arith)
+
+pub first-least : (n : ℕ) (p : ℕ → Bool) (i : ℕ) → p i ≡ true → first n p ≤ i
+first-least n p i e = by-order (decLt i (first n p))
+  where
+    by-order : Dec (i < first n p) → first n p ≤ i
+    by-order (yes l) = absurd (subst T (sym e ∙ first-before n p i l) tt)
+    by-order (no l) = omega arith
 
 -- where no number below n passes, all fail
 pub all-failed : (n : ℕ) (p : ℕ → Bool) → some-below n p ≡ false → Failed p n

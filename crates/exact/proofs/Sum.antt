@@ -2,7 +2,7 @@
 --   sum-none, sum-next, sum-more      no term; one more term, at `suc n` and at `n + 1`
 --   sum-ext                           equal terms, equal sums
 --   sum-add, sum-mul, sum-swap        a sum of sums; a factor taken out; two sums exchanged
---   sum-zero                          terms that are all 0
+--   sum-zero, sum-only                terms that are all 0; all but one
 --   sum-nonneg, sum-zeros             terms not below 0; where such terms add up to 0, each is 0
 --   sum-abs, sum-abs-sum              the size of a sum: each term within B; at most the sum of the sizes
 use mathlib.Core.Path.{_≡_, refl, sym, _∙_, ap, subst}
@@ -11,7 +11,7 @@ use Prim.Native.Nat.{ℕ, zero, suc, _+_, _*_, _<_, _≤_}
 use native.Mathlib.Numerals.{add-one}
 use native.Mathlib.Omega.{arith}
 use native.Mathlib.Decide.{decLt}
-use lib.IntN.{ℤ, pos, natAbs, _+ℤ_, _*ℤ_, *ℤ-zero}
+use lib.IntN.{ℤ, pos, natAbs, _+ℤ_, _*ℤ_, *ℤ-zero, +ℤ-idl, +ℤ-idr}
 use lib.Signed.{_≤ℤ_, ≤ℤ-refl}
 use Rattle.exact.specs.Sum.{sum}
 use Rattle.exact.proofs.Ring.{ring, *ℤ-dist-l}
@@ -107,3 +107,15 @@ module _ (f : ℕ → ℤ) where
   unfolding sum
   sum-abs-sum zero = ≤ℤ-refl (pos 0)
   sum-abs-sum (suc n) = one-more (sum n f) (f n) (sum n (λ i. pos (natAbs (f i)))) (sum-abs-sum n)
+
+-- all terms but that of m are 0
+pub sum-only : (n m : ℕ) (f : ℕ → ℤ) → m < n → ((i : ℕ) → i < n → (i ≡ m → ⊥) → f i ≡ pos 0) → sum n f ≡ f m
+sum-only zero m f l z = absurd (omega arith)
+sum-only (suc n) m f l z = by-order (decLt m n) (sum-only n m f)
+  where
+    by-order : Dec (m < n) → (m < n → ((i : ℕ) → i < n → (i ≡ m → ⊥) → f i ≡ pos 0) → sum n f ≡ f m) → sum (suc n) f ≡ f m
+    by-order (yes k) r = sum-next n f ∙ (λ t. r k (λ i q. z i (omega arith)) t +ℤ z n (omega arith) (λ e. omega arith) t) ∙ +ℤ-idr (f m)
+    by-order (no k) r =
+        sum-next n f
+        ∙ ap (λ (s : ℤ). s +ℤ f n) (sum-ext n f (λ i. pos 0) (λ i q. z i (omega arith) (λ e. omega arith)) ∙ sum-zero n)
+        ∙ +ℤ-idl (f n) ∙ ap f (omega arith)

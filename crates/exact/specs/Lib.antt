@@ -4,3 +4,5 @@ pub mod Circle
 pub mod First
 pub mod Tabulate
 pub mod Outside
+pub mod Same
+pub mod Within

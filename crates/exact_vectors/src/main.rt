@@ -1,53 +1,44 @@
 // Runs the steps of `exact` on chosen numbers and prints what they answer: halves of both signs, the largest numerators and divisors of the
 // rules, the ends of the 64-bit range, figure 7's -12.5. What it must print was worked out apart from it.
-use libc::STDOUT_FILENO;
 ghost use lib.IntN.{pos};
 ghost use lib.Signed.{_<ℤ_};
 
-fn print(v: i64) {
-    if v < 0 {
-        io::write_all(STDOUT_FILENO, b"-");
-    }
-    io::print_decimal(STDOUT_FILENO, exact::magnitude(v));
-}
-
 // A line: the two numbers, and what they gave.
 fn line(a: i64, b: i64, r: i64) {
-    print(a);
-    io::write_all(STDOUT_FILENO, b" ");
-    print(b);
-    io::write_all(STDOUT_FILENO, b" = ");
-    print(r);
-    io::write_all(STDOUT_FILENO, b"\n");
+    vectors::signed(a);
+    vectors::signed(b);
+    vectors::text(b" =");
+    vectors::signed(r);
+    vectors::text(b"\n");
 }
 
 fn nearest(n: i64, d: i64)
     requires { ⌜ pos 0 <ℤ d ⌝ }
 {
-    io::write_all(STDOUT_FILENO, b"nearest ");
+    vectors::text(b"nearest");
     line(n, d, exact::nearest(n, d));
 }
 
 fn floor(n: i64, d: i64)
     requires { ⌜ pos 0 <ℤ d ⌝ }
 {
-    io::write_all(STDOUT_FILENO, b"floor ");
+    vectors::text(b"floor");
     line(n, d, exact::floor(n, d));
 }
 
 fn modulo(z: i64, m: i64)
     requires { ⌜ pos 0 <ℤ m ⌝ }
 {
-    io::write_all(STDOUT_FILENO, b"modulo ");
+    vectors::text(b"modulo");
     line(z, m, exact::modulo(z, m));
 }
 
 fn magnitude(z: i64) {
-    io::write_all(STDOUT_FILENO, b"magnitude ");
-    print(z);
-    io::write_all(STDOUT_FILENO, b" = ");
-    io::print_decimal(STDOUT_FILENO, exact::magnitude(z));
-    io::write_all(STDOUT_FILENO, b"\n");
+    vectors::text(b"magnitude");
+    vectors::signed(z);
+    vectors::text(b" = ");
+    vectors::natural(exact::magnitude(z));
+    vectors::text(b"\n");
 }
 
 fn main() {

@@ -1,18 +1,15 @@
 -- What an accepted list has passed. Assumes nothing.
 --   Passed, passed               every check, at every position and object: no field out of range, no fault of 23 to 26
-use mathlib.Core.Path.{_≡_, refl, sym, _∙_, ap, subst}
-use mathlib.Core.Bool.{Bool, true, false, not}
+use mathlib.Core.Path.{_≡_, refl, sym, _∙_}
+use mathlib.Core.Bool.{Bool, false, not}
 use Prim.Native.Nat.{ℕ, _+_, _*_, _/_, _%_, _<_}
 use native.Mathlib.Omega.{arith}
 use borrow.Author.Tests.{not-false}
-use lib.Dec.{T, ltb}
 use Rattle.exact.specs.First.{first}
-use Rattle.exact.proofs.Searching.{Failed, all-failed, first-none}
-use Rattle.reply.specs.Checks.{refuseIf, refuseFirst, _andThen_}
-use Rattle.reply.specs.declared.Refusal.{Refusal}
+use Rattle.exact.proofs.Searching.{Failed, first-none}
 use Rattle.reply.specs.declared.Refusal.the-variants.{Sightings, Field}
-use Rattle.reply.specs.declared.Reply.{Reply}
-use Rattle.reply.specs.declared.Reply.the-variants.{Accepted, Refused}
+use Rattle.reply.specs.declared.Reply.the-variants.{Accepted}
+use Rattle.reply.proofs.Checking.{both-accepted, if-accepted, none-refused}
 use Rattle.station.specs.declared.checks.Check.the-variants.{PairsWhole, InitialSeen, FacesClose, PositionsAgree}
 use Rattle.station.specs.Bounds.{InRange}
 use Rattle.station.specs.Sightings.{Book, sightings, fieldFault}
@@ -20,24 +17,6 @@ use Rattle.station.specs.Table.{counts, readings}
 use Rattle.station.specs.Means.{facesFault, initialFault, apartFault, spreadFault}
 use Rattle.station.specs.Replies.{fault, refusal, checkOf, tableReply, lengthsReply, fieldsReply, replyOf}
 use Rattle.station.proofs.Deciding.{fit, in-range}
-
-abbrev accepts : Reply → Bool
-accepts Accepted = true
-accepts (Refused why) = false
-
-refused-not : {A : Type 0} {why : Refusal} → Refused why ≡ Accepted → A
-refused-not e = absurd (subst T (ap accepts (sym e)) tt)
-
-both-accept : (a b : Reply) → a andThen b ≡ Accepted → (a ≡ Accepted) × (b ≡ Accepted)
-both-accept Accepted b e = (refl, e)
-both-accept (Refused why) b e = refused-not e
-
-no-fault : (t : Bool) (why : Refusal) → refuseIf t why ≡ Accepted → t ≡ false
-no-fault true why e = refused-not e
-no-fault false why e = refl
-
-none-at-fault : (n : ℕ) (p : ℕ → Bool) (why : ℕ → Refusal) → refuseFirst n p why ≡ Accepted → Failed p n
-none-at-fault n p why e = all-failed n p (no-fault (ltb (first n p) n) (why (first n p)) e)
 
 pub record Passed (b : Book) : Type 0 where
   pub ranges : InRange b
@@ -60,16 +39,16 @@ pub passed : (b : Book) (d p : ℕ) → replyOf b d p ≡ Accepted → Passed b
 unfolding replyOf tableReply fault
 passed b d p e =
     let n = counts b in let r = readings b in
-    let a = both-accept (lengthsReply b d p) _ e in
-    let c = both-accept (fieldsReply b) _ (a .1) in
-    let f = both-accept (checkOf PairsWhole n r) _ (c .1) in
-    let g = both-accept (checkOf InitialSeen n r) _ (f .1) in
-    let h = both-accept (checkOf FacesClose n r) (checkOf PositionsAgree n r) (g .1) in
-    let sound = none-at-fault (sightings b) (fieldFault b) (λ k. Field (k + 1)) (c .0) in
+    let a = both-accepted (lengthsReply b d p) _ e in
+    let c = both-accepted (fieldsReply b) _ (a .1) in
+    let f = both-accepted (checkOf PairsWhole n r) _ (c .1) in
+    let g = both-accepted (checkOf InitialSeen n r) _ (f .1) in
+    let h = both-accepted (checkOf FacesClose n r) (checkOf PositionsAgree n r) (g .1) in
+    let sound = none-refused (sightings b) (fieldFault b) (λ k. Field (k + 1)) (c .0) in
     record {
-      ranges = in-range b d p (not-false (fit b d p) (no-fault (not (fit b d p)) Sightings (a .0))) (first (sightings b) (fieldFault b)) refl (omega (arith, first-none (sightings b) (fieldFault b) sound));
-      faces = at-place (facesFault n) (none-at-fault 256 (fault PairsWhole n r) (refusal PairsWhole) (f .0));
-      initials = at-place (initialFault n) (none-at-fault 256 (fault InitialSeen n r) (refusal InitialSeen) (g .0));
-      close = at-place (apartFault n r) (none-at-fault 256 (fault FacesClose n r) (refusal FacesClose) (h .0));
-      agree = λ i j li lj. at-place (λ x y. spreadFault n r y x) (none-at-fault 256 (fault PositionsAgree n r) (refusal PositionsAgree) (h .1)) j i lj li;
+      ranges = in-range b d p (not-false (fit b d p) (if-accepted (not (fit b d p)) Sightings (a .0))) (first (sightings b) (fieldFault b)) refl (omega (arith, first-none (sightings b) (fieldFault b) sound));
+      faces = at-place (facesFault n) (none-refused 256 (fault PairsWhole n r) (refusal PairsWhole) (f .0));
+      initials = at-place (initialFault n) (none-refused 256 (fault InitialSeen n r) (refusal InitialSeen) (g .0));
+      close = at-place (apartFault n r) (none-refused 256 (fault FacesClose n r) (refusal FacesClose) (h .0));
+      agree = λ i j li lj. at-place (λ x y. spreadFault n r y x) (none-refused 256 (fault PositionsAgree n r) (refusal PositionsAgree) (h .1)) j i lj li;
     }

@@ -11,7 +11,7 @@ use borrow.Author.Tests.{ltb-false}
 use lib.Dec.{T, ltb}
 use lib.IntN.{ℤ, pos, negℤ, natAbs, _+ℤ_, _-ℤ_, _*ℤ_}
 use lib.Signed.{ltZ, _≤ℤ_, _<ℤ_}
-use Rattle.exact.specs.Circle.{floor, modulo}
+use Rattle.exact.specs.Circle.{C, floor, modulo}
 use Rattle.exact.proofs.Circles.{floor-low, floor-high, modulo-only}
 use Rattle.exact.proofs.Identity.{letters, polynomials, ring-by}
 use Rattle.exact.proofs.Linear.{unknowns, linear, orders, one-sided, eq-by, le-by, lt-by, abs-by, le-of, lt-of}
@@ -21,7 +21,7 @@ use Rattle.reply.specs.declared.Reply.the-variants.{Accepted}
 use Rattle.station.specs.Sightings.{Book}
 use Rattle.station.specs.SumWhere.{sumWhere}
 use Rattle.station.specs.Table.{one, counts, readings}
-use Rattle.station.specs.Means.{C, centred, seen, g, base, e, spreadFault, P, sumOfE, t, direction}
+use Rattle.station.specs.Means.{centred, seen, g, base, e, spreadFault, P, sumOfE, t, direction}
 use Rattle.station.specs.Replies.{replyOf}
 use Rattle.station.proofs.Accepting.{passed}
 use Rattle.station.proofs.Figures.{twice-above}

@@ -9,14 +9,16 @@ use borrow.Author.Tests.{eq-eqb, eqb-true}
 use lib.Dec.{eqb}
 use lib.IntN.{ℤ, pos, natAbs, _+ℤ_, _*ℤ_}
 use Rattle.exact.specs.Sum.{sum}
+use Rattle.exact.specs.Same.{same}
 use Rattle.exact.proofs.Sum.{sum-none, sum-next, sum-ext, sum-add, sum-mul, sum-swap}
+use Rattle.exact.proofs.Sameness.{same-yes, same-true}
 use Rattle.reply.specs.declared.Reply.the-variants.{Accepted}
-use Rattle.station.specs.Sightings.{Book, sightings, positionAt, objectAt, faceAt, eqZ, isOf}
+use Rattle.station.specs.Sightings.{Book, sightings, positionAt, objectAt, faceAt, isOf}
 use Rattle.station.specs.Table.{one, entry, counts}
 use Rattle.station.specs.Means.{seen, P}
 use Rattle.station.specs.Replies.{replyOf}
 use Rattle.station.proofs.Accepting.{Passed, passed}
-use Rattle.station.proofs.Equality.{eqZ-yes, eqZ-true, same-tests}
+use Rattle.station.proofs.Tests.{same-tests}
 use Rattle.station.proofs.Pairing.{ownPosition, ownObject, once-each, counted, not-seen}
 use Rattle.station.proofs.Selecting.{chosen, where-at}
 use Rattle.station.proofs.Tallying.{InFields, in-fields}
@@ -28,8 +30,8 @@ sum-ones (suc n) = sum-next n one ∙ ap (λ (z : ℤ). z +ℤ pos 1) (sum-ones 
 
 -- ---- a sighting is of one face, one position and one object
 -- of the faces 0 and 1 it has one
-one-face : (f : ℕ) → f ≤ 1 → (x y : Bool) → cond (eqZ (pos f) (pos 0) && (x && y)) (pos 1) (pos 0) +ℤ cond (eqZ (pos f) (pos 1) && (x && y)) (pos 1) (pos 0) ≡ cond x (cond y (pos 1) (pos 0)) (pos 0)
-unfolding eqZ
+one-face : (f : ℕ) → f ≤ 1 → (x y : Bool) → cond (same (pos f) (pos 0) && (x && y)) (pos 1) (pos 0) +ℤ cond (same (pos f) (pos 1) && (x && y)) (pos 1) (pos 0) ≡ cond x (cond y (pos 1) (pos 0)) (pos 0)
+unfolding same
 one-face zero l true true = refl
 one-face zero l true false = refl
 one-face zero l false y = refl
@@ -43,22 +45,22 @@ abbrev adds : Book → ℕ → ℕ → ℕ → ℤ
 adds b h i j = chosen (isOf b 0 i j) one h +ℤ chosen (isOf b 1 i j) one h
 
 module _ (b : Book) (h : ℕ) (s : InFields b h) where
-  position-test : (i : ℕ) → eqZ (positionAt b h) (pos (i + 1)) ≡ eqb i (ownPosition b h)
+  position-test : (i : ℕ) → same (positionAt b h) (pos (i + 1)) ≡ eqb i (ownPosition b h)
   position-test i =
-      same-tests (eqZ (positionAt b h) (pos (i + 1))) (eqb i (ownPosition b h))
-      (λ e. let q = ap natAbs (eqZ-true (positionAt b h) (pos (i + 1)) e) in eq-eqb i (ownPosition b h) (omega arith))
-      (λ e. let q = eqb-true i (ownPosition b h) e in eqZ-yes (s .positions .0 ∙ ap pos (omega (arith, s .positions .1))))
+      same-tests (same (positionAt b h) (pos (i + 1))) (eqb i (ownPosition b h))
+      (λ e. let q = ap natAbs (same-true (positionAt b h) (pos (i + 1)) e) in eq-eqb i (ownPosition b h) (omega arith))
+      (λ e. let q = eqb-true i (ownPosition b h) e in same-yes (s .positions .0 ∙ ap pos (omega (arith, s .positions .1))))
 
-  object-test : (j : ℕ) → eqZ (objectAt b h) (pos (j + 1)) ≡ eqb j (ownObject b h)
+  object-test : (j : ℕ) → same (objectAt b h) (pos (j + 1)) ≡ eqb j (ownObject b h)
   object-test j =
-      same-tests (eqZ (objectAt b h) (pos (j + 1))) (eqb j (ownObject b h))
-      (λ e. let q = ap natAbs (eqZ-true (objectAt b h) (pos (j + 1)) e) in eq-eqb j (ownObject b h) (omega arith))
-      (λ e. let q = eqb-true j (ownObject b h) e in eqZ-yes (s .objects .0 ∙ ap pos (omega (arith, s .objects .1))))
+      same-tests (same (objectAt b h) (pos (j + 1))) (eqb j (ownObject b h))
+      (λ e. let q = ap natAbs (same-true (objectAt b h) (pos (j + 1)) e) in eq-eqb j (ownObject b h) (omega arith))
+      (λ e. let q = eqb-true j (ownObject b h) e in same-yes (s .objects .0 ∙ ap pos (omega (arith, s .objects .1))))
 
   adds-own : (i j : ℕ) → adds b h i j ≡ cond (eqb i (ownPosition b h)) (cond (eqb j (ownObject b h)) (pos 1) (pos 0)) (pos 0)
   unfolding isOf
   adds-own i j =
-      (λ t. cond (eqZ (s .faces .0 t) (pos 0) && (position-test i t && object-test j t)) (pos 1) (pos 0) +ℤ cond (eqZ (s .faces .0 t) (pos 1) && (position-test i t && object-test j t)) (pos 1) (pos 0))
+      (λ t. cond (same (s .faces .0 t) (pos 0) && (position-test i t && object-test j t)) (pos 1) (pos 0) +ℤ cond (same (s .faces .0 t) (pos 1) && (position-test i t && object-test j t)) (pos 1) (pos 0))
       ∙ one-face (natAbs (faceAt b h)) (s .faces .1 .1) (eqb i (ownPosition b h)) (eqb j (ownObject b h))
 
   adds-once : sum 16 (λ j. sum 16 (λ i. adds b h i j)) ≡ pos 1

@@ -1,5 +1,4 @@
--- The laws of a fixed order of checks, and of the station's. Assumes nothing.
---   refuse-at, refuse-none         a check over n things refuses with the first at fault, and accepts where there is none
+-- The laws of the station's order of checks. Assumes nothing.
 --   LengthsFit, lengths-fit        what the test of the lengths tells
 --   in-range                       lists that pass 21 and 22 are in range
 --   reply-lengths, reply-field, reply-table
@@ -8,27 +7,19 @@ use mathlib.Core.Path.{_≡_}
 use mathlib.Core.Bool.{Bool, true, false}
 use Prim.Native.Nat.{ℕ, _+_, _<_, _≤_}
 use native.Mathlib.Omega.{arith}
-use borrow.Author.Tests.{lt-ltb, le-ltb, leb-true, eqb-true}
+use borrow.Author.Tests.{leb-true, eqb-true}
 use lib.Dec.{leb, eqb}
 use lib.ListN.{length}
 use Rattle.exact.specs.First.{first}
 use Rattle.exact.proofs.Searching.{first-before}
-use Rattle.reply.specs.Checks.{refuseFirst}
-use Rattle.reply.specs.declared.Refusal.{Refusal}
 use Rattle.reply.specs.declared.Refusal.the-variants.{Sightings, Field}
-use Rattle.reply.specs.declared.Reply.the-variants.{Accepted, Refused}
+use Rattle.reply.specs.declared.Reply.the-variants.{Refused}
+use Rattle.reply.proofs.Checking.{refuse-first, accept-first}
 use Rattle.station.specs.Sightings.{Book, sightings, lengthsFit, fieldFault}
 use Rattle.station.specs.Bounds.{InRange}
 use Rattle.station.specs.Table.{counts, readings}
 use Rattle.station.specs.Replies.{tableReply, replyOf}
-use Rattle.station.proofs.Equality.{and-true}
-
-module _ (n : ℕ) (fault : ℕ → Bool) (why : ℕ → Refusal) (k : ℕ) (p : k ≡ first n fault) where
-  pub refuse-at : k < n → refuseFirst n fault why ≡ Refused (why k)
-  refuse-at l = rw (← p, lt-ltb k n l)
-
-  pub refuse-none : n ≤ k → refuseFirst n fault why ≡ Accepted
-  refuse-none l = rw (← p, le-ltb k n l)
+use Rattle.station.proofs.Tests.{and-true}
 
 -- ---- 21
 pub record LengthsFit (positions objects faces readings directions pairs : ℕ) : Type 0 where
@@ -67,11 +58,11 @@ module _ (b : Book) (d p : ℕ) where
   module _ (e : fit ≡ true) (h : ℕ) (q : h ≡ first (sightings b) (fieldFault b)) where
     pub reply-field : h < sightings b → replyOf b d p ≡ Refused (Field (h + 1))
     unfolding replyOf
-    reply-field l = rw (e, refuse-at (sightings b) (fieldFault b) (λ k. Field (k + 1)) h q l)
+    reply-field l = rw (e, refuse-first (sightings b) (fieldFault b) (λ k. Field (k + 1)) h q l)
 
     pub reply-table : sightings b ≤ h → replyOf b d p ≡ tableReply (counts b) (readings b)
     unfolding replyOf
-    reply-table l = rw (e, refuse-none (sightings b) (fieldFault b) (λ k. Field (k + 1)) h q l)
+    reply-table l = rw (e, accept-first (sightings b) (fieldFault b) (λ k. Field (k + 1)) (omega (arith, q)))
 
     pub in-range : sightings b ≤ h → InRange b
     in-range l =

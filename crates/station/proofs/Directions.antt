@@ -11,12 +11,12 @@ use native.Mathlib.Omega.{arith}
 use lib.Dec.{T}
 use lib.IntN.{ℤ, pos, _+ℤ_, _-ℤ_, _*ℤ_}
 use lib.Signed.{ltZ, _≤ℤ_, _<ℤ_, ltZ-yes}
-use Rattle.exact.specs.Circle.{floor, modulo}
+use Rattle.exact.specs.Circle.{C, floor, modulo}
 use Rattle.exact.proofs.Circles.{floor-only, modulo-low, modulo-high}
 use Rattle.exact.proofs.Linear.{unknowns, linear, orders, eq-by, lt-by}
 use Rattle.exact.proofs.Order.{lt-le}
 use Rattle.exact.proofs.Sum.{sum-ext, sum-zero}
-use Rattle.station.specs.Means.{C, L, centred, seen, s, g, lowest, base, e, P, sumOfE, t, direction}
+use Rattle.station.specs.Means.{L, centred, seen, s, g, lowest, base, e, P, sumOfE, t, direction}
 use Rattle.station.proofs.Figures.{twice-above}
 use Rattle.station.proofs.Selecting.{chosen, where-failed}
 

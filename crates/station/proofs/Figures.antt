@@ -2,7 +2,7 @@
 --   told                              what the machine reads of a call's result is what the call promised
 --   entry-within                      an entry of a table whose numbers are within m
 --   twice-above                       twice a number above 0
---   modulo-size, centred-size         what is left of a number lies within its circle, and within half of it once centred
+--   centred-size                      what is left of a number lies within half of its circle once centred
 --   s-size, g-size, e-size            so do s, g and e
 use mathlib.Core.Path.{_≡_, _∙_}
 use mathlib.Core.List.{List, [], _∷_}
@@ -12,25 +12,19 @@ use lib.IntN.{ℤ, pos, natAbs, _+ℤ_, _-ℤ_, _*ℤ_}
 use lib.Signed.{mag, _≤ℤ_, _<ℤ_}
 use mir.Syntax.{w64}
 use mir.Val.{toZ, ofZ}
-use Rattle.exact.specs.Circle.{modulo}
-use Rattle.exact.proofs.Bound.{read, fits-of-mag}
-use Rattle.exact.proofs.Circles.{modulo-low, modulo-high}
+use Rattle.exact.specs.Circle.{C, modulo}
+use Rattle.exact.specs.Within.{Within}
+use Rattle.exact.proofs.Bound.{read-at}
+use Rattle.exact.proofs.Circles.{modulo-low, modulo-high, modulo-size}
 use Rattle.exact.proofs.Linear.{unknowns, linear, orders, one-sided, lt-by, abs-by, lt-of}
-use Rattle.station.specs.Bounds.{Within}
 use Rattle.station.specs.Table.{slot, entry}
-use Rattle.station.specs.Means.{C, centred, s, g, e}
+use Rattle.station.specs.Means.{centred, s, g, e}
 
 pub told : {x v : ℤ} → mag x < 2 ^ 63 → x ≡ v → toZ w64 (ofZ w64 x) ≡ v
-told {x} ok p = read (fits-of-mag x ok) ∙ p
+told {x} ok p = read-at x ok ∙ p
 
 pub entry-within : {m : ℕ} {x : ℤ} (table : List ℤ) (f i j : ℕ) → Within m table → x ≡ entry table f i j → natAbs x ≤ m
 entry-within table f i j h p = rw p (h (slot f i j))
-
-pub modulo-size : (z m : ℤ) → pos 0 <ℤ m → natAbs (modulo z m) ≤ natAbs m
-modulo-size z m h = within (modulo z m) (modulo-low z m h) (modulo-high z m h)
-  where
-    within : (x : ℤ) → pos 0 ≤ℤ x → x <ℤ m → natAbs x ≤ natAbs m
-    within x a b = let v = unknowns (x ∷ m ∷ []) in omega (arith, orders, one-sided)
 
 pub twice-above : (z : ℤ) → pos 0 <ℤ z → pos 0 <ℤ (pos 2 *ℤ z)
 twice-above z h = let v = unknowns (z ∷ []) in lt-by (search linear) (search linear) (omega (arith, orders))

@@ -1,4 +1,4 @@
-pub mod Equality
+pub mod Tests
 pub mod Figures
 pub mod Selecting
 pub mod Tallying

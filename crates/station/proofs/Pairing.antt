@@ -14,17 +14,19 @@ use borrow.Author.Tests.{not-false}
 use lib.Dec.{T}
 use lib.IntN.{ℤ, pos, natAbs, _+ℤ_}
 use lib.Signed.{ltZ, _≤ℤ_}
+use Rattle.exact.specs.Same.{same}
 use Rattle.exact.proofs.Linear.{Difference, unknowns, linear, orders, lt-failed, eq-by}
 use Rattle.exact.proofs.Sum.{sum-ext}
+use Rattle.exact.proofs.Sameness.{same-yes, same-true}
 use Rattle.reply.specs.declared.Reply.the-variants.{Accepted}
-use Rattle.station.specs.Sightings.{Book, sightings, positionAt, objectAt, faceAt, readingAt, eqZ, isOf}
+use Rattle.station.specs.Sightings.{Book, sightings, positionAt, objectAt, faceAt, readingAt, isOf}
 use Rattle.station.specs.Pairs.{Sighted, Joined, Entered}
 use Rattle.station.specs.SumWhere.{sumWhere}
 use Rattle.station.specs.Table.{one, total, entry, counts, readings}
 use Rattle.station.specs.Means.{seen, facesFault, P}
 use Rattle.station.specs.Replies.{replyOf}
 use Rattle.station.proofs.Accepting.{Passed, passed}
-use Rattle.station.proofs.Equality.{eqZ-yes, eqZ-true, and-true, same-tests}
+use Rattle.station.proofs.Tests.{and-true, same-tests}
 use Rattle.station.proofs.Selecting.{OnlyOne, where-one, where-zero, where-nonneg}
 use Rattle.station.proofs.Tallying.{InFields, in-fields, table-at}
 
@@ -33,20 +35,20 @@ module _ (b : Book) (f i j h : ℕ) where
   sighted : h < sightings b → isOf b f i j h ≡ true → Sighted b f (i + 1) (j + 1) h
   unfolding isOf
   sighted l e =
-      let x = and-true (eqZ (faceAt b h) (pos f)) _ e in
-      let y = and-true (eqZ (positionAt b h) (pos (i + 1))) (eqZ (objectAt b h) (pos (j + 1))) (x .1) in
-      record { listed = l; face-is = eqZ-true _ _ (x .0); position-is = eqZ-true _ _ (y .0); object-is = eqZ-true _ _ (y .1) }
+      let x = and-true (same (faceAt b h) (pos f)) _ e in
+      let y = and-true (same (positionAt b h) (pos (i + 1))) (same (objectAt b h) (pos (j + 1))) (x .1) in
+      record { listed = l; face-is = same-true _ _ (x .0); position-is = same-true _ _ (y .0); object-is = same-true _ _ (y .1) }
 
   tested : Sighted b f (i + 1) (j + 1) h → isOf b f i j h ≡ true
   unfolding isOf
-  tested s = rw (eqZ-yes (s .face-is), eqZ-yes (s .position-is)) (eqZ-yes (s .object-is))
+  tested s = rw (same-yes (s .face-is), same-yes (s .position-is)) (same-yes (s .object-is))
 
 -- ---- one left and one right
 pub once-each : (n : List ℤ) (i j : ℕ) → seen n i j ≡ true → facesFault n i j ≡ false → (entry n 0 i j ≡ pos 1) × (entry n 1 i j ≡ pos 1)
 unfolding facesFault
 once-each n i j s e =
-    let x = and-true (eqZ (entry n 0 i j) (pos 1)) (eqZ (entry n 1 i j) (pos 1)) (not-false _ ((λ t. sym s t && not (eqZ (entry n 0 i j) (pos 1) && eqZ (entry n 1 i j) (pos 1))) ∙ e)) in
-    (eqZ-true _ _ (x .0), eqZ-true _ _ (x .1))
+    let x = and-true (same (entry n 0 i j) (pos 1)) (same (entry n 1 i j) (pos 1)) (not-false _ ((λ t. sym s t && not (same (entry n 0 i j) (pos 1) && same (entry n 1 i j) (pos 1))) ∙ e)) in
+    (same-true _ _ (x .0), same-true _ _ (x .1))
 
 -- the position and the object that a sighting's own fields say, counted from 0
 abbrev pub ownPosition : Book → ℕ → ℕ
@@ -150,10 +152,10 @@ module _ (b : Book) (d p : ℕ) (accepted : replyOf b d p ≡ Accepted) where
   pub pairs-counted : (j : ℕ) → j < 16 → (test : ℕ → Bool) → ((i : ℕ) → i < 16 → test i ≡ true → Joined b i j) → ((i : ℕ) → i < 16 → Joined b i j → test i ≡ true) →
       P (counts b) j ≡ sumWhere 16 test one
   unfolding P
-  pairs-counted j lj test to from = sum-ext 16 (λ i. cond (seen (counts b) i j) (pos 1) (pos 0)) (λ i. cond (test i) (pos 1) (pos 0)) (λ i li t. cond (same i li t) (pos 1) (pos 0))
+  pairs-counted j lj test to from = sum-ext 16 (λ i. cond (seen (counts b) i j) (pos 1) (pos 0)) (λ i. cond (test i) (pos 1) (pos 0)) (λ i li t. cond (passes i li t) (pos 1) (pos 0))
     where
-      same : (i : ℕ) → i < 16 → seen (counts b) i j ≡ test i
-      same i li = same-tests (seen (counts b) i j) (test i) (λ e. from i li (paired i j li lj e)) (λ e. is-seen b i j li lj 0 _ (omega arith) (to i li e .pair .left))
+      passes : (i : ℕ) → i < 16 → seen (counts b) i j ≡ test i
+      passes i li = same-tests (seen (counts b) i j) (test i) (λ e. from i li (paired i j li lj e)) (λ e. is-seen b i j li lj 0 _ (omega arith) (to i li e .pair .left))
 
 -- ---- at most one pair: a sighting has one position, one object and one face
 same-number : {z : ℤ} {m n : ℕ} → z ≡ pos m → z ≡ pos n → m ≡ n

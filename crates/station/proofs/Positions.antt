@@ -1,29 +1,19 @@
 -- The lowest position of an object, and its pairs. Assumes nothing.
---   first-least             no number that passes the test is below the first
 --   lowest-least            no position that has the object is below its lowest
 --   lowest-in               an object with a pair has a lowest position
 --   P-size, sumOfE-size     at most 16 pairs, and the sum of their e
-use mathlib.Core.Path.{_≡_, sym, _∙_, subst}
-use mathlib.Core.Bool.{Bool, true}
+use mathlib.Core.Path.{_≡_, subst}
+use mathlib.Core.Bool.{true}
 use mathlib.Core.List.{List}
 use Prim.Native.Nat.{ℕ, _<_, _≤_}
 use native.Mathlib.Omega.{arith}
 use native.Mathlib.Decide.{decLt}
-use lib.Dec.{T}
 use lib.IntN.{ℤ, pos, natAbs}
 use lib.Signed.{_<ℤ_, <ℤ-irrefl}
-use Rattle.exact.specs.First.{first}
-use Rattle.exact.proofs.Searching.{first-before}
+use Rattle.exact.proofs.Searching.{first-before, first-least}
 use Rattle.station.specs.Means.{seen, lowest, e, P, sumOfE}
 use Rattle.station.proofs.Figures.{e-size}
 use Rattle.station.proofs.Selecting.{where-failed, where-size}
-
-pub first-least : (n : ℕ) (p : ℕ → Bool) (i : ℕ) → p i ≡ true → first n p ≤ i
-first-least n p i e = by-order (decLt i (first n p))
-  where
-    by-order : Dec (i < first n p) → first n p ≤ i
-    by-order (yes l) = absurd (subst T (sym e ∙ first-before n p i l) tt)
-    by-order (no l) = omega arith
 
 pub lowest-least : (n : List ℤ) (i j : ℕ) → seen n i j ≡ true → lowest n j ≤ i
 unfolding lowest

@@ -17,19 +17,21 @@ use lib.ListN.{length}
 use Rattle.exact.specs.Sum.{sum}
 use Rattle.exact.specs.First.{first}
 use Rattle.exact.specs.Tabulate.{tabulate}
+use Rattle.exact.specs.Same.{same}
 use Rattle.exact.proofs.Sum.{sum-ext, sum-swap}
 use Rattle.exact.proofs.Searching.{Failed, first-before, first-none}
-use Rattle.station.specs.Sightings.{Book, sightings, positionAt, objectAt, faceAt, readingAt, lengthsFit, outOfRange, fieldFault, eqZ, isOf}
-use Rattle.station.specs.Rearrangement.{Rearranged}
-use Rattle.station.specs.SumWhere.{sumWhere}
-use Rattle.station.specs.Table.{one, total, counts, readings}
 use Rattle.reply.specs.declared.Refusal.the-variants.{Field}
 use Rattle.reply.specs.declared.Reply.{Reply}
 use Rattle.reply.specs.declared.Reply.the-variants.{Refused}
+use Rattle.reply.specs.Checks.{leaves}
+use Rattle.station.specs.Sightings.{Book, sightings, positionAt, objectAt, faceAt, readingAt, lengthsFit, outOfRange, fieldFault, isOf}
+use Rattle.station.specs.Rearrangement.{Rearranged}
+use Rattle.station.specs.SumWhere.{sumWhere}
+use Rattle.station.specs.Table.{one, total, counts, readings}
 use Rattle.station.specs.Means.{directions, pairCounts}
-use Rattle.station.specs.Replies.{tableReply, replyOf, leaves, Answers}
+use Rattle.station.specs.Replies.{tableReply, replyOf, Answers}
 use Rattle.station.proofs.Deciding.{fit, reply-lengths, reply-field, reply-table}
-use Rattle.station.proofs.Equality.{same-tests}
+use Rattle.station.proofs.Tests.{same-tests}
 use Rattle.station.proofs.Selecting.{chosen, where-at}
 
 -- ---- sums
@@ -54,11 +56,11 @@ module _ {b b′ : Book} (q : Rearranged b b′) where
   unfolding total isOf
   total-rearranged v v′ e f i j =
       ap (λ (n : ℕ). sumWhere n (isOf b′ f i j) v′) (q .positions-long)
-      ∙ sum-ext (sightings b) (chosen (isOf b′ f i j) v′) (λ h. chosen (isOf b f i j) v (q .from h)) (λ h l t. cond (same h l t) (e h l t) (pos 0))
+      ∙ sum-ext (sightings b) (chosen (isOf b′ f i j) v′) (λ h. chosen (isOf b f i j) v (q .from h)) (λ h l t. cond (moved h l t) (e h l t) (pos 0))
       ∙ sum-rearranged (sightings b) (q .from) (q .to) (q .from-in) (q .to-in) (q .back) (q .forth) (chosen (isOf b f i j) v)
     where
-      same : (h : ℕ) → h < sightings b → isOf b′ f i j h ≡ isOf b f i j (q .from h)
-      same h l = λ t. eqZ (q .face-is h l t) (pos f) && (eqZ (q .position-is h l t) (pos (i + 1)) && eqZ (q .object-is h l t) (pos (j + 1)))
+      moved : (h : ℕ) → h < sightings b → isOf b′ f i j h ≡ isOf b f i j (q .from h)
+      moved h l = λ t. same (q .face-is h l t) (pos f) && (same (q .position-is h l t) (pos (i + 1)) && same (q .object-is h l t) (pos (j + 1)))
 
   pub counts-rearranged : counts b′ ≡ counts b
   counts-rearranged = λ t. tabulate 512 (λ k. total-rearranged one one (λ h l. refl) (k / 256) (k % 256 / 16) (k % 16) t)

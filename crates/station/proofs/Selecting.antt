@@ -17,7 +17,7 @@ use lib.Dec.{T, eqb}
 use lib.IntN.{ℤ, pos, natAbs, _+ℤ_, +ℤ-idl, +ℤ-idr}
 use lib.Signed.{_≤ℤ_}
 use Rattle.exact.proofs.Linear.{unknowns, linear, eq-by, eq-of}
-use Rattle.exact.proofs.Sum.{sum-none, sum-next, sum-more, sum-ext, sum-zero, sum-nonneg, sum-zeros, sum-abs}
+use Rattle.exact.proofs.Sum.{sum-none, sum-next, sum-more, sum-ext, sum-zero, sum-only, sum-nonneg, sum-zeros, sum-abs}
 use Rattle.station.specs.SumWhere.{sumWhere}
 use Rattle.station.specs.Table.{one}
 
@@ -46,15 +46,9 @@ module _ (test : ℕ → Bool) (v : ℕ → ℤ) where
 
 -- ---- one number alone
 pub where-at : (n m : ℕ) (f : ℕ → ℤ) → m < n → sumWhere n (λ k. eqb k m) f ≡ f m
-where-at zero m f l = absurd (omega arith)
-where-at (suc n) m f l = by-order (decLt m n) (where-at n m f)
-  where
-    by-order : Dec (m < n) → (m < n → sumWhere n (λ k. eqb k m) f ≡ f m) → sumWhere (suc n) (λ k. eqb k m) f ≡ f m
-    by-order (yes k) r = sum-next n (chosen (λ k. eqb k m) f) ∙ (λ t. r k t +ℤ cond (ne-eqb n m (λ e. omega arith) t) (f n) (pos 0)) ∙ +ℤ-idr (f m)
-    by-order (no k) r =
-        sum-next n (chosen (λ k. eqb k m) f)
-        ∙ (λ t. where-failed (λ k. eqb k m) f n (λ i q. ne-eqb i m (λ e. omega arith)) t +ℤ cond (eq-eqb n m (omega arith) t) (f n) (pos 0))
-        ∙ +ℤ-idl (f n) ∙ ap f (omega arith)
+where-at n m f l =
+    sum-only n m (chosen (λ k. eqb k m) f) l (λ i q e t. cond (ne-eqb i m e t) (f i) (pos 0))
+    ∙ (λ t. cond (eq-eqb m m refl t) (f m) (pos 0))
 
 -- ---- counts
 not-negative : (t : Bool) → pos 0 ≤ℤ cond t (pos 1) (pos 0)

@@ -7,36 +7,36 @@
 --   counts-within, readings-within    how large the numbers of the two whole tables are
 --   table-at                          what the whole table has of a face, a position and an object
 use mathlib.Core.Path.{_≡_, refl, sym, _∙_, ap, subst}
-use mathlib.Core.Bool.{Bool, true, false, _||_}
+use mathlib.Core.Bool.{Bool, true, false}
 use mathlib.Core.List.{List}
 use Prim.Native.Nat.{ℕ, _+_, _*_, _-_, _/_, _%_, _<_, _≤_}
 use native.Mathlib.Decide.{decLt}
 use native.Mathlib.Omega.{arith}
 use borrow.Author.Tests.{ltb-false}
 use lib.Dec.{T, ltb}
-use lib.IntN.{ℤ, pos, negsuc, natAbs, _+ℤ_}
+use lib.IntN.{ℤ, pos, negsuc, natAbs, _+ℤ_, _-ℤ_}
 use lib.ListN.{getD, set, replicate, length-set, length-replicate, getD-replicate, List·getD-eq-default}
 use lib.Seq.{ext-getD, getD-set-same, getD-set-other}
 use Rattle.exact.specs.Tabulate.{tabulate}
+use Rattle.exact.specs.Circle.{C}
+use Rattle.exact.specs.Outside.{outside}
+use Rattle.exact.specs.Within.{Within}
 use Rattle.exact.proofs.Filling.{tabulate-length, tabulate-at}
-use Rattle.station.specs.Bounds.{InRange, Within}
-use Rattle.station.specs.Sightings.{Book, sightings, positionAt, objectAt, faceAt, readingAt, outside, outOfRange, fieldFault, isOf}
+use Rattle.exact.proofs.Sameness.{same-yes, same-true}
+use Rattle.reply.proofs.Checking.{neither}
+use Rattle.station.specs.Bounds.{InRange}
+use Rattle.station.specs.Sightings.{Book, sightings, positionAt, objectAt, faceAt, readingAt, outOfRange, fieldFault, isOf}
 use Rattle.station.specs.SumWhere.{sumWhere}
 use Rattle.station.specs.Table.{total, one, slot, entry, tableOf, counts, readings}
-use Rattle.station.proofs.Equality.{eqZ-yes, eqZ-true, and-true}
+use Rattle.station.proofs.Tests.{and-true}
 use Rattle.station.proofs.Selecting.{where-none, where-taken, where-passed, where-size}
 
 -- ---- a sighting in range
-neither : (a b : Bool) → a || b ≡ false → (a ≡ false) × (b ≡ false)
-neither true b p = absurd (subst T p tt)
-neither false b p = (refl, p)
-
 -- z is one of lo, .., hi
 abbrev Among : ℤ → ℕ → ℕ → Type 0
 Among z lo hi = (z ≡ pos (natAbs z)) × ((lo ≤ natAbs z) × (natAbs z ≤ hi))
 
-among : (z : ℤ) (lo hi : ℕ) → outside z (pos lo) (pos hi) ≡ false → Among z lo hi
-unfolding outside
+among : (z : ℤ) (lo hi : ℕ) → outside (pos lo) (pos hi) z ≡ false → Among z lo hi
 among (pos n) lo hi p =
     let k = neither (ltb n lo) (ltb hi n) p in
     (refl, (ltb-false n lo (k .0), ltb-false hi n (k .1)))
@@ -51,9 +51,9 @@ pub record InFields (b : Book) (h : ℕ) : Type 0 where
 pub in-fields : (b : Book) (h : ℕ) → fieldFault b h ≡ false → InFields b h
 unfolding outOfRange
 in-fields b h e =
-    let p = neither (outside (positionAt b h) (pos 1) (pos 16)) _ e in
-    let o = neither (outside (objectAt b h) (pos 1) (pos 16)) _ (p .1) in
-    let f = neither (outside (faceAt b h) (pos 0) (pos 1)) (outside (readingAt b h) (pos 0) (pos 1295999999)) (o .1) in
+    let p = neither (outside (pos 1) (pos 16) (positionAt b h)) _ e in
+    let o = neither (outside (pos 1) (pos 16) (objectAt b h)) _ (p .1) in
+    let f = neither (outside (pos 0) (pos 1) (faceAt b h)) (outside (pos 0) (C -ℤ pos 1) (readingAt b h)) (o .1) in
     record {
       positions = among (positionAt b h) 1 16 (p .0);
       objects = among (objectAt b h) 1 16 (o .0);
@@ -80,7 +80,7 @@ module _ (b : Book) (h : ℕ) where
         let f = s .faces in let p = s .positions in let o = s .objects in
         let a : natAbs (faceAt b h) ≡ k / 256 = omega arith in let c : natAbs (positionAt b h) ≡ k % 256 / 16 + 1 = omega arith in
         let d : natAbs (objectAt b h) ≡ k % 16 + 1 = omega arith in
-        rw (eqZ-yes (f .0 ∙ ap pos a), eqZ-yes (p .0 ∙ ap pos c)) (eqZ-yes (o .0 ∙ ap pos d))
+        rw (same-yes (f .0 ∙ ap pos a), same-yes (p .0 ∙ ap pos c)) (same-yes (o .0 ∙ ap pos d))
 
     pub of-other : (k : ℕ) → k < 512 → (k ≡ slotAt → ⊥) → inSlot b k h ≡ false
     unfolding isOf
@@ -89,9 +89,9 @@ module _ (b : Book) (h : ℕ) where
         own : inSlot b k h ≡ true → k ≡ slotAt
         own e =
             let x = and-true _ _ e in let y = and-true _ _ (x .1) in
-            let a = ap natAbs (eqZ-true (faceAt b h) (pos (k / 256)) (x .0)) in
-            let c = ap natAbs (eqZ-true (positionAt b h) (pos (k % 256 / 16 + 1)) (y .0)) in
-            let d = ap natAbs (eqZ-true (objectAt b h) (pos (k % 16 + 1)) (y .1)) in
+            let a = ap natAbs (same-true (faceAt b h) (pos (k / 256)) (x .0)) in
+            let c = ap natAbs (same-true (positionAt b h) (pos (k % 256 / 16 + 1)) (y .0)) in
+            let d = ap natAbs (same-true (objectAt b h) (pos (k % 16 + 1)) (y .1)) in
             omega arith
 
         by-test : (t : Bool) → inSlot b k h ≡ t → t ≡ false

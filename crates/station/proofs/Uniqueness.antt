@@ -4,10 +4,11 @@ use mathlib.Core.Path.{_≡_, sym, _∙_}
 use mathlib.Core.List.{List}
 use lib.IntN.{ℤ}
 use Rattle.reply.specs.declared.Reply.{Reply}
+use Rattle.reply.specs.Checks.{leaves}
 use Rattle.station.specs.Sightings.{Book}
 use Rattle.station.specs.Table.{counts, readings}
 use Rattle.station.specs.Means.{directions, pairCounts}
-use Rattle.station.specs.Replies.{leaves, Answers}
+use Rattle.station.specs.Replies.{Answers}
 
 pub same-answers : (b : Book) (d p : List ℤ) (r r′ : Reply) (D D′ P P′ : List ℤ) → Answers b d p r D P → Answers b d p r′ D′ P′ → (r ≡ r′) × ((D ≡ D′) × (P ≡ P′))
 same-answers b d p r r′ D D′ P P′ a a′ =

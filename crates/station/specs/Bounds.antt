@@ -3,8 +3,9 @@ use mathlib.Core.Path.{_≡_}
 use mathlib.Core.Bool.{false}
 use mathlib.Core.List.{List}
 use Prim.Native.Nat.{ℕ, _<_, _≤_}
-use lib.IntN.{ℤ, pos, natAbs}
-use lib.ListN.{length, getD}
+use lib.IntN.{ℤ}
+use lib.ListN.{length}
+use Rattle.exact.specs.Within.{Within}
 use Rattle.station.specs.Sightings.{Book, sightings, fieldFault}
 
 -- lists of one length, at most 512, and every field in its range
@@ -14,10 +15,6 @@ pub record InRange (b : Book) : Type 0 where
   pub faces : length (b .face) ≡ sightings b
   pub readings : length (b .reading) ≡ sightings b
   pub sound : (h : ℕ) → h < sightings b → fieldFault b h ≡ false
-
--- every number of a table is at most m in size
-abbrev pub Within : ℕ → List ℤ → Type 0
-Within m table = (k : ℕ) → natAbs (getD table k (pos 0)) ≤ m
 
 -- a table of counts, of at most 512 sightings
 abbrev pub CountTable : List ℤ → Type 0

@@ -6,17 +6,14 @@ use Prim.Native.Nat.{ℕ}
 use lib.Dec.{ltb}
 use lib.IntN.{ℤ, pos, natAbs, _+ℤ_, _-ℤ_, _*ℤ_}
 use lib.Signed.{ltZ}
-use Rattle.exact.specs.Circle.{floor, modulo}
+use Rattle.exact.specs.Circle.{C, floor, modulo}
 use Rattle.exact.specs.First.{first}
+use Rattle.exact.specs.Same.{same}
 use Rattle.exact.specs.Tabulate.{tabulate}
-use Rattle.station.specs.Sightings.{eqZ}
 use Rattle.station.specs.SumWhere.{sumWhere}
 use Rattle.station.specs.Table.{entry}
 
--- "Circle C = 1,296,000,000."
-abbrev pub C : ℤ
-C = pos 1296000000
-
+-- half of the circle C
 abbrev pub halfC : ℤ
 halfC = pos 648000000
 
@@ -37,7 +34,7 @@ seen n i j = ltZ (pos 0) (entry n 0 i j +ℤ entry n 1 i j)
 
 -- 23: "a face missing or given more than once": sighted, but not once left and once right
 unfoldable pub facesFault : List ℤ → ℕ → ℕ → Bool
-facesFault n i j = seen n i j && not (eqZ (entry n 0 i j) (pos 1) && eqZ (entry n 1 i j) (pos 1))
+facesFault n i j = seen n i j && not (same (entry n 0 i j) (pos 1) && same (entry n 1 i j) (pos 1))
 
 -- 24: "position without object 1": another object was sighted there, and object 1 was not
 unfoldable pub initialFault : List ℤ → ℕ → ℕ → Bool

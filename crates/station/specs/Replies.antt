@@ -5,11 +5,10 @@ use mathlib.Core.List.{List}
 use Prim.Native.Nat.{ℕ, _+_, _/_, _%_}
 use lib.IntN.{ℤ}
 use lib.ListN.{length}
-use Rattle.reply.specs.Checks.{refuseIf, refuseFirst, _andThen_}
+use Rattle.reply.specs.Checks.{refuseIf, refuseFirst, _andThen_, leaves}
 use Rattle.reply.specs.declared.Refusal.{Refusal}
 use Rattle.reply.specs.declared.Refusal.the-variants.{Sightings, Field, Faces, Initial, FacesApart, Spread}
 use Rattle.reply.specs.declared.Reply.{Reply}
-use Rattle.reply.specs.declared.Reply.the-variants.{Accepted, Refused}
 use Rattle.station.specs.declared.checks.Check.{Check}
 use Rattle.station.specs.declared.checks.Check.the-variants.{PairsWhole, InitialSeen, FacesClose, PositionsAgree}
 use Rattle.station.specs.Sightings.{Book, sightings, lengthsFit, fieldFault}
@@ -52,12 +51,8 @@ fieldsReply b = refuseFirst (sightings b) (fieldFault b) (λ h. Field (h + 1))
 unfoldable pub replyOf : Book → ℕ → ℕ → Reply
 replyOf b directions pairs = lengthsReply b directions pairs andThen fieldsReply b andThen tableReply (counts b) (readings b)
 
--- a lent list afterwards: the answer where the reply is Accepted; "a refusal returns number and place only; all lent lists stay as they were"
-abbrev pub leaves : Reply → List ℤ → List ℤ → List ℤ
-leaves Accepted answer before = answer
-leaves (Refused why) answer before = before
-
--- everything that an operation on this input must leave: the reply and the two lent lists, which held d and p before
+-- everything that an operation on this input must leave: the reply and the two lent lists, which held d and p before;
+-- "a refusal returns number and place only; all lent lists stay as they were"
 pub record Answers (b : Book) (d p : List ℤ) (reply : Reply) (directionsNow pairsNow : List ℤ) : Type 0 where
   pub replied : reply ≡ replyOf b (length d) (length p)
   pub directionsAre : directionsNow ≡ leaves reply (directions (counts b) (readings b)) d

@@ -1,11 +1,13 @@
 -- The sightings of a station: four field lists, and what may stand in them.
-use mathlib.Core.Bool.{Bool, false, _&&_, _||_}
+use mathlib.Core.Bool.{Bool, _&&_, _||_}
 use mathlib.Core.List.{List}
 use Prim.Native.Nat.{ℕ, _+_}
 use lib.Dec.{eqb, leb}
-use lib.IntN.{ℤ, pos, negsuc}
+use lib.IntN.{ℤ, pos, _-ℤ_}
 use lib.ListN.{length, getD}
-use lib.Signed.{ltZ}
+use Rattle.exact.specs.Circle.{C}
+use Rattle.exact.specs.Outside.{outside}
+use Rattle.exact.specs.Same.{same}
 
 -- "A sighting is position (1 to 16), object (1 to 16), face (0 left, 1 right) and reading (0 to C-1)." One list for each field.
 pub record Book : Type 0 where
@@ -39,27 +41,16 @@ unfoldable pub lengthsFit : ℕ → ℕ → ℕ → ℕ → ℕ → ℕ → Bool
 lengthsFit positions objects faces readings directions pairs =
     leb 1 positions && (leb positions 512 && (eqb objects positions && (eqb faces positions && (eqb readings positions && (eqb directions 16 && eqb pairs 16)))))
 
--- z is not one of lo, .., hi
-unfoldable pub outside : ℤ → ℤ → ℤ → Bool
-outside z lo hi = ltZ z lo || ltZ hi z
-
 -- a sighting's field is out of range
 unfoldable pub outOfRange : ℤ → ℤ → ℤ → ℤ → Bool
 outOfRange position object face reading =
-    outside position (pos 1) (pos 16) || (outside object (pos 1) (pos 16) || (outside face (pos 0) (pos 1) || outside reading (pos 0) (pos 1295999999)))
+    outside (pos 1) (pos 16) position || (outside (pos 1) (pos 16) object || (outside (pos 0) (pos 1) face || outside (pos 0) (C -ℤ pos 1) reading))
 
 -- the same of the sighting at place h
 abbrev pub fieldFault : Book → ℕ → Bool
 fieldFault b h = outOfRange (positionAt b h) (objectAt b h) (faceAt b h) (readingAt b h)
 
--- two whole numbers are the same
-unfoldable pub eqZ : ℤ → ℤ → Bool
-eqZ (pos a) (pos b) = eqb a b
-eqZ (pos a) (negsuc b) = false
-eqZ (negsuc a) (pos b) = false
-eqZ (negsuc a) (negsuc b) = eqb a b
-
 -- The lists number positions and objects from 1; below, i and j number them from 0: position i + 1, object j + 1. Object 1, the initial, is j = 0.
 -- the sighting at place h is of face f, position i + 1 and object j + 1
 unfoldable pub isOf : Book → ℕ → ℕ → ℕ → ℕ → Bool
-isOf b f i j h = eqZ (faceAt b h) (pos f) && (eqZ (positionAt b h) (pos (i + 1)) && eqZ (objectAt b h) (pos (j + 1)))
+isOf b f i j h = same (faceAt b h) (pos f) && (same (positionAt b h) (pos (i + 1)) && same (objectAt b h) (pos (j + 1)))

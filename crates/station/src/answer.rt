@@ -1,9 +1,9 @@
 // The answer: for each object the number of its pairs, and the mean of their directions.
-use crate::pair::CIRCLE;
 use crate::pair::doubled_direction;
 use crate::pair::from_base;
 use crate::pair::lowest;
 use crate::table::seen;
+use direction::CIRCLE;
 ghost use mathlib.Core.Path.{_≡_};
 ghost use Prim.Native.Nat.{_<_};
 ghost use lib.ListN.{length};

@@ -2,7 +2,7 @@
 ghost use mathlib.Core.Path.{_≡_};
 ghost use lib.ListN.{length};
 ghost use Rattle.exact.specs.First.{first};
-ghost use Rattle.station.specs.Sightings.{book, lengthsFit, outside, outOfRange, fieldFault};
+ghost use Rattle.station.specs.Sightings.{book, lengthsFit, outOfRange, fieldFault};
 
 // 1 to 512 sightings, in lists of one length, and 16 places for each answer.
 pub fn lengths_fit(
@@ -36,30 +36,20 @@ pub fn lengths_fit(
     pairs == 16
 }
 
-// z is below lo or above hi.
-fn outside(z: i64, lo: i64, hi: i64) -> bool
-    ensures { λ r. ⌜ r ≡ outside z lo hi ⌝ }
-{
-    if z < lo {
-        return true;
-    }
-    hi < z
-}
-
 // A sighting's field is out of range.
 fn out_of_range(position: i64, object: i64, face: i64, reading: i64) -> bool
     ensures { λ r. ⌜ r ≡ outOfRange position object face reading ⌝ }
 {
-    if outside(position, 1, 16) {
+    if exact::outside(1, 16, position) {
         return true;
     }
-    if outside(object, 1, 16) {
+    if exact::outside(1, 16, object) {
         return true;
     }
-    if outside(face, 0, 1) {
+    if exact::outside(0, 1, face) {
         return true;
     }
-    outside(reading, 0, 1295999999)
+    exact::outside(0, direction::LAST, reading)
 }
 
 // The first sighting with a field out of range, counted from 0; the length of the list where there is none.

@@ -1,6 +1,7 @@
 // The figures of a pair, in the rules' letters: s, g, b and e.
 use crate::table::entry;
 use crate::table::seen;
+use direction::CIRCLE;
 ghost use mathlib.Core.Path.{_≡_};
 ghost use Prim.Native.Nat.{_<_, _≤_};
 ghost use lib.IntN.{pos, natAbs, _-ℤ_};
@@ -8,12 +9,10 @@ ghost use lib.Signed.{_<ℤ_};
 ghost use Rattle.station.specs.Means.{centred, s, g, lowest, seen, base};
 ghost use Rattle.station.specs.Bounds.{CountTable, SumTable};
 
-// The circle, its half and its double, in 0.001 second.
-pub const CIRCLE: i64 = 1296000000;
+// Half of the circle, and its double.
+const HALF_CIRCLE: i64 = CIRCLE / 2;
 
-const HALF_CIRCLE: i64 = 648000000;
-
-const DOUBLE_CIRCLE: i64 = 2592000000;
+const DOUBLE_CIRCLE: i64 = 2 * CIRCLE;
 
 // z brought by whole circles of twice the half into [-half, half).
 fn centred(z: i64, half: i64) -> i64

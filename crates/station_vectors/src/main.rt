@@ -4,23 +4,14 @@
 mod books;
 
 use books::Book;
-use libc::STDOUT_FILENO;
 use reply::Reply;
 ghost use Prim.Native.Nat.{_≤_};
 
-fn print(v: i64) {
-    if v < 0 {
-        io::write_all(STDOUT_FILENO, b"-");
-    }
-    io::print_decimal(STDOUT_FILENO, exact::magnitude(v));
-}
-
 // Direction and pairs of one object.
 fn show_object(direction: i64, pairs: i64) {
-    io::write_all(STDOUT_FILENO, b" ");
-    print(direction);
-    io::write_all(STDOUT_FILENO, b"/");
-    print(pairs);
+    vectors::signed(direction);
+    vectors::text(b"/");
+    vectors::number(pairs);
 }
 
 // And of all.
@@ -33,22 +24,20 @@ fn show_answer(direction: &[i64; 17], pairs: &[i64; 17]) {
 fn show(r: Reply, direction: &[i64; 17], pairs: &[i64; 17]) {
     match r {
         Reply::Accepted => {
-            io::write_all(STDOUT_FILENO, b"accepted");
+            vectors::text(b"accepted");
             show_answer(direction, pairs);
         }
         Reply::Refused(why) => {
-            io::write_all(STDOUT_FILENO, b"refused ");
-            io::print_decimal(STDOUT_FILENO, reply::number(why));
-            io::write_all(STDOUT_FILENO, b" ");
-            io::print_decimal(STDOUT_FILENO, reply::place(why));
-            io::write_all(STDOUT_FILENO, b", lists ");
-            print(direction[0]);
-            print(direction[15]);
-            print(pairs[0]);
-            print(pairs[15]);
+            vectors::text(b"refused");
+            vectors::number_and_place(why);
+            vectors::text(b", lists ");
+            vectors::number(direction[0]);
+            vectors::number(direction[15]);
+            vectors::number(pairs[0]);
+            vectors::number(pairs[15]);
         }
     }
-    io::write_all(STDOUT_FILENO, b"\n");
+    vectors::text(b"\n");
 }
 
 // One run on lists of the given lengths. The answer lists hold 7s before; of a refusal the ends of both are printed.

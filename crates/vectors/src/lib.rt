@@ -1,4 +1,4 @@
-// What the programs that run vectors print with: numbers, lists and refusals, each after a blank.
+// What the programs that run vectors print with: words, numbers, lists and refusals.
 use libc::STDOUT_FILENO;
 use reply::Refusal;
 
@@ -6,14 +6,25 @@ pub fn text(words: &[u8]) {
     io::write_all(STDOUT_FILENO, words);
 }
 
-pub fn signed(v: i64) {
-    text(b" ");
+// A number by itself: one that has no sign, and one that may have.
+pub fn natural(v: u64) {
+    io::print_decimal(STDOUT_FILENO, v);
+}
+
+pub fn number(v: i64) {
     if v < 0 {
         text(b"-");
     }
-    io::print_decimal(STDOUT_FILENO, exact::magnitude(v));
+    natural(exact::magnitude(v));
 }
 
+// A number after a blank.
+pub fn signed(v: i64) {
+    text(b" ");
+    number(v);
+}
+
+// Numbers, each after a blank.
 pub fn list(xs: &[i64]) {
     let mut h: usize = 0;
     while h < xs.len() {
@@ -23,9 +34,15 @@ pub fn list(xs: &[i64]) {
     }
 }
 
-pub fn refusal(why: Refusal) {
-    text(b" refused ");
-    io::print_decimal(STDOUT_FILENO, reply::number(why));
+// The number and the place of a refusal, each after a blank.
+pub fn number_and_place(why: Refusal) {
     text(b" ");
-    io::print_decimal(STDOUT_FILENO, reply::place(why));
+    natural(reply::number(why));
+    text(b" ");
+    natural(reply::place(why));
+}
+
+pub fn refusal(why: Refusal) {
+    text(b" refused");
+    number_and_place(why);
 }

@@ -6,11 +6,14 @@ use borrow.Author.Needs.{needs}
 use Rattle.condition_vectors.proofs.counts.Statement.{statement}
 use Rattle.condition_vectors.proofs.counts.Tie as tie
 
-slice-aggregate-write-all : tie.Need-slice-aggregate-write-all
-slice-aggregate-write-all c = search needs
+slice-aggregate-text : tie.Need-slice-aggregate-text
+slice-aggregate-text c = search needs
 
-write-all-requires : tie.Need-write-all-requires
-write-all-requires c κs = search needs
+text-requires : tie.Need-text-requires
+text-requires c κs = search needs
+
+cast-t22 : tie.Need-cast-t22
+cast-t22 c = search needs
 
 cast-t23 : tie.Need-cast-t23
 cast-t23 c = search needs
@@ -33,14 +36,11 @@ cast-t28 c = search needs
 cast-t29 : tie.Need-cast-t29
 cast-t29 c = search needs
 
-cast-t30 : tie.Need-cast-t30
-cast-t30 c = search needs
+slice-aggregate-list : tie.Need-slice-aggregate-list
+slice-aggregate-list c = search needs
 
-slice-aggregate-print-list : tie.Need-slice-aggregate-print-list
-slice-aggregate-print-list c = search needs
-
-print-list-requires : tie.Need-print-list-requires
-print-list-requires c κs = search needs
+list-requires : tie.Need-list-requires
+list-requires c κs = search needs
 
 array-share-prefix-directions : tie.Need-array-share-prefix-directions
 array-share-prefix-directions c = search needs
@@ -100,8 +100,9 @@ pub counts-spec : {M : Type 1} → statement M
 counts-spec =
     tie.close
     (tie.spec
-    slice-aggregate-write-all
-    write-all-requires
+    slice-aggregate-text
+    text-requires
+    cast-t22
     cast-t23
     cast-t24
     cast-t25
@@ -109,9 +110,8 @@ counts-spec =
     cast-t27
     cast-t28
     cast-t29
-    cast-t30
-    slice-aggregate-print-list
-    print-list-requires
+    slice-aggregate-list
+    list-requires
     array-share-prefix-directions
     slice-aggregate-show
     array-share-prefix-weights

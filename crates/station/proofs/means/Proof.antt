@@ -5,12 +5,13 @@ use mathlib.Core.List.{List}
 use borrow.Author.Needs.{needs}
 use lib.IntN.{ℤ}
 use lib.ListN.{length}
-use Rattle.station.specs.Bounds.{InRange, Within}
+use Rattle.exact.specs.Within.{Within}
+use Rattle.station.specs.Bounds.{InRange}
 use Rattle.station.specs.Sightings.{Book, book}
 use Rattle.station.specs.Means.{directions, pairCounts}
 use Rattle.station.specs.Replies.{tableReply, replyOf}
 use Rattle.station.proofs.Deciding.{LengthsFit, lengths-fit, fit, reply-lengths, reply-field, reply-table, in-range}
-use Rattle.station.proofs.Equality.{refuted, upheld}
+use Rattle.station.proofs.Tests.{refuted, upheld}
 use Rattle.station.proofs.Tallying.{counts-within, readings-within}
 use Rattle.station.proofs.means.Statement.{statement}
 use Rattle.station.proofs.means.Tie as tie

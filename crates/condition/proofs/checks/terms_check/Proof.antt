@@ -9,9 +9,9 @@ use mir.Val.{toZ, ofZ}
 use Rattle.exact.proofs.Bound.{read}
 use Rattle.reply.specs.declared.Reply.{Reply}
 use Rattle.reply.specs.declared.Reply.the-variants.{Accepted}
+use Rattle.reply.proofs.Checking.{turn-none, turn-more, turn-stops}
 use Rattle.condition.specs.declared.term.Term.{Term}
 use Rattle.condition.specs.Rules.{termCheck, termsCheck, termAt}
-use Rattle.reply.proofs.Checking.{turn-none, turn-more, turn-stops}
 use Rattle.condition.proofs.checks.terms_check.Statement.{statement}
 use Rattle.condition.proofs.checks.terms_check.Tie as tie
 

@@ -6,10 +6,10 @@ use lib.IntN.{ℤ, pos, negℤ, natAbs, _+ℤ_, +ℤ-assoc}
 use lib.ListN.{getD}
 use mir.Syntax.{w64}
 use mir.Val.{toZ, ofZ}
+use Rattle.exact.specs.Within.{Within}
 use Rattle.exact.proofs.Bound.{abs-add, read}
 use Rattle.condition.specs.declared.term.Term.{Term}
 use Rattle.condition.specs.Terms.{only}
-use Rattle.condition.specs.Sound.{Within}
 use Rattle.condition.proofs.Testing.{negated-small, negated-fits, negated-read, number-read, number-cast}
 use Rattle.condition.proofs.Shares.{only-size}
 use Rattle.condition.proofs.tally.turned.Statement.{statement}

@@ -3,8 +3,8 @@ use mathlib.Core.Path.{_≡_, sym, _∙_}
 use borrow.Author.Needs.{needs}
 use lib.IntN.{pos}
 use mir.ValLaws.{toZ-ofZ}
-use Rattle.exact.proofs.Bound.{fits-of-mag}
 use Rattle.exact.specs.Outside.{outside}
+use Rattle.exact.proofs.Bound.{fits-of-mag}
 use Rattle.condition.proofs.term.astray.Statement.{statement}
 use Rattle.condition.proofs.term.astray.Tie as tie
 

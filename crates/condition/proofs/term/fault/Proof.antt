@@ -3,8 +3,8 @@ use mathlib.Core.Path.{_≡_, sym, _∙_}
 use borrow.Author.Needs.{needs}
 use mir.ValLaws.{toZ-ofZ}
 use Rattle.exact.proofs.Bound.{fits-of-mag}
+use Rattle.exact.proofs.Sameness.{bits-test}
 use Rattle.condition.specs.Terms.{astray}
-use Rattle.condition.proofs.Testing.{bits-test}
 use Rattle.condition.proofs.term.fault.Statement.{statement}
 use Rattle.condition.proofs.term.fault.Tie as tie
 

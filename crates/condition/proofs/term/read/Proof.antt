@@ -2,8 +2,10 @@
 use mathlib.Core.Path.{_≡_}
 use mathlib.Core.Bool.{false}
 use lib.IntN.{pos}
-use Rattle.condition.specs.Terms.{same, letterOf}
-use Rattle.condition.proofs.Testing.{bits-same, bits-other, numeral-fits}
+use Rattle.exact.specs.Same.{same}
+use Rattle.exact.proofs.Bound.{numeral-fits}
+use Rattle.exact.proofs.Sameness.{bits-same, bits-other}
+use Rattle.condition.specs.Terms.{letterOf}
 use Rattle.condition.proofs.term.read.Statement.{statement}
 use Rattle.condition.proofs.term.read.Tie as tie
 

@@ -6,11 +6,12 @@ use lib.IntN.{ℤ, pos, negℤ}
 use mir.Syntax.{w64}
 use mir.Val.{SFits}
 use mir.ValLaws.{toZ-ofZ}
-use Rattle.exact.proofs.Bound.{fits-of-mag}
-use Rattle.condition.specs.declared.term.Term.{Term}
 use Rattle.exact.specs.Outside.{outside}
-use Rattle.condition.specs.Terms.{same, astray}
-use Rattle.condition.proofs.Testing.{bits-same, bits-other, bits-test, numeral-fits}
+use Rattle.exact.specs.Same.{same}
+use Rattle.exact.proofs.Bound.{fits-of-mag, numeral-fits}
+use Rattle.exact.proofs.Sameness.{bits-same, bits-other, bits-test}
+use Rattle.condition.specs.declared.term.Term.{Term}
+use Rattle.condition.specs.Terms.{astray}
 use Rattle.condition.proofs.term.side_fault.Statement.{statement}
 use Rattle.condition.proofs.term.side_fault.Tie as tie
 

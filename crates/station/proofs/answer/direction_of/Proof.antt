@@ -6,10 +6,10 @@ use lib.IntN.{ℤ, pos, _+ℤ_, _*ℤ_}
 use lib.Signed.{ltZ, _<ℤ_}
 use mir.Syntax.{w64}
 use mir.Val.{toZ, ofZ}
-use Rattle.exact.specs.Circle.{floor, modulo}
+use Rattle.exact.specs.Circle.{C, floor, modulo}
 use Rattle.exact.proofs.Bound.{Bounded, bounded, bounds, fits-in, read}
 use Rattle.exact.proofs.Order.{lt-true}
-use Rattle.station.specs.Means.{C, g, base, P, sumOfE, direction}
+use Rattle.station.specs.Means.{g, base, P, sumOfE, direction}
 use Rattle.station.proofs.Figures.{told, twice-above, g-size}
 use Rattle.station.proofs.Positions.{lowest-in, P-size, sumOfE-size}
 use Rattle.station.proofs.answer.direction_of.Statement.{statement}

@@ -8,9 +8,10 @@ use borrow.Author.Needs.{needs}
 use lib.IntN.{ℤ, natAbs, _+ℤ_, _-ℤ_}
 use mir.Syntax.{w64}
 use mir.Val.{toZ, ofZ}
+use Rattle.exact.specs.Circle.{C}
 use Rattle.exact.proofs.Bound.{bounded, bounds, fits-in, read}
 use Rattle.station.specs.SumWhere.{sumWhere}
-use Rattle.station.specs.Means.{C, centred, seen, g, e, sumOfE}
+use Rattle.station.specs.Means.{centred, seen, g, e, sumOfE}
 use Rattle.station.proofs.Figures.{told, g-size, e-size}
 use Rattle.station.proofs.Selecting.{where-none, where-taken, where-passed, where-size}
 use Rattle.station.proofs.answer.sum_from_base.Statement.{statement}

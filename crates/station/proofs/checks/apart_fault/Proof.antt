@@ -5,7 +5,7 @@ use lib.Dec.{ltb}
 use lib.IntN.{natAbs}
 use Rattle.station.specs.Means.{apartFault}
 use Rattle.station.proofs.Figures.{told}
-use Rattle.station.proofs.Equality.{refuted, upheld}
+use Rattle.station.proofs.Tests.{refuted, upheld}
 use Rattle.station.proofs.checks.apart_fault.Statement.{statement}
 use Rattle.station.proofs.checks.apart_fault.Tie as tie
 

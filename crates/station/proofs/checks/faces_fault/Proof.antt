@@ -9,10 +9,11 @@ use lib.Signed.{mag}
 use mir.Syntax.{w64}
 use mir.Val.{ofZ}
 use Prim.Native.Nat.{_<_, _^_}
-use Rattle.exact.proofs.Bound.{fits-of-mag, fits-in, bounds}
-use Rattle.station.specs.Sightings.{eqZ}
+use Rattle.exact.specs.Same.{same}
+use Rattle.exact.proofs.Bound.{fits-of-mag, numeral-fits}
+use Rattle.exact.proofs.Sameness.{bits-test}
 use Rattle.station.specs.Means.{facesFault}
-use Rattle.station.proofs.Equality.{eqZ-bits, refuted, upheld}
+use Rattle.station.proofs.Tests.{refuted, upheld}
 use Rattle.station.proofs.checks.faces_fault.Statement.{statement}
 use Rattle.station.proofs.checks.faces_fault.Tie as tie
 
@@ -27,8 +28,8 @@ entry-requires : tie.Need-entry-requires
 entry-requires c κs = search needs
 
 -- the machine's test of a result, which is v, against 1
-is-one : {x v : ℤ} → mag x < 2 ^ 63 → x ≡ v → eqb (ofZ w64 x) 1 ≡ eqZ v (pos 1)
-is-one {x} ok p = eqZ-bits x (pos 1) (fits-of-mag x ok) (fits-in (search bounds) tt) ∙ ap (λ (z : ℤ). eqZ z (pos 1)) p
+is-one : {x v : ℤ} → mag x < 2 ^ 63 → x ≡ v → eqb (ofZ w64 x) 1 ≡ same v (pos 1)
+is-one {x} ok p = bits-test (fits-of-mag x ok) (numeral-fits 1 tt) ∙ ap (λ (z : ℤ). same z (pos 1)) p
 
 returns-2 : tie.Need-returns-2
 unfolding facesFault

@@ -3,7 +3,7 @@ use mathlib.Core.Path.{ap}
 use mathlib.Core.Bool.{not}
 use borrow.Author.Needs.{needs}
 use Rattle.station.specs.Means.{initialFault}
-use Rattle.station.proofs.Equality.{refuted, upheld}
+use Rattle.station.proofs.Tests.{refuted, upheld}
 use Rattle.station.proofs.checks.initial_fault.Statement.{statement}
 use Rattle.station.proofs.checks.initial_fault.Tie as tie
 

@@ -2,13 +2,14 @@
 use mathlib.Core.Path.{_≡_}
 use mathlib.Core.List.{List}
 use Prim.Native.Nat.{ℕ, _<_, _≤_}
+use native.Mathlib.Omega.{arith}
 use borrow.Author.Needs.{needs}
 use lib.IntN.{ℤ}
 use Rattle.exact.specs.First.{first}
 use Rattle.reply.specs.declared.Reply.the-variants.{Accepted, Refused}
+use Rattle.reply.proofs.Checking.{refuse-first, accept-first}
 use Rattle.station.specs.declared.checks.Check.{Check}
 use Rattle.station.specs.Replies.{fault, refusal, checkOf, tableReply}
-use Rattle.station.proofs.Deciding.{refuse-at, refuse-none}
 use Rattle.station.proofs.checks.table_reply.Statement.{statement}
 use Rattle.station.proofs.checks.table_reply.Tie as tie
 
@@ -30,10 +31,10 @@ cast-t14 c = search needs
 -- the answer of a check that found a place at fault, and of one that found none
 module _ (check : Check) (n r : List ℤ) (k : ℕ) (p : k ≡ first 256 (fault check n r)) where
   found : k < 256 → checkOf check n r ≡ Refused (refusal check k)
-  found l = refuse-at 256 (fault check n r) (refusal check) k p l
+  found l = refuse-first 256 (fault check n r) (refusal check) k p l
 
   clear : 256 ≤ k → checkOf check n r ≡ Accepted
-  clear l = refuse-none 256 (fault check n r) (refusal check) k p l
+  clear l = accept-first 256 (fault check n r) (refusal check) (omega (arith, p))
 
 returns : tie.Need-returns
 unfolding tableReply

@@ -7,8 +7,9 @@ use mir.Syntax.{w64}
 use mir.Val.{toZ, ofZ}
 use Rattle.exact.specs.Circle.{modulo}
 use Rattle.exact.proofs.Bound.{bounded, bounds, fits-in, abs-in, read}
+use Rattle.exact.proofs.Circles.{modulo-size}
 use Rattle.station.specs.Means.{centred}
-use Rattle.station.proofs.Figures.{told, twice-above, modulo-size}
+use Rattle.station.proofs.Figures.{told, twice-above}
 use Rattle.station.proofs.pair.centred.Statement.{statement}
 use Rattle.station.proofs.pair.centred.Tie as tie
 

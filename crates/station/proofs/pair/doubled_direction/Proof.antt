@@ -4,10 +4,10 @@ use borrow.Author.Needs.{needs}
 use lib.IntN.{ℤ, pos, _+ℤ_, _-ℤ_, _*ℤ_}
 use mir.Syntax.{w64}
 use mir.Val.{toZ, ofZ}
-use Rattle.exact.specs.Circle.{modulo}
+use Rattle.exact.specs.Circle.{C, modulo}
 use Rattle.exact.proofs.Bound.{Bounded, bounded, bounds, fits-in, read}
 use Rattle.station.specs.Table.{slot}
-use Rattle.station.specs.Means.{C, L, s, g}
+use Rattle.station.specs.Means.{L, s, g}
 use Rattle.station.proofs.Figures.{told, s-size}
 use Rattle.station.proofs.pair.doubled_direction.Statement.{statement}
 use Rattle.station.proofs.pair.doubled_direction.Tie as tie
