@@ -1,0 +1,2 @@
+// The network file: its lines, its numbers, and numbers written for the listing.
+pub mod line;
