@@ -1,2 +1,3 @@
 pub mod Splitting
 pub mod Numerals
+pub mod Writing
