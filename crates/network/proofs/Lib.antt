@@ -1,3 +1,4 @@
 pub mod Splitting
 pub mod Numerals
 pub mod Writing
+pub mod ReadingBack
