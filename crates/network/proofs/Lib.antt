@@ -1,3 +1,4 @@
+pub mod Parting
 pub mod Splitting
 pub mod Numerals
 pub mod Writing

@@ -1,3 +1,4 @@
+pub mod Parts
 pub mod Lines
 pub mod Numbers
 pub mod Decimal

@@ -1,4 +1,5 @@
-// The network file: its lines, its numbers, and numbers written for the listing.
+// The network file: its lines, their fields, its numbers, and numbers written for the listing.
 mod decimal;
+mod find;
 pub mod line;
 pub mod number;

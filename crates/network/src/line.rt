@@ -1,6 +1,7 @@
 // The lines of a file, each ended by LF. Any start is allowed, and no length is too long.
 ghost use mathlib.Core.Path.{_≡_};
-ghost use Rattle.network.specs.Lines.{lfFrom, lineAt, statusAt};
+ghost use Rattle.network.specs.Lines.{lineAt, statusAt};
+use crate::find;
 
 const LF: u8 = 10;
 
@@ -14,25 +15,11 @@ pub enum LineStatus {
     LfMissing,
 }
 
-// Where the first LF at or after `start` stands; the end, where there is none (`start` itself, where that is past the end).
-fn lf_from(file: &[u8], start: usize) -> usize
-    ensures { λ r. ⌜ r ≡ lfFrom (now (file .entry)) start ⌝ }
-{
-    let mut i = start;
-    while i < file.len() {
-        if file[i] == LF {
-            return i;
-        }
-        i += 1;
-    }
-    i
-}
-
 // The line that starts at `start`, as the caller's own bytes, without its LF. Empty where `line_status` does not say `Whole`.
 pub fn line<'a>(file: &'a [u8], start: usize) -> &'a [u8]
     ensures { λ r. ⌜ now r ≡ lineAt (now (file .entry)) start ⌝ }
 {
-    let end = lf_from(file, start);
+    let end = find::place_from(file, LF, start);
     if end < file.len() {
         &file[start..end]
     } else {
@@ -47,7 +34,7 @@ pub fn line_status(file: &[u8], start: usize) -> LineStatus
     if file.len() <= start {
         return LineStatus::NoneLeft;
     }
-    let end = lf_from(file, start);
+    let end = find::place_from(file, LF, start);
     if end < file.len() {
         LineStatus::Whole
     } else {
