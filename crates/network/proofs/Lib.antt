@@ -4,4 +4,5 @@ pub mod Fielding
 pub mod Numerals
 pub mod Writing
 pub mod ReadingBack
+pub mod Recording
 pub mod Figures
