@@ -4,5 +4,6 @@ mod field;
 mod find;
 pub mod line;
 pub mod number;
+mod range;
 mod record;
 mod scan;
