@@ -10,7 +10,7 @@ use Rattle.network.specs.Fields.{fieldsOf, fieldAt, letterOf}
 use Rattle.network.specs.Numbers.{readDigits, unsignedOf, plus, minus, numberOf}
 use Rattle.network.specs.Records.{with, directionLine, anglesLine, sidesLine, conditionLine, angleLine, fixedLine, sideLine, lineOf, recordOf}
 use Rattle.network.specs.Ranges.{outside, directionFault, targetFault, astray, angleFault, fixedFault, sideFault, termFault}
-use Rattle.network.specs.Scan.{suits, outOfTurn, noTerms, oneTooMany, directionReply, anglesReply, termReply, lineReply, counted, endFault, endReply, scanned, scanReply}
+use Rattle.network.specs.Scan.{suits, outOfTurn, oneTooMany, directionReply, anglesReply, sidesReply, termReply, lineReply, counted, endFault, endReply, scanned, scanReply}
 
 -- Figure 3's file is accepted
 -- D 1 216000000 1|D 2 216003000 1|D 3 215997000 1|C A 648000000|P 0 1|P 0 2|F 216000000|C A 648000000|P 0 2|P 0 3|F 216000000|
@@ -185,7 +185,7 @@ pub figures :
     × (scanReply fixedLength ≡ Accepted)
     × (scanReply fixedElsewhere ≡ Refused (OutOfRange 3))
 unfolding
-    scanReply scanned endReply endFault counted lineReply termReply anglesReply directionReply oneTooMany noTerms outOfTurn suits
+    scanReply scanned endReply endFault counted lineReply termReply anglesReply sidesReply directionReply oneTooMany outOfTurn suits
     termFault sideFault fixedFault angleFault astray targetFault directionFault outside
     recordOf lineOf sideLine fixedLine angleLine conditionLine sidesLine anglesLine directionLine with
     letterOf fieldAt fieldsOf parted onFirst numberOf minus plus unsignedOf readDigits

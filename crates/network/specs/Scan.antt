@@ -1,7 +1,7 @@
 -- Refusals 1 to 3 of a network file: "File length comes first. Then lines in order; in a line 1, then 2, then 3."
 use mathlib.Core.Bool.{Bool, cond, false, not, _||_, _&&_}
 use mathlib.Core.List.{List, [], _∷_}
-use Prim.Native.Nat.{ℕ, suc, _+_}
+use Prim.Native.Nat.{ℕ, suc, _+_, _≤_}
 use lib.Dec.{eqb, ltb, leb}
 use lib.IntN.{ℤ, pos}
 use lib.ListN.{length}
@@ -32,11 +32,8 @@ unfoldable pub outOfTurn : ℕ → ℤ → Bool
 outOfTurn m number = leb 64 m || outside (pos (m + 1)) (pos (m + 1)) number
 
 -- "Conditions n: 1 to 24"; "A condition found without terms [..] is 2 at the line that shows it (the next C [..])"
-unfoldable pub noTerms : Counts → Bool
-noTerms c = ltb 0 (c .n) && eqb (c .terms) 0
-
-unfoldable pub oneTooMany : Counts → Bool
-oneTooMany c = leb 24 (c .n) || noTerms c
+unfoldable pub oneTooMany : ℕ → ℕ → Bool
+oneTooMany n terms = leb 24 n || (ltb 0 n && eqb terms 0)
 
 -- ---- one line: what it says, at its place, after what has been counted
 unfoldable pub directionReply : ℕ → Counts → ℤ → ℤ → ℤ → Reply
@@ -47,7 +44,10 @@ directionReply place c number direction q =
     andThen refuseIf (directionFault direction q) (OutOfRange place))
 
 unfoldable pub anglesReply : ℕ → Counts → ℤ → Reply
-anglesReply place c target = refuseIf (oneTooMany c) (Count place) andThen refuseIf (targetFault target) (OutOfRange place)
+anglesReply place c target = refuseIf (oneTooMany (c .n) (c .terms)) (Count place) andThen refuseIf (targetFault target) (OutOfRange place)
+
+unfoldable pub sidesReply : ℕ → Counts → Reply
+sidesReply place c = refuseIf (oneTooMany (c .n) (c .terms)) (Count place)
 
 unfoldable pub termReply : ℕ → Counts → ℕ → ℤ → ℤ → ℤ → ℤ → Reply
 termReply place c letter value d i k =
@@ -59,7 +59,7 @@ termReply place c letter value d i k =
 unfoldable pub lineReply : ℕ → Counts → Record → Reply
 lineReply place c (Direction number direction q) = directionReply place c number direction q
 lineReply place c (Angles target) = anglesReply place c target
-lineReply place c Sides = refuseIf (oneTooMany c) (Count place)
+lineReply place c Sides = sidesReply place c
 lineReply place c (Term letter value d i k) = termReply place c letter value d i k
 lineReply place c Unreadable = Refused (Malformed place)
 
@@ -76,9 +76,8 @@ counted c Unreadable = c
 unfoldable pub endFault : Counts → Bool
 endFault c = eqb (c .m) 0 || (eqb (c .n) 0 || (ltb (c .m) (c .n) || eqb (c .terms) 0))
 
--- "A last line without LF is 1"
-unfoldable pub endReply : ℕ → Counts → List ℕ → Reply
-endReply place c rest = refuseIf (ltb 0 (length rest)) (Malformed place) andThen refuseIf (endFault c) (Count 0)
+unfoldable pub endReply : Counts → Reply
+endReply c = refuseIf (endFault c) (Count 0)
 
 -- ---- the file
 abbrev pub ifLast : List (List ℕ) → Reply → Reply → Reply
@@ -90,8 +89,15 @@ unfoldable pub scanned : ℕ → Counts → List (List ℕ) → Reply
 scanned place c [] = Accepted
 scanned place c (part ∷ parts) =
     ifLast parts
-    (endReply place c part)
+    -- "A last line without LF is 1"
+    (refuseIf (ltb 0 (length part)) (Malformed place) andThen endReply c)
     (lineReply place c (recordOf part) andThen scanned (suc place) (counted c (recordOf part)) parts)
 
 unfoldable pub scanReply : List ℕ → Reply
 scanReply file = refuseIf (ltb 65535 (length file)) (Count 0) andThen scanned 1 none (parted LF ([] ∷ []) file)
+
+-- ---- counters that no file can pass, for the steps on them
+pub record Low (c : Counts) : Type 0 where
+  pub m : c .m ≤ 65536
+  pub n : c .n ≤ 65536
+  pub terms : c .terms ≤ 65536
