@@ -5,4 +5,6 @@ pub mod Numerals
 pub mod Writing
 pub mod ReadingBack
 pub mod Recording
+pub mod Scanning
+pub mod Unique
 pub mod Figures

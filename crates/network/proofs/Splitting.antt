@@ -1,7 +1,7 @@
 -- Laws of the line reader: what the end of the search for an LF says, and how the list of all lines goes with the reader. Assumes nothing.
 --   line-whole, line-none                          the line, by the search's end
 --   status-whole, status-missing, status-none      the status, by the search's end
---   whole-within, missing-past, none-past          the search's end, by the status
+--   whole-within, missing-past, none-past          the search's end, by the status; missing-within: its start
 --   line-next                                      the LF stands right after the line, so the next line starts one further
 --   lines-whole, lines-rest, lines-end             the list of lines from a start: the line there and those after its LF, or no line
 use mathlib.Core.Path.{_≡_, refl, ap}
@@ -69,6 +69,10 @@ by-missing true true e = absurd (omega (arith, ap ordinal e))
 by-missing true false e = refl
 by-missing false b e = absurd (omega (arith, ap ordinal e))
 
+by-left : (a b : Bool) → cond a (cond b Whole LfMissing) NoneLeft ≡ LfMissing → a ≡ true
+by-left true b e = refl
+by-left false b e = absurd (omega (arith, ap ordinal e))
+
 by-none : (a b : Bool) → cond a (cond b Whole LfMissing) NoneLeft ≡ NoneLeft → a ≡ false
 by-none true true e = absurd (omega (arith, ap ordinal e))
 by-none true false e = absurd (omega (arith, ap ordinal e))
@@ -88,6 +92,10 @@ module _ (s : List ℕ) (i : ℕ) where
   pub missing-past : statusAt s i ≡ LfMissing → length s ≤ placeFrom LF s i
   unfolding statusAt
   missing-past e = ltb-false (placeFrom LF s i) (length s) (by-missing within ended e)
+
+  pub missing-within : statusAt s i ≡ LfMissing → i < length s
+  unfolding statusAt
+  missing-within e = ltb-true i (length s) (by-left within ended e)
 
   pub none-past : statusAt s i ≡ NoneLeft → length s ≤ i
   unfolding statusAt

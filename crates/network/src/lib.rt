@@ -6,4 +6,4 @@ pub mod line;
 pub mod number;
 mod range;
 mod record;
-mod scan;
+pub mod scan;

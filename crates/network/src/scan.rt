@@ -229,3 +229,37 @@ fn end_reply(c: Counts) -> Reply
     }
     Reply::Accepted
 }
+
+// Refusals 1 to 3 of a whole file: its length, then its lines in order, then the end.
+pub fn scan(file: &[u8]) -> Reply
+    ensures { λ r. ⌜ r ≡ scanReply (now (file .entry)) ⌝ }
+{
+    if MOST_BYTES < file.len() {
+        return Reply::Refused(Refusal::Count(0));
+    }
+    let mut start: usize = 0;
+    let mut place: u64 = 1;
+    let mut counts = Counts {
+        m: 0,
+        n: 0,
+        terms: 0,
+        heading: 0,
+    };
+    loop {
+        let status = line::line_status(file, start);
+        match status {
+            LineStatus::NoneLeft => return end_reply(counts),
+            LineStatus::LfMissing => return Reply::Refused(Refusal::Malformed(place)),
+            LineStatus::Whole => {}
+        }
+        let text = line::line(file, start);
+        let said = record::of(text);
+        let checked = line_reply(place, counts, said);
+        if let Reply::Refused(why) = checked {
+            return Reply::Refused(why);
+        }
+        counts = counted(counts, said);
+        start = start + text.len() + 1;
+        place += 1;
+    }
+}
