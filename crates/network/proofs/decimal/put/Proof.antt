@@ -43,7 +43,7 @@ put-digits-requires : tie.Need-put-digits-requires
 put-digits-requires c κs = let s = c .before .before .before .before in simp length-set (omega (arith, s .pre, ap length (below (c .before))))
 
 same-length : tie.Need-same-length
-same-length c = let a = c .before .before .before .before .before .before .before .args in c .before .before .put-digits .kept .0 ∙ length-set (now (a .out)) (a .at) 45
+same-length c = let a = c .before .before .before .before .before .before .before .args in c .before .before .put-digits .kept .0 ∙ length-set (now (a .out)) (a .at) _
 
 returns : tie.Need-returns
 returns c =
