@@ -4,7 +4,7 @@
 --   field-first                   the first of them
 --   field-next, field-none        a later one: among those after the tab, or there is none
 --   letter-one, letter-none       the letter of a field
-use mathlib.Core.Path.{_≡_, refl, sym, _∙_, ap}
+use mathlib.Core.Path.{_≡_, refl, ap}
 use mathlib.Core.Bool.{Bool, true, false}
 use mathlib.Core.List.{List, [], _∷_}
 use Prim.Native.Nat.{ℕ, zero, suc, _+_, _-_, _<_, _≤_}

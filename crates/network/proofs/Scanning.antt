@@ -2,21 +2,21 @@
 --   Passed, passed-more, passed-low      the counters never pass the count of lines
 --   scan-refused, scan-accepted                       from a whole line on: its own refusal, or the reply of what follows it
 --   scan-missing, scan-none                           from a last line without LF, and from the end
-use mathlib.Core.Path.{_≡_, refl, sym, _∙_, ap}
+use mathlib.Core.Path.{_≡_, refl, sym, _∙_}
 use mathlib.Core.Bool.{Bool, true, false, cond}
 use mathlib.Core.List.{List, [], _∷_}
 use Prim.Native.Nat.{ℕ, suc, _+_, _<_, _≤_}
 use native.Mathlib.Numerals.{add-one}
 use native.Mathlib.Omega.{arith}
-use borrow.Author.Tests.{lt-ltb, le-ltb}
+use borrow.Author.Tests.{lt-ltb}
 use lib.Dec.{eqb}
-use lib.ListN.{length, take, drop, drop-of-length-le, length-drop}
+use lib.ListN.{length, drop, drop-of-length-le, length-drop}
 use Rattle.reply.specs.declared.Refusal.{Refusal}
 use Rattle.reply.specs.declared.Refusal.the-variants.{Malformed}
 use Rattle.reply.specs.declared.Reply.{Reply}
 use Rattle.reply.specs.declared.Reply.the-variants.{Accepted, Refused}
 use Rattle.reply.specs.Checks.{_andThen_}
-use Rattle.network.specs.Parts.{before, placeFrom, onFirst, parted}
+use Rattle.network.specs.Parts.{placeFrom, onFirst, parted}
 use Rattle.network.specs.Lines.{LF, lineAt}
 use Rattle.network.specs.Records.{recordOf}
 use Rattle.network.specs.Scan.{Low, lineReply, counted, endReply, ifLast, scanned}

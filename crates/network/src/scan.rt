@@ -1,7 +1,8 @@
 // The scan over a file's lines, with counters only: refusals 1 to 3.
 ghost use mathlib.Core.Path.{_≡_};
 ghost use Prim.Native.Nat.{_≤_};
-ghost use Rattle.network.specs.Scan.{Low, suits, outOfTurn, oneTooMany, directionReply, anglesReply, sidesReply, termReply, lineReply, counted, endFault, endReply, scanReply};
+ghost use Rattle.network.specs.Scan.{Low, suits, outOfTurn, oneTooMany, directionReply, anglesReply, sidesReply, termReply};
+ghost use Rattle.network.specs.Scan.{lineReply, counted, endFault, endReply, scanReply};
 use crate::line;
 use crate::line::LineStatus;
 use crate::range;

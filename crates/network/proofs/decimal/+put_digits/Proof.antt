@@ -1,9 +1,8 @@
-use Prim.Native.Nat.{ℕ, _+_, _<_, _≤_}
+-- `network::decimal::put_digits` meets its contract: the digits of n / 10 first, then the last one. Assumes nothing.
+use Prim.Native.Nat.{ℕ, _<_}
 use borrow.Author.Needs.{needs}
 use native.Mathlib.Omega.{arith}
-use mathlib.Core.Path.{_≡_, refl, sym, _∙_, ap}
 use denote.Ref.{now}
-use lib.ListN.{length, length-set}
 use Rattle.network.proofs.Writing.{length-small, length-large, put-small, put-large}
 use borrow.Fn.Kinds.{In}
 use borrow.Fn.PlainCycle.{Measures, is, falls, and}

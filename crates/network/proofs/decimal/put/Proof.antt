@@ -1,14 +1,13 @@
 -- `network::decimal::put` meets its contract: the minus where the number is below 0, then the digits of its size. Assumes nothing.
 use mathlib.Core.Path.{_≡_, refl, sym, _∙_, ap}
-use mathlib.Core.List.{List, _∷_}
-use Prim.Native.Nat.{ℕ, suc, _+_}
+use mathlib.Core.List.{_∷_}
+use Prim.Native.Nat.{ℕ}
 use native.Mathlib.Numerals.{add-one}
 use native.Mathlib.Omega.{arith}
 use borrow.Author.Needs.{needs}
 use denote.Ref.{now}
 use lib.IntN.{natAbs}
-use lib.ListN.{length, set, length-set}
-use lib.Seq.{sets}
+use lib.ListN.{length, length-set}
 use Rattle.exact.proofs.Bound.{read}
 use Rattle.exact.proofs.Order.{lt-true, lt-false}
 use Rattle.network.specs.Decimal.{digitsOf, written}
@@ -43,7 +42,9 @@ put-digits-requires : tie.Need-put-digits-requires
 put-digits-requires c κs = let s = c .before .before .before .before in simp length-set (omega (arith, s .pre, ap length (below (c .before))))
 
 same-length : tie.Need-same-length
-same-length c = let a = c .before .before .before .before .before .before .before .args in c .before .before .put-digits .kept .0 ∙ length-set (now (a .out)) (a .at) _
+same-length c =
+    let a = c .before .before .before .before .before .before .before .args in
+    c .before .before .put-digits .kept .0 ∙ length-set (now (a .out)) (a .at) _
 
 returns : tie.Need-returns
 returns c =

@@ -1,5 +1,4 @@
 -- `network::field::letter` meets its contract. Assumes nothing.
-use native.Mathlib.Omega.{arith}
 use borrow.Author.Needs.{needs}
 use denote.Ref.{now}
 use Rattle.network.proofs.Fielding.{letter-one, letter-none}

@@ -1,5 +1,4 @@
 -- `network::number::minus_of` meets its contract. Assumes nothing.
-use mathlib.Core.Path.{_≡_}
 use borrow.Author.Needs.{needs}
 use Rattle.network.proofs.Numerals.{small-fits, small-of, minus-fits, minus-zero, minus-whole, minus-none}
 use Rattle.network.proofs.number.minus_of.Statement.{statement}

@@ -1,5 +1,4 @@
 -- `network::number::plus_of` meets its contract. Assumes nothing.
-use mathlib.Core.Path.{_≡_}
 use borrow.Author.Needs.{needs}
 use Rattle.network.proofs.Numerals.{small-fits, small-of, plus-whole, plus-none}
 use Rattle.network.proofs.number.plus_of.Statement.{statement}

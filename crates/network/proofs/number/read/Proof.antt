@@ -1,5 +1,5 @@
 -- `network::number::read` meets its contract. Assumes nothing.
-use mathlib.Core.Path.{_≡_, _∙_, ap}
+use mathlib.Core.Path.{_∙_, ap}
 use borrow.Author.Needs.{needs}
 use denote.Ref.{now}
 use Rattle.network.specs.Numbers.{plus, minus, unsignedOf}

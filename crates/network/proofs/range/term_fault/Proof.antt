@@ -1,5 +1,5 @@
 -- `network::range::term_fault` meets its contract, letter by letter. Assumes nothing.
-use mathlib.Core.Path.{_≡_, _∙_}
+use mathlib.Core.Path.{_∙_}
 use borrow.Author.Needs.{needs}
 use borrow.Author.Tests.{eq-eqb, ne-eqb}
 use mir.ValLaws.{toZ-ofZ}

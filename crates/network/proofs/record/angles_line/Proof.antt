@@ -7,6 +7,8 @@ use borrow.Author.Needs.{needs}
 use denote.Ref.{now}
 use lib.Dec.{eqb}
 use lib.ListN.{length}
+use mir.Syntax.{w64}
+use mir.Val.{toZ, ofZ}
 use Rattle.exact.proofs.Bound.{read-at}
 use Rattle.network.specs.Fields.{fieldsOf, fieldAt}
 use Rattle.network.specs.Numbers.{numberOf}
@@ -31,8 +33,14 @@ line c = now (c .before .before .before .args .line)
 right : (c : tie.Else1) → eqb (length (fieldsOf (line c))) 3 ≡ true
 right c = count-right (line c) 3 (c .before .count .result) (c .before .count .ensures) (c .if1 .left)
 
-first : (c : tie.After-known-told) → numberOf (fieldAt (line (c .before .before .before .before)) 2) ≡ Value (c .before .target .given .0 .0)
+abbrev to-first : tie.After-known-told → tie.Else1
+to-first c = c .before .before .before .before
+
+first : (c : tie.After-known-told) → numberOf (fieldAt (line (to-first c)) 2) ≡ Value (c .before .target .given .0 .0)
 first c = sym (c .before .before .before .number-at .ensures) ∙ c .before .target .given .1
+
+first-read : (c : tie.After-known-told) → let z = c .before .target .given .0 .0 in toZ w64 (ofZ w64 z) ≡ z
+first-read c = read-at (c .before .target .given .0 .0) (c .known-told .given .0 .1)
 
 -- ---- the answers
 number-at-requires : tie.Need-number-at-requires
@@ -46,15 +54,15 @@ enum-told c = search needs
 
 returns-2 : tie.Need-returns-2
 unfolding with anglesLine
-returns-2 c = let e = c .before .before in rw (right (e .before), sym (e .number-at .ensures) ∙ c .enum-told .given .1)
+returns-2 c = let e = c .before .before in let p = e .before in rw (right p, sym (e .number-at .ensures) ∙ c .enum-told .given .1)
 
 returns-3 : tie.Need-returns-3
 unfolding with anglesLine
 returns-3 c =
     rw (
-      right (c .before .before .before .before),
+      right (to-first c),
       first c,
-      read-at (c .before .target .given .0 .0) (c .known-told .given .0 .1),
+      first-read c,
     )
 
 pub angles-line-spec : {M : Type 1} → statement M

@@ -41,18 +41,26 @@ angles-line-requires c κs = search needs
 
 returns : tie.Need-returns
 unfolding conditionLine
-returns c = rw (as-found (c .before .before), eq-eqb (found (c .before .before)) A (c .before .if1 .taken)) (c .angles-line .ensures)
+returns c =
+    let t = c .before in let e = t .before in
+    rw (as-found e, eq-eqb (found e) A (t .if1 .taken))
+    (c .angles-line .ensures)
 
 sides-line-requires : tie.Need-sides-line-requires
 sides-line-requires c κs = search needs
 
 returns-2 : tie.Need-returns-2
 unfolding conditionLine
-returns-2 c = rw (as-found (c .before .before .before), not-A (c .before .before), eq-eqb (found (c .before .before .before)) S (c .before .if2 .taken)) (c .sides-line .ensures)
+returns-2 c =
+    let t = c .before in let past-A = t .before in let e = past-A .before in
+    rw (as-found e, not-A past-A, eq-eqb (found e) S (t .if2 .taken))
+    (c .sides-line .ensures)
 
 returns-3 : tie.Need-returns-3
 unfolding conditionLine
-returns-3 c = rw (as-found (c .before .before), not-A (c .before), not-S c)
+returns-3 c =
+    let past-A = c .before in let e = past-A .before in
+    rw (as-found e, not-A past-A, not-S c)
 
 pub condition-line-spec : {M : Type 1} → statement M
 condition-line-spec =

@@ -1,5 +1,5 @@
 -- `network::record::number_at` meets its contract. Assumes nothing.
-use mathlib.Core.Path.{_≡_, _∙_, ap}
+use mathlib.Core.Path.{_∙_, ap}
 use borrow.Author.Needs.{needs}
 use Rattle.network.specs.Numbers.{numberOf}
 use Rattle.network.proofs.record.number_at.Statement.{statement}

@@ -53,46 +53,69 @@ direction-line-requires c κs = search needs
 
 returns : tie.Need-returns
 unfolding recordOf lineOf
-returns c = rw (as-found (c .before .before), eq-eqb (found (c .before .before)) D (c .before .if1 .taken)) (c .direction-line .ensures)
+returns c =
+    let t = c .before in let e = t .before in
+    rw (as-found e, eq-eqb (found e) D (t .if1 .taken))
+    (c .direction-line .ensures)
 
 condition-line-requires : tie.Need-condition-line-requires
 condition-line-requires c κs = search needs
 
 returns-2 : tie.Need-returns-2
 unfolding recordOf lineOf
-returns-2 c = rw (as-found (c .before .before .before), not-D (c .before .before), eq-eqb (found (c .before .before .before)) C (c .before .if2 .taken)) (c .condition-line .ensures)
+returns-2 c =
+    let t = c .before in let past-D = t .before in let e = past-D .before in
+    rw (as-found e, not-D past-D, eq-eqb (found e) C (t .if2 .taken))
+    (c .condition-line .ensures)
 
 angle-line-requires : tie.Need-angle-line-requires
 angle-line-requires c κs = search needs
 
 returns-3 : tie.Need-returns-3
 unfolding recordOf lineOf
-returns-3 c = rw (as-found (c .before .before .before .before), not-D (c .before .before .before), not-C (c .before .before), eq-eqb (found (c .before .before .before .before)) P (c .before .if3 .taken)) (c .angle-line .ensures)
+returns-3 c =
+    let t = c .before in let past-C = t .before in let past-D = past-C .before in let e = past-D .before in
+    rw (as-found e, not-D past-D, not-C past-C, eq-eqb (found e) P (t .if3 .taken))
+    (c .angle-line .ensures)
 
 fixed-line-requires : tie.Need-fixed-line-requires
 fixed-line-requires c κs = search needs
 
 returns-4 : tie.Need-returns-4
 unfolding recordOf lineOf
-returns-4 c = rw (as-found (c .before .before .before .before .before), not-D (c .before .before .before .before), not-C (c .before .before .before), not-P (c .before .before), eq-eqb (found (c .before .before .before .before .before)) F (c .before .if4 .taken)) (c .fixed-line .ensures)
+returns-4 c =
+    let t = c .before in let past-P = t .before in let past-C = past-P .before in let past-D = past-C .before in let e = past-D .before in
+    rw (as-found e, not-D past-D, not-C past-C, not-P past-P, eq-eqb (found e) F (t .if4 .taken))
+    (c .fixed-line .ensures)
 
 side-line-requires : tie.Need-side-line-requires
 side-line-requires c κs = search needs
 
 returns-5 : tie.Need-returns-5
 unfolding recordOf lineOf
-returns-5 c = rw (as-found (c .before .before .before .before .before .before), not-D (c .before .before .before .before .before), not-C (c .before .before .before .before), not-P (c .before .before .before), not-F (c .before .before), eq-eqb (found (c .before .before .before .before .before .before)) L (c .before .if5 .taken)) (c .side-line .ensures ∙ ap (sideLine (line (c .before .before .before .before .before .before))) (c .before .if5 .taken))
+returns-5 c =
+    let t = c .before in let past-F = t .before in let past-P = past-F .before in
+    let past-C = past-P .before in let past-D = past-C .before in let e = past-D .before in
+    rw (as-found e, not-D past-D, not-C past-C, not-P past-P, not-F past-F, eq-eqb (found e) L (t .if5 .taken))
+    (c .side-line .ensures ∙ ap (sideLine (line e)) (t .if5 .taken))
 
 side-line-requires-2 : tie.Need-side-line-requires-2
 side-line-requires-2 c κs = search needs
 
 returns-6 : tie.Need-returns-6
 unfolding recordOf lineOf
-returns-6 c = rw (as-found (c .before .before .before .before .before .before .before), not-D (c .before .before .before .before .before .before), not-C (c .before .before .before .before .before), not-P (c .before .before .before .before), not-F (c .before .before .before), not-L (c .before .before), eq-eqb (found (c .before .before .before .before .before .before .before)) R (c .before .if6 .taken)) (c .side-line2 .ensures ∙ ap (sideLine (line (c .before .before .before .before .before .before .before))) (c .before .if6 .taken))
+returns-6 c =
+    let t = c .before in let past-L = t .before in let past-F = past-L .before in
+    let past-P = past-F .before in let past-C = past-P .before in let past-D = past-C .before in let e = past-D .before in
+    rw (as-found e, not-D past-D, not-C past-C, not-P past-P, not-F past-F, not-L past-L, eq-eqb (found e) R (t .if6 .taken))
+    (c .side-line2 .ensures ∙ ap (sideLine (line e)) (t .if6 .taken))
 
 returns-7 : tie.Need-returns-7
 unfolding recordOf lineOf
-returns-7 c = rw (as-found (c .before .before .before .before .before .before), not-D (c .before .before .before .before .before), not-C (c .before .before .before .before), not-P (c .before .before .before), not-F (c .before .before), not-L (c .before), not-R c)
+returns-7 c =
+    let past-L = c .before in let past-F = past-L .before in let past-P = past-F .before in
+    let past-C = past-P .before in let past-D = past-C .before in let e = past-D .before in
+    rw (as-found e, not-D past-D, not-C past-C, not-P past-P, not-F past-F, not-L past-L, not-R c)
 
 pub of-spec : {M : Type 1} → statement M
 of-spec =

@@ -1,5 +1,4 @@
 -- `network::scan::counted` meets its contract, record by record. Assumes nothing.
-use mathlib.Core.Path.{_≡_}
 use borrow.Author.Needs.{needs}
 use Rattle.network.specs.Scan.{counted}
 use Rattle.network.proofs.scan.counted.Statement.{statement}

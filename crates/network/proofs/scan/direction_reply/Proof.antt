@@ -25,7 +25,8 @@ turn-test c = let f = c .before .before .fits .number in c .out-of-turn .ensures
 in-turn : (c : tie.Else2) → let a = c .before .before .before .args in outOfTurn (a .c .m) (a .number) ≡ false
 in-turn c = sym (turn-test (c .before)) ∙ c .if2 .left
 
-range-test : (c : tie.After-direction-fault) → let a = c .before .before .before .before .args in c .direction-fault .result ≡ directionFault (a .direction) (a .q)
+range-test : (c : tie.After-direction-fault) → let a = c .before .before .before .before .args in
+    c .direction-fault .result ≡ directionFault (a .direction) (a .q)
 range-test c =
     let s = c .before .before .before .before in let f = s .fits .direction in let g = s .fits .q in
     c .direction-fault .ensures ∙ simp toZ-ofZ

@@ -1,5 +1,5 @@
 -- `network::scan::line_reply` meets its contract, record by record. Assumes nothing.
-use mathlib.Core.Path.{_≡_, _∙_}
+use mathlib.Core.Path.{_∙_}
 use borrow.Author.Needs.{needs}
 use mir.ValLaws.{toZ-ofZ}
 use Rattle.exact.proofs.Bound.{fits-of-mag}

@@ -1,5 +1,4 @@
 -- `network::scan::one_too_many` meets its contract. Assumes nothing.
-use mathlib.Core.Path.{_≡_}
 use native.Mathlib.Omega.{arith}
 use borrow.Author.Tests.{lt-ltb, le-ltb, le-leb, lt-leb}
 use Rattle.network.specs.Scan.{oneTooMany}

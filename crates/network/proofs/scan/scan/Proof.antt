@@ -1,17 +1,16 @@
 -- `network::scan::scan` meets its contract: what is left of the file from `start` on has the reply of the whole. Assumes nothing.
 use mathlib.Core.Path.{_≡_, refl, sym, _∙_, ap}
 use mathlib.Core.List.{List}
-use Prim.Native.Nat.{ℕ, suc, _+_, _-_, _≤_, _<_}
+use Prim.Native.Nat.{ℕ, _+_, _-_, _≤_, _<_}
 use native.Mathlib.Omega.{arith}
 use borrow.Author.Needs.{needs}
 use borrow.Author.Tests.{lt-ltb, le-ltb}
 use denote.Ref.{now}
 use lib.ListN.{length}
 use Rattle.network.specs.Parts.{placeFrom}
-use Rattle.network.specs.Lines.{LF, lineAt, statusAt}
+use Rattle.network.specs.Lines.{LF, lineAt}
 use Rattle.network.specs.Records.{recordOf}
 use Rattle.network.specs.Scan.{Low, none, lineReply, counted, scanned, scanReply}
-use Rattle.network.specs.declared.line.LineStatus.the-variants.{Whole, NoneLeft, LfMissing}
 use Rattle.network.specs.declared.scan.Counts.{Counts}
 use Rattle.network.proofs.Splitting.{whole-within, missing-within, missing-past, none-past, line-next}
 use Rattle.network.proofs.Scanning.{Passed, passed-more, passed-low, left, scan-refused, scan-accepted, scan-missing, scan-none}

@@ -1,5 +1,5 @@
 -- `network::scan::sides_reply` meets its contract. Assumes nothing.
-use mathlib.Core.Path.{_≡_, sym, _∙_}
+use mathlib.Core.Path.{sym, _∙_}
 use borrow.Author.Needs.{needs}
 use Rattle.network.specs.Scan.{sidesReply}
 use Rattle.network.proofs.scan.sides_reply.Statement.{statement}

@@ -1,5 +1,4 @@
 -- `network::scan::suits` meets its contract, heading by heading. Assumes nothing.
-use mathlib.Core.Path.{_≡_}
 use borrow.Author.Tests.{eq-eqb, ne-eqb}
 use Rattle.network.specs.Records.{A, S, P, L}
 use Rattle.network.specs.Scan.{suits}
