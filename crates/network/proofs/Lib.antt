@@ -1,0 +1,10 @@
+pub mod Parting
+pub mod Splitting
+pub mod Fielding
+pub mod Numerals
+pub mod Writing
+pub mod ReadingBack
+pub mod Recording
+pub mod Scanning
+pub mod Unique
+pub mod Figures

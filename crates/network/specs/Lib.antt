@@ -1,0 +1,8 @@
+pub mod Parts
+pub mod Lines
+pub mod Fields
+pub mod Numbers
+pub mod Decimal
+pub mod Records
+pub mod Ranges
+pub mod Scan

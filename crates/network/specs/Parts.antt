@@ -1,0 +1,25 @@
+-- Where a byte first stands in a text, and the parts into which it parts the text.
+use mathlib.Core.Bool.{cond}
+use mathlib.Core.List.{List, [], _∷_}
+use Prim.Native.Nat.{ℕ, suc, _+_}
+use lib.ListN.{drop}
+use lib.Dec.{eqb}
+
+-- how many bytes stand before the first `byte`; all of them, where there is none
+unfoldable pub before : ℕ → List ℕ → ℕ
+before byte [] = 0
+before byte (b ∷ bs) = cond (eqb b byte) 0 (suc (before byte bs))
+
+-- where the first `byte` at or after `start` stands
+unfoldable pub placeFrom : ℕ → List ℕ → ℕ → ℕ
+placeFrom byte text start = start + before byte (drop start text)
+
+-- the parts of a text, each without the `byte` that ends it. What comes after the last such byte has the parts `end`, with the bytes in front of the
+-- first of them: with no part it is dropped, with one empty part it is a part of its own
+unfoldable pub onFirst : ℕ → List (List ℕ) → List (List ℕ)
+onFirst b [] = []
+onFirst b (l ∷ ls) = (b ∷ l) ∷ ls
+
+unfoldable pub parted : ℕ → List (List ℕ) → List ℕ → List (List ℕ)
+parted byte end [] = end
+parted byte end (b ∷ bs) = cond (eqb b byte) ([] ∷ parted byte end bs) (onFirst b (parted byte end bs))

@@ -1,0 +1,89 @@
+-- What one line of the network file says, by its letter and the count of its fields. Every number of the line must be well formed.
+use mathlib.Core.Bool.{cond}
+use mathlib.Core.List.{List}
+use Prim.Native.Nat.{ℕ}
+use lib.Dec.{eqb}
+use lib.IntN.{ℤ, pos}
+use lib.ListN.{length}
+use Rattle.network.specs.Fields.{fieldsOf, fieldAt, letterOf}
+use Rattle.network.specs.Numbers.{numberOf}
+use Rattle.network.specs.declared.number.Number.{Number}
+use Rattle.network.specs.declared.number.Number.the-variants.{Value, Malformed}
+use Rattle.network.specs.declared.record.Record.{Record}
+use Rattle.network.specs.declared.record.Record.the-variants.{Direction, Angles, Sides, Term, Unreadable}
+
+-- the letters' codes
+abbrev pub A : ℕ
+A = 65
+
+abbrev pub C : ℕ
+C = 67
+
+abbrev pub D : ℕ
+D = 68
+
+abbrev pub F : ℕ
+F = 70
+
+abbrev pub L : ℕ
+L = 76
+
+abbrev pub P : ℕ
+P = 80
+
+abbrev pub R : ℕ
+R = 82
+
+abbrev pub S : ℕ
+S = 83
+
+-- a record of what a number's text says; none, where the number is malformed
+unfoldable pub with : Number → (ℤ → Record) → Record
+with (Value z) record' = record' z
+with Malformed record' = Unreadable
+
+module _ (line : List ℕ) where
+  abbrev pub number : ℕ → (ℤ → Record) → Record
+  number k = with (numberOf (fieldAt line k))
+
+  -- a record of a line with so many fields
+  abbrev pub fields : ℕ → Record → Record
+  fields n record' = cond (eqb (length (fieldsOf line)) n) record' Unreadable
+
+  -- "D, number (1, 2, 3 and on), direction 0 to C-1, q"
+  unfoldable pub directionLine : Record
+  directionLine = fields 4 (number 1 (λ n. number 2 (λ x. number 3 (λ q. Direction n x q))))
+
+  -- "C A target, or C S"
+  unfoldable pub anglesLine : Record
+  anglesLine = fields 3 (number 2 Angles)
+
+  unfoldable pub sidesLine : Record
+  sidesLine = fields 2 Sides
+
+  unfoldable pub conditionLine : Record
+  conditionLine = cond (eqb (letterOf (fieldAt line 1)) A) anglesLine (cond (eqb (letterOf (fieldAt line 1)) S) sidesLine Unreadable)
+
+  -- "P i k"
+  unfoldable pub angleLine : Record
+  angleLine = fields 3 (number 1 (λ i. number 2 (λ k. Term P (pos 0) (pos 0) i k)))
+
+  -- "F fixed angle"
+  unfoldable pub fixedLine : Record
+  fixedLine = fields 2 (number 1 (λ x. Term F x (pos 0) (pos 0) (pos 0)))
+
+  -- "L or R, logarithm, d, i, k"
+  unfoldable pub sideLine : ℕ → Record
+  sideLine letter = fields 5 (number 1 (λ x. number 2 (λ d. number 3 (λ i. number 4 (λ k. Term letter x d i k)))))
+
+  unfoldable pub lineOf : ℕ → Record
+  lineOf letter =
+      cond (eqb letter D) directionLine
+      (cond (eqb letter C) conditionLine
+      (cond (eqb letter P) angleLine
+      (cond (eqb letter F) fixedLine
+      (cond (eqb letter L) (sideLine L)
+      (cond (eqb letter R) (sideLine R) Unreadable)))))
+
+  unfoldable pub recordOf : Record
+  recordOf = lineOf (letterOf (fieldAt line 0))

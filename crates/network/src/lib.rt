@@ -1,0 +1,9 @@
+// The network file: its lines, their fields, its numbers, and numbers written for the listing.
+mod decimal;
+mod field;
+mod find;
+pub mod line;
+pub mod number;
+mod range;
+mod record;
+pub mod scan;
