@@ -6,3 +6,4 @@ pub mod Writing
 pub mod ReadingBack
 pub mod Recording
 pub mod Figures
+pub mod Composing
