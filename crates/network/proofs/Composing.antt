@@ -3,10 +3,11 @@
 --   wrote-length, rewrote, read-signed  the buffer keeps its length; the same bytes; a signed number is what the machine reads
 --   then                                what was written, and what was written after it, are written together
 --   digits-most, written-most           a number takes at most 20 digits, and a minus
---   come, come-on, count-on, signed-on  how far the writing has come: a field takes at most 22 places
+--   come, come-within, come-on          how far the writing has come
+--   count-on, signed-on                 a field takes at most 22 places
 --   lines-more, lines-most              one more line; lines of at most so many bytes
 --   lines-none, lines-on, lines-room    the lines so far, one more, and room for it
---   v-most, k-most                      a V line takes at most 68 bytes, a K line at most 90
+--   adj-most, v-most, k-most            the ADJ line takes at most 48 bytes, a V line 68, a K line 90
 use mathlib.Core.Path.{_≡_, refl, sym, _∙_, ap, subst}
 use mathlib.Core.Bool.{Bool, true, false, cond}
 use mathlib.Core.List.{List, [], _∷_, _++_}
@@ -22,7 +23,7 @@ use mir.Syntax.{w64}
 use mir.Val.{SFits, toZ, ofZ}
 use Rattle.exact.proofs.Bound.{read}
 use Rattle.network.specs.Decimal.{digits, digitsOf, written}
-use Rattle.network.specs.Listing.{signedField, countField, lineEnd, vLine, kLine, linesOf, Wrote}
+use Rattle.network.specs.Listing.{signedField, countField, lineEnd, adjLine, vLine, kLine, linesOf, Wrote}
 
 pub sets-append : (xs ys l : List ℕ) (i : ℕ) → sets (sets l i xs) (i + length xs) ys ≡ sets l i (xs ++ ys)
 sets-append [] ys l i = rw (add-zero i)
@@ -69,8 +70,11 @@ pub record Come (a : List ℕ) (at k : ℕ) (b : List ℕ) (p : ℕ) : Type 0 wh
   pub far : p ≤ at + k
   pub kept : length b ≡ length a
 
+pub come-within : {a b : List ℕ} {at p : ℕ} {xs : List ℕ} (most : ℕ) → length xs ≤ most → Wrote a at xs b p → Come a at most b p
+come-within most small w = record { far = omega (arith, w .place, small); kept = wrote-length w }
+
 pub come : {a b : List ℕ} {at p : ℕ} {xs : List ℕ} → Wrote a at xs b p → Come a at (length xs) b p
-come w = record { far = omega (arith, w .place); kept = wrote-length w }
+come {xs = xs} w = come-within (length xs) (omega arith) w
 
 pub come-on :
     {a b c : List ℕ} {at k p q : ℕ} {xs : List ℕ} (most : ℕ) → Come a at k b p → length xs ≤ most → Wrote b p xs c q → Come a at (k + most) c q
@@ -108,6 +112,11 @@ pub lines-room :
     {a b : List ℕ} {at p : ℕ} (n i most : ℕ) (line : ℕ → List ℕ) → ((j : ℕ) → length (line j) ≤ most) → at + n * most ≤ length a → i < n →
     Wrote a at (linesOf i line) b p → p + most ≤ length b
 lines-room n i most line small room h w = omega (arith, room, w .place, wrote-length w, lines-most i most line small, mul-le-mul-right most h, suc-mul i most)
+
+pub adj-most : (m n : ℕ) → length (adjLine m n) ≤ 48
+adj-most m n =
+    omega
+    (arith, count-most m, count-most n, length-append (digitsOf m) (countField n ++ lineEnd), length-append (digitsOf n) lineEnd)
 
 pub v-most : (number : ℕ) (u adjusted : ℤ) → length (vLine number u adjusted) ≤ 68
 v-most number u adjusted =

@@ -3,7 +3,7 @@
 use mathlib.Core.Path.{_≡_}
 use mathlib.Core.List.{List, [], _∷_, _++_}
 use Prim.Native.Nat.{ℕ, zero, suc, _+_}
-use lib.ListN.{length}
+use lib.ListN.{length, getD}
 use lib.Seq.{sets}
 use lib.IntN.{ℤ, pos}
 use Rattle.network.specs.Decimal.{digitsOf, written}
@@ -40,10 +40,22 @@ unfoldable pub linesOf : ℕ → (ℕ → List ℕ) → List ℕ
 linesOf zero line = []
 linesOf (suc n) line = linesOf n line ++ line n
 
--- the whole listing: the numbers at their places, counted from 0; lines count from 1
-unfoldable pub acceptedListing : (m n : ℕ) (u adjusted k r q : ℕ → ℤ) → List ℕ
-acceptedListing m n u adjusted k r q =
-    adjLine m n ++ (linesOf m (λ i. vLine (i + 1) (u i) (adjusted i)) ++ linesOf n (λ j. kLine (j + 1) (k j) (r j) (q j)))
+-- line i + 1 of each kind, by the numbers at place i of their lists
+abbrev pub vLineOf : (u adjusted : List ℤ) → ℕ → List ℕ
+vLineOf u adjusted i = vLine (i + 1) (getD u i (pos 0)) (getD adjusted i (pos 0))
+
+abbrev pub kLineOf : (k r q : List ℤ) → ℕ → List ℕ
+kLineOf k r q j = kLine (j + 1) (getD k j (pos 0)) (getD r j (pos 0)) (getD q j (pos 0))
+
+abbrev pub vLines : (m : ℕ) (u adjusted : List ℤ) → List ℕ
+vLines m u adjusted = linesOf m (vLineOf u adjusted)
+
+abbrev pub kLines : (n : ℕ) (k r q : List ℤ) → List ℕ
+kLines n k r q = linesOf n (kLineOf k r q)
+
+-- the whole listing of an accepted net
+abbrev pub acceptedListing : (m n : ℕ) (u adjusted k r q : List ℤ) → List ℕ
+acceptedListing m n u adjusted k r q = adjLine m n ++ (vLines m u adjusted ++ kLines n k r q)
 
 -- bytes written into a buffer from a place on, and the place after them
 pub record Wrote (before : List ℕ) (at : ℕ) (bytes after : List ℕ) (next : ℕ) : Type 0 where

@@ -4,7 +4,7 @@ ghost use mathlib.Core.List.{List, [], _∷_};
 ghost use Prim.Native.Nat.{_+_, _*_, _≤_};
 ghost use lib.ListN.{length, getD};
 ghost use lib.IntN.{pos};
-ghost use Rattle.network.specs.Listing.{signedField, countField, adjLine, vLine, kLine, refusedLine, linesOf, acceptedListing, Wrote};
+ghost use Rattle.network.specs.Listing.{signedField, countField, adjLine, vLine, kLine, refusedLine, vLines, kLines, acceptedListing, Wrote};
 use crate::decimal;
 
 const TAB: u8 = 9;
@@ -85,7 +85,7 @@ fn put_adj(out: &mut [u8], at: usize, m: u64, n: u64) -> usize
 }
 
 // REFUSED, number, place.
-fn put_refused(out: &mut [u8], at: usize, number: u64, place: u64) -> usize
+pub fn put_refused(out: &mut [u8], at: usize, number: u64, place: u64) -> usize
     requires { ⌜ at + 52 ≤ length (now out) ⌝ }
     ensures { λ r. ⌜ Wrote (now (out .entry)) at (refusedLine number place) (now (out .exit)) r ⌝ }
 {
@@ -102,7 +102,7 @@ fn put_vs(out: &mut [u8], at: usize, u: &[i64], adjusted: &[i64], m: usize) -> u
     requires { ⌜ at + m * 68 ≤ length (now out) ⌝ }
     requires { ⌜ m ≤ length (now u) ⌝ }
     requires { ⌜ m ≤ length (now adjusted) ⌝ }
-    ensures { λ r. ⌜ Wrote (now (out .entry)) at (linesOf m (λ i. vLine (i + 1) (getD (now (u .entry)) i (pos 0)) (getD (now (adjusted .entry)) i (pos 0)))) (now (out .exit)) r ⌝ }
+    ensures { λ r. ⌜ Wrote (now (out .entry)) at (vLines m (now (u .entry)) (now (adjusted .entry))) (now (out .exit)) r ⌝ }
 {
     let mut next = at;
     let mut i = 0;
@@ -123,7 +123,7 @@ fn put_ks(out: &mut [u8], at: usize, k: &[i64], r: &[i64], q: &[i64], n: usize) 
         λ p.
         ⌜
             Wrote (now (out .entry)) at
-                (linesOf n (λ j. kLine (j + 1) (getD (now (k .entry)) j (pos 0)) (getD (now (r .entry)) j (pos 0)) (getD (now (q .entry)) j (pos 0)))) (now (out .exit)) p
+                (kLines n (now (k .entry)) (now (r .entry)) (now (q .entry))) (now (out .exit)) p
         ⌝
     }
 {
@@ -134,4 +134,25 @@ fn put_ks(out: &mut [u8], at: usize, k: &[i64], r: &[i64], q: &[i64], n: usize) 
         j = j + 1;
     }
     next
+}
+
+// The listing of an accepted net, from the start of the buffer: at most 6,560 bytes for 64 directions and 24 conditions.
+pub fn put_accepted(out: &mut [u8], m: usize, n: usize, u: &[i64], adjusted: &[i64], k: &[i64], r: &[i64], q: &[i64]) -> usize
+    requires { ⌜ 48 + m * 68 + n * 90 ≤ length (now out) ⌝ }
+    requires { ⌜ m ≤ length (now u) ⌝ }
+    requires { ⌜ m ≤ length (now adjusted) ⌝ }
+    requires { ⌜ n ≤ length (now k) ⌝ }
+    requires { ⌜ n ≤ length (now r) ⌝ }
+    requires { ⌜ n ≤ length (now q) ⌝ }
+    ensures {
+        λ p.
+        ⌜
+            Wrote (now (out .entry)) 0 (acceptedListing m n (now (u .entry)) (now (adjusted .entry)) (now (k .entry)) (now (r .entry)) (now (q .entry)))
+                (now (out .exit)) p
+        ⌝
+    }
+{
+    let head = put_adj(out, 0, m as u64, n as u64);
+    let middle = put_vs(out, head, u, adjusted, m);
+    put_ks(out, middle, k, r, q, n)
 }

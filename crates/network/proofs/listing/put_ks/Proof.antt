@@ -8,20 +8,16 @@ use denote.Ref.{now}
 use lib.ListN.{length, getD}
 use lib.IntN.{ℤ, pos}
 use Rattle.exact.proofs.Bound.{read-at}
-use Rattle.network.specs.Listing.{kLine, linesOf, Wrote}
+use Rattle.network.specs.Listing.{kLine, kLineOf, linesOf, Wrote}
 use Rattle.network.proofs.Composing.{wrote-length, rewrote, lines-none, lines-on, lines-room, k-most}
 use Rattle.network.proofs.listing.put_ks.Statement.{statement}
 use Rattle.network.proofs.listing.put_ks.Tie as tie
-
--- the line of place i
-abbrev line : (k r q : List ℤ) → ℕ → List ℕ
-line k r q i = kLine (i + 1) (getD k i (pos 0)) (getD r i (pos 0)) (getD q i (pos 0))
 
 same-line : (n : ℕ) {k k′ r r′ q q′ : ℤ} → k ≡ k′ → r ≡ r′ → q ≡ q′ → kLine n k r q ≡ kLine n k′ r′ q′
 same-line n {k} {k′} {r} {r′} {q} {q′} f g h = ap₂ (λ (x y : ℤ). kLine n x y q) f g ∙ ap (λ (x : ℤ). kLine n k′ r′ x) h
 
 abbrev Inv-loop : tie.InvT-loop
-Inv-loop out₀ at k r q n next₀ j₀ out next j = (j ≤ n) × Wrote out₀ at (linesOf j (line k r q)) out next
+Inv-loop out₀ at k r q n next₀ j₀ out next j = (j ≤ n) × Wrote out₀ at (linesOf j (kLineOf k r q)) out next
 
 abbrev μ-loop : tie.MeasureT-loop
 μ-loop out₀ at k r q n next₀ j₀ out next j = n - j
@@ -64,7 +60,7 @@ loop-less c = search needs
 loop-again : tie.Need-loop-again Inv-loop μ-loop
 loop-again c =
     let p = c .before .before in let t = p .before .before .before .before .before in let l = t .before in let s = l .before .before in
-    (omega (arith, t .loop-test .taken), lines-on (l .loop .j) (line (now (s .args .k)) (now (s .args .r)) (now (s .args .q))) (l .loop .inv .1)
+    (omega (arith, t .loop-test .taken), lines-on (l .loop .j) (kLineOf (now (s .args .k)) (now (s .args .r)) (now (s .args .q))) (l .loop .inv .1)
     (rewrote
     (same-line
     (l .loop .j + 1)
@@ -81,7 +77,7 @@ returns c =
     let l = c .before in let s = l .before .before in
     subst
     (λ (k : ℕ).
-      Wrote (now (s .args .out)) (s .args .at) (linesOf k (line (now (s .args .k)) (now (s .args .r)) (now (s .args .q)))) (l .loop .out) (l .loop .next))
+      Wrote (now (s .args .out)) (s .args .at) (linesOf k (kLineOf (now (s .args .k)) (now (s .args .r)) (now (s .args .q)))) (l .loop .out) (l .loop .next))
     (omega (arith, l .loop .inv .0, c .loop-test .left))
     (l .loop .inv .1)
 

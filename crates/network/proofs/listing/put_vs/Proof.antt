@@ -8,17 +8,13 @@ use denote.Ref.{now}
 use lib.ListN.{length, getD}
 use lib.IntN.{ℤ, pos}
 use Rattle.exact.proofs.Bound.{read-at}
-use Rattle.network.specs.Listing.{vLine, linesOf, Wrote}
+use Rattle.network.specs.Listing.{vLine, vLineOf, linesOf, Wrote}
 use Rattle.network.proofs.Composing.{wrote-length, rewrote, lines-none, lines-on, lines-room, v-most}
 use Rattle.network.proofs.listing.put_vs.Statement.{statement}
 use Rattle.network.proofs.listing.put_vs.Tie as tie
 
--- the line of place i
-abbrev line : (u adjusted : List ℤ) → ℕ → List ℕ
-line u adjusted i = vLine (i + 1) (getD u i (pos 0)) (getD adjusted i (pos 0))
-
 abbrev Inv-loop : tie.InvT-loop
-Inv-loop out₀ at u adjusted m next₀ i₀ out next i = (i ≤ m) × Wrote out₀ at (linesOf i (line u adjusted)) out next
+Inv-loop out₀ at u adjusted m next₀ i₀ out next i = (i ≤ m) × Wrote out₀ at (linesOf i (vLineOf u adjusted)) out next
 
 abbrev μ-loop : tie.MeasureT-loop
 μ-loop out₀ at u adjusted m next₀ i₀ out next i = m - i
@@ -55,7 +51,7 @@ loop-less c = search needs
 loop-again : tie.Need-loop-again Inv-loop μ-loop
 loop-again c =
     let p = c .before .before in let t = p .before .before .before .before in let l = t .before in let s = l .before .before in
-    (omega (arith, t .loop-test .taken), lines-on (l .loop .i) (line (now (s .args .u)) (now (s .args .adjusted))) (l .loop .inv .1)
+    (omega (arith, t .loop-test .taken), lines-on (l .loop .i) (vLineOf (now (s .args .u)) (now (s .args .adjusted))) (l .loop .inv .1)
     (rewrote (ap₂ (vLine (l .loop .i + 1)) (read-at _ (p .before .before .put-v-arg2 .given)) (read-at _ (p .before .put-v-arg3 .given))) (p .put-v .ensures)))
 
 same-length : tie.Need-same-length Inv-loop μ-loop
@@ -65,7 +61,7 @@ returns : tie.Need-returns Inv-loop μ-loop
 returns c =
     let l = c .before in let s = l .before .before in
     subst
-    (λ (k : ℕ). Wrote (now (s .args .out)) (s .args .at) (linesOf k (line (now (s .args .u)) (now (s .args .adjusted)))) (l .loop .out) (l .loop .next))
+    (λ (k : ℕ). Wrote (now (s .args .out)) (s .args .at) (linesOf k (vLineOf (now (s .args .u)) (now (s .args .adjusted)))) (l .loop .out) (l .loop .next))
     (omega (arith, l .loop .inv .0, c .loop-test .left))
     (l .loop .inv .1)
 
