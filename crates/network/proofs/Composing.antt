@@ -8,7 +8,7 @@
 --   lines-more, lines-most              one more line; lines of at most so many bytes
 --   lines-none, lines-on, lines-room    the lines so far, one more, and room for it
 --   adj-most, v-most, k-most            the ADJ line takes at most 48 bytes, a V line 68, a K line 90
-use mathlib.Core.Path.{_≡_, refl, sym, _∙_, ap, subst}
+use mathlib.Core.Path.{_≡_, refl, _∙_, ap, subst}
 use mathlib.Core.Bool.{Bool, true, false, cond}
 use mathlib.Core.List.{List, [], _∷_, _++_}
 use Prim.Native.Nat.{ℕ, zero, suc, _+_, _*_, _/_, _%_, _≤_, _<_}
@@ -120,13 +120,26 @@ adj-most m n =
 
 pub v-most : (number : ℕ) (u adjusted : ℤ) → length (vLine number u adjusted) ≤ 68
 v-most number u adjusted =
-    omega
-    (arith, count-most number, written-most u, written-most adjusted, length-append (digitsOf number) (signedField u ++ (signedField adjusted ++ lineEnd)),
-    length-append (written u) (signedField adjusted ++ lineEnd), length-append (written adjusted) lineEnd)
+    omega (
+      arith,
+      count-most number,
+      written-most u,
+      written-most adjusted,
+      length-append (digitsOf number) (signedField u ++ (signedField adjusted ++ lineEnd)),
+      length-append (written u) (signedField adjusted ++ lineEnd),
+      length-append (written adjusted) lineEnd,
+    )
 
 pub k-most : (condition : ℕ) (k r q : ℤ) → length (kLine condition k r q) ≤ 90
 k-most condition k r q =
-    omega
-    (arith, count-most condition, written-most k, written-most r, written-most q,
-    length-append (digitsOf condition) (signedField k ++ (signedField r ++ (signedField q ++ lineEnd))),
-    length-append (written k) (signedField r ++ (signedField q ++ lineEnd)), length-append (written r) (signedField q ++ lineEnd), length-append (written q) lineEnd)
+    omega (
+      arith,
+      count-most condition,
+      written-most k,
+      written-most r,
+      written-most q,
+      length-append (digitsOf condition) (signedField k ++ (signedField r ++ (signedField q ++ lineEnd))),
+      length-append (written k) (signedField r ++ (signedField q ++ lineEnd)),
+      length-append (written r) (signedField q ++ lineEnd),
+      length-append (written q) lineEnd,
+    )

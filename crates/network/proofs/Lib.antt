@@ -7,3 +7,4 @@ pub mod ReadingBack
 pub mod Recording
 pub mod Figures
 pub mod Composing
+pub mod Listings

@@ -119,13 +119,11 @@ fn put_ks(out: &mut [u8], at: usize, k: &[i64], r: &[i64], q: &[i64], n: usize) 
     requires { ⌜ n ≤ length (now k) ⌝ }
     requires { ⌜ n ≤ length (now r) ⌝ }
     requires { ⌜ n ≤ length (now q) ⌝ }
-    ensures {
-        λ p.
+    ensures { λ p.
         ⌜
-            Wrote (now (out .entry)) at
-                (kLines n (now (k .entry)) (now (r .entry)) (now (q .entry))) (now (out .exit)) p
-        ⌝
-    }
+        Wrote (now (out .entry)) at
+        (kLines n (now (k .entry)) (now (r .entry)) (now (q .entry))) (now (out .exit)) p
+        ⌝ }
 {
     let mut next = at;
     let mut j = 0;
@@ -137,20 +135,27 @@ fn put_ks(out: &mut [u8], at: usize, k: &[i64], r: &[i64], q: &[i64], n: usize) 
 }
 
 // The listing of an accepted net, from the start of the buffer: at most 6,560 bytes for 64 directions and 24 conditions.
-pub fn put_accepted(out: &mut [u8], m: usize, n: usize, u: &[i64], adjusted: &[i64], k: &[i64], r: &[i64], q: &[i64]) -> usize
+pub fn put_accepted(
+    out: &mut [u8],
+    m: usize,
+    n: usize,
+    u: &[i64],
+    adjusted: &[i64],
+    k: &[i64],
+    r: &[i64],
+    q: &[i64],
+) -> usize
     requires { ⌜ 48 + m * 68 + n * 90 ≤ length (now out) ⌝ }
     requires { ⌜ m ≤ length (now u) ⌝ }
     requires { ⌜ m ≤ length (now adjusted) ⌝ }
     requires { ⌜ n ≤ length (now k) ⌝ }
     requires { ⌜ n ≤ length (now r) ⌝ }
     requires { ⌜ n ≤ length (now q) ⌝ }
-    ensures {
-        λ p.
+    ensures { λ p.
         ⌜
-            Wrote (now (out .entry)) 0 (acceptedListing m n (now (u .entry)) (now (adjusted .entry)) (now (k .entry)) (now (r .entry)) (now (q .entry)))
-                (now (out .exit)) p
-        ⌝
-    }
+        Wrote (now (out .entry)) 0 (acceptedListing m n (now (u .entry)) (now (adjusted .entry)) (now (k .entry)) (now (r .entry)) (now (q .entry)))
+        (now (out .exit)) p
+        ⌝ }
 {
     let head = put_adj(out, 0, m as u64, n as u64);
     let middle = put_vs(out, head, u, adjusted, m);

@@ -1,10 +1,9 @@
 -- `listing::put_accepted` meets its contract. Assumes nothing.
-use mathlib.Core.Path.{_≡_, _∙_}
-use Prim.Native.Nat.{_+_, _*_, _≤_}
+use mathlib.Core.Path.{_∙_}
+use Prim.Native.Nat.{_+_, _*_}
 use native.Mathlib.Omega.{arith}
 use borrow.Author.Needs.{needs}
 use denote.Ref.{now}
-use lib.ListN.{length}
 use Rattle.network.specs.Listing.{vLineOf}
 use Rattle.network.proofs.Composing.{Come, then, wrote-length, come-within, come-on, lines-most, adj-most, v-most}
 use Rattle.network.proofs.listing.put_accepted.Statement.{statement}

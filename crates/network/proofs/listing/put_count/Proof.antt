@@ -1,10 +1,7 @@
 -- `listing::put_count` meets its contract. Assumes nothing.
-use mathlib.Core.Path.{_≡_, _∙_}
-use Prim.Native.Nat.{_+_, _≤_}
+use mathlib.Core.Path.{_∙_}
 use native.Mathlib.Omega.{arith}
 use borrow.Author.Needs.{needs}
-use denote.Ref.{now}
-use lib.ListN.{length}
 use Rattle.network.specs.Decimal.{digitsOf}
 use Rattle.network.specs.Listing.{Wrote}
 use Rattle.network.proofs.Composing.{then, wrote-length, count-most}

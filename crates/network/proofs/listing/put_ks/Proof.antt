@@ -1,12 +1,10 @@
 -- `listing::put_ks` meets its contract. Assumes nothing.
-use mathlib.Core.Path.{_≡_, refl, _∙_, ap, ap₂, subst}
-use mathlib.Core.List.{List}
-use Prim.Native.Nat.{ℕ, suc, _+_, _*_, _-_, _≤_, _<_}
+use mathlib.Core.Path.{_≡_, _∙_, ap, ap₂, subst}
+use Prim.Native.Nat.{ℕ, _+_, _-_, _≤_}
 use native.Mathlib.Omega.{arith}
 use borrow.Author.Needs.{needs}
 use denote.Ref.{now}
-use lib.ListN.{length, getD}
-use lib.IntN.{ℤ, pos}
+use lib.IntN.{ℤ}
 use Rattle.exact.proofs.Bound.{read-at}
 use Rattle.network.specs.Listing.{kLine, kLineOf, linesOf, Wrote}
 use Rattle.network.proofs.Composing.{wrote-length, rewrote, lines-none, lines-on, lines-room, k-most}
@@ -59,15 +57,17 @@ loop-less c = search needs
 
 loop-again : tie.Need-loop-again Inv-loop μ-loop
 loop-again c =
-    let p = c .before .before in let t = p .before .before .before .before .before in let l = t .before in let s = l .before .before in
-    (omega (arith, t .loop-test .taken), lines-on (l .loop .j) (kLineOf (now (s .args .k)) (now (s .args .r)) (now (s .args .q))) (l .loop .inv .1)
-    (rewrote
-    (same-line
-    (l .loop .j + 1)
-    (read-at _ (p .before .before .before .put-k-arg2 .given))
-    (read-at _ (p .before .before .put-k-arg3 .given))
-    (read-at _ (p .before .put-k-arg4 .given)))
-    (p .put-k .ensures)))
+    let p = c .before .before in let t = p .before .before .before .before .before in let l = t .before in let s = l .before .before in (
+      omega (arith, t .loop-test .taken),
+      lines-on (l .loop .j) (kLineOf (now (s .args .k)) (now (s .args .r)) (now (s .args .q))) (l .loop .inv .1)
+          (rewrote
+          (same-line
+          (l .loop .j + 1)
+          (read-at _ (p .before .before .before .put-k-arg2 .given))
+          (read-at _ (p .before .before .put-k-arg3 .given))
+          (read-at _ (p .before .put-k-arg4 .given)))
+          (p .put-k .ensures)),
+    )
 
 same-length : tie.Need-same-length Inv-loop μ-loop
 same-length c = wrote-length (c .before .loop .inv .1)
@@ -77,7 +77,7 @@ returns c =
     let l = c .before in let s = l .before .before in
     subst
     (λ (k : ℕ).
-      Wrote (now (s .args .out)) (s .args .at) (linesOf k (kLineOf (now (s .args .k)) (now (s .args .r)) (now (s .args .q)))) (l .loop .out) (l .loop .next))
+    Wrote (now (s .args .out)) (s .args .at) (linesOf k (kLineOf (now (s .args .k)) (now (s .args .r)) (now (s .args .q)))) (l .loop .out) (l .loop .next))
     (omega (arith, l .loop .inv .0, c .loop-test .left))
     (l .loop .inv .1)
 

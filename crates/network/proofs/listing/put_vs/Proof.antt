@@ -1,12 +1,9 @@
 -- `listing::put_vs` meets its contract. Assumes nothing.
-use mathlib.Core.Path.{_≡_, refl, _∙_, ap₂, subst}
-use mathlib.Core.List.{List}
-use Prim.Native.Nat.{ℕ, suc, _+_, _*_, _-_, _≤_, _<_}
+use mathlib.Core.Path.{ap₂, subst}
+use Prim.Native.Nat.{ℕ, _+_, _-_, _≤_}
 use native.Mathlib.Omega.{arith}
 use borrow.Author.Needs.{needs}
 use denote.Ref.{now}
-use lib.ListN.{length, getD}
-use lib.IntN.{ℤ, pos}
 use Rattle.exact.proofs.Bound.{read-at}
 use Rattle.network.specs.Listing.{vLine, vLineOf, linesOf, Wrote}
 use Rattle.network.proofs.Composing.{wrote-length, rewrote, lines-none, lines-on, lines-room, v-most}
@@ -50,9 +47,11 @@ loop-less c = search needs
 
 loop-again : tie.Need-loop-again Inv-loop μ-loop
 loop-again c =
-    let p = c .before .before in let t = p .before .before .before .before in let l = t .before in let s = l .before .before in
-    (omega (arith, t .loop-test .taken), lines-on (l .loop .i) (vLineOf (now (s .args .u)) (now (s .args .adjusted))) (l .loop .inv .1)
-    (rewrote (ap₂ (vLine (l .loop .i + 1)) (read-at _ (p .before .before .put-v-arg2 .given)) (read-at _ (p .before .put-v-arg3 .given))) (p .put-v .ensures)))
+    let p = c .before .before in let t = p .before .before .before .before in let l = t .before in let s = l .before .before in (
+      omega (arith, t .loop-test .taken),
+      lines-on (l .loop .i) (vLineOf (now (s .args .u)) (now (s .args .adjusted))) (l .loop .inv .1)
+          (rewrote (ap₂ (vLine (l .loop .i + 1)) (read-at _ (p .before .before .put-v-arg2 .given)) (read-at _ (p .before .put-v-arg3 .given))) (p .put-v .ensures)),
+    )
 
 same-length : tie.Need-same-length Inv-loop μ-loop
 same-length c = wrote-length (c .before .loop .inv .1)
