@@ -8,3 +8,5 @@ pub mod Recording
 pub mod Scanning
 pub mod Unique
 pub mod Figures
+pub mod Composing
+pub mod Listings

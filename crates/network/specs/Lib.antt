@@ -6,3 +6,4 @@ pub mod Decimal
 pub mod Records
 pub mod Ranges
 pub mod Scan
+pub mod Listing

@@ -10,7 +10,7 @@ const ZERO: u8 = 48;
 const MINUS: u8 = 45;
 
 // The digits of n, from `at` on. Answers the place after them.
-fn put_digits(out: &mut [u8], at: usize, n: u64) -> usize
+pub fn put_digits(out: &mut [u8], at: usize, n: u64) -> usize
     requires { ⌜ at + length (digitsOf n) ≤ length (now out) ⌝ }
     ensures next { λ r. ⌜ r ≡ at + length (digitsOf n) ⌝ }
     ensures list { λ r. ⌜ now (out .exit) ≡ sets (now (out .entry)) at (digitsOf n) ⌝ }

@@ -3,6 +3,7 @@ mod decimal;
 mod field;
 mod find;
 pub mod line;
+mod listing;
 pub mod number;
 mod range;
 mod record;

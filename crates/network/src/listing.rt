@@ -1,0 +1,163 @@
+// The listing: ADJ, V and K lines, or one REFUSED line, written into a lent buffer.
+ghost use mathlib.Core.Path.{_≡_};
+ghost use mathlib.Core.List.{List, [], _∷_};
+ghost use Prim.Native.Nat.{_+_, _*_, _≤_};
+ghost use lib.ListN.{length, getD};
+ghost use lib.IntN.{pos};
+ghost use Rattle.network.specs.Listing.{signedField, countField, adjLine, vLine, kLine, refusedLine, vLines, kLines, acceptedListing, Wrote};
+use crate::decimal;
+
+const TAB: u8 = 9;
+
+const LF: u8 = 10;
+
+// One byte, from `at` on. Answers the place after it.
+fn put_byte(out: &mut [u8], at: usize, b: u8) -> usize
+    requires { ⌜ at + 1 ≤ length (now out) ⌝ }
+    ensures { λ r. ⌜ Wrote (now (out .entry)) at (b ∷ []) (now (out .exit)) r ⌝ }
+{
+    out[at] = b;
+    at + 1
+}
+
+// Three bytes of a word.
+fn put_three(out: &mut [u8], at: usize, a: u8, b: u8, c: u8) -> usize
+    requires { ⌜ at + 3 ≤ length (now out) ⌝ }
+    ensures { λ r. ⌜ Wrote (now (out .entry)) at (a ∷ b ∷ c ∷ []) (now (out .exit)) r ⌝ }
+{
+    let second = put_byte(out, at, a);
+    let third = put_byte(out, second, b);
+    put_byte(out, third, c)
+}
+
+// A tab and a signed number: at most 22 bytes.
+fn put_signed(out: &mut [u8], at: usize, z: i64) -> usize
+    requires { ⌜ at + 22 ≤ length (now out) ⌝ }
+    ensures { λ r. ⌜ Wrote (now (out .entry)) at (signedField z) (now (out .exit)) r ⌝ }
+{
+    let next = put_byte(out, at, TAB);
+    decimal::put(out, next, z)
+}
+
+// A tab and a count: at most 21 bytes.
+fn put_count(out: &mut [u8], at: usize, n: u64) -> usize
+    requires { ⌜ at + 22 ≤ length (now out) ⌝ }
+    ensures { λ r. ⌜ Wrote (now (out .entry)) at (countField n) (now (out .exit)) r ⌝ }
+{
+    let next = put_byte(out, at, TAB);
+    decimal::put_digits(out, next, n)
+}
+
+// V, number, u, adjusted.
+fn put_v(out: &mut [u8], at: usize, number: u64, u: i64, adjusted: i64) -> usize
+    requires { ⌜ at + 68 ≤ length (now out) ⌝ }
+    ensures { λ r. ⌜ Wrote (now (out .entry)) at (vLine number u adjusted) (now (out .exit)) r ⌝ }
+{
+    let head = put_byte(out, at, b'V');
+    let first = put_count(out, head, number);
+    let second = put_signed(out, first, u);
+    let third = put_signed(out, second, adjusted);
+    put_byte(out, third, LF)
+}
+
+// K, condition, K, R, Q.
+fn put_k(out: &mut [u8], at: usize, condition: u64, k: i64, r: i64, q: i64) -> usize
+    requires { ⌜ at + 90 ≤ length (now out) ⌝ }
+    ensures { λ p. ⌜ Wrote (now (out .entry)) at (kLine condition k r q) (now (out .exit)) p ⌝ }
+{
+    let head = put_byte(out, at, b'K');
+    let first = put_count(out, head, condition);
+    let second = put_signed(out, first, k);
+    let third = put_signed(out, second, r);
+    let fourth = put_signed(out, third, q);
+    put_byte(out, fourth, LF)
+}
+
+// ADJ, m, n.
+fn put_adj(out: &mut [u8], at: usize, m: u64, n: u64) -> usize
+    requires { ⌜ at + 48 ≤ length (now out) ⌝ }
+    ensures { λ r. ⌜ Wrote (now (out .entry)) at (adjLine m n) (now (out .exit)) r ⌝ }
+{
+    let head = put_three(out, at, b'A', b'D', b'J');
+    let first = put_count(out, head, m);
+    let second = put_count(out, first, n);
+    put_byte(out, second, LF)
+}
+
+// REFUSED, number, place.
+pub fn put_refused(out: &mut [u8], at: usize, number: u64, place: u64) -> usize
+    requires { ⌜ at + 52 ≤ length (now out) ⌝ }
+    ensures { λ r. ⌜ Wrote (now (out .entry)) at (refusedLine number place) (now (out .exit)) r ⌝ }
+{
+    let refu = put_three(out, at, b'R', b'E', b'F');
+    let used = put_three(out, refu, b'U', b'S', b'E');
+    let head = put_byte(out, used, b'D');
+    let first = put_count(out, head, number);
+    let second = put_count(out, first, place);
+    put_byte(out, second, LF)
+}
+
+// The V lines of m directions.
+fn put_vs(out: &mut [u8], at: usize, u: &[i64], adjusted: &[i64], m: usize) -> usize
+    requires { ⌜ at + m * 68 ≤ length (now out) ⌝ }
+    requires { ⌜ m ≤ length (now u) ⌝ }
+    requires { ⌜ m ≤ length (now adjusted) ⌝ }
+    ensures { λ r. ⌜ Wrote (now (out .entry)) at (vLines m (now (u .entry)) (now (adjusted .entry))) (now (out .exit)) r ⌝ }
+{
+    let mut next = at;
+    let mut i = 0;
+    while i < m {
+        next = put_v(out, next, (i as u64) + 1, u[i], adjusted[i]);
+        i = i + 1;
+    }
+    next
+}
+
+// The K lines of n conditions.
+fn put_ks(out: &mut [u8], at: usize, k: &[i64], r: &[i64], q: &[i64], n: usize) -> usize
+    requires { ⌜ at + n * 90 ≤ length (now out) ⌝ }
+    requires { ⌜ n ≤ length (now k) ⌝ }
+    requires { ⌜ n ≤ length (now r) ⌝ }
+    requires { ⌜ n ≤ length (now q) ⌝ }
+    ensures { λ p.
+        ⌜
+        Wrote (now (out .entry)) at
+        (kLines n (now (k .entry)) (now (r .entry)) (now (q .entry))) (now (out .exit)) p
+        ⌝ }
+{
+    let mut next = at;
+    let mut j = 0;
+    while j < n {
+        next = put_k(out, next, (j as u64) + 1, k[j], r[j], q[j]);
+        j = j + 1;
+    }
+    next
+}
+
+// The listing of an accepted net, from the start of the buffer: at most 6,560 bytes for 64 directions and 24 conditions.
+pub fn put_accepted(
+    out: &mut [u8],
+    m: usize,
+    n: usize,
+    u: &[i64],
+    adjusted: &[i64],
+    k: &[i64],
+    r: &[i64],
+    q: &[i64],
+) -> usize
+    requires { ⌜ 48 + m * 68 + n * 90 ≤ length (now out) ⌝ }
+    requires { ⌜ m ≤ length (now u) ⌝ }
+    requires { ⌜ m ≤ length (now adjusted) ⌝ }
+    requires { ⌜ n ≤ length (now k) ⌝ }
+    requires { ⌜ n ≤ length (now r) ⌝ }
+    requires { ⌜ n ≤ length (now q) ⌝ }
+    ensures { λ p.
+        ⌜
+        Wrote (now (out .entry)) 0 (acceptedListing m n (now (u .entry)) (now (adjusted .entry)) (now (k .entry)) (now (r .entry)) (now (q .entry)))
+        (now (out .exit)) p
+        ⌝ }
+{
+    let head = put_adj(out, 0, m as u64, n as u64);
+    let middle = put_vs(out, head, u, adjusted, m);
+    put_ks(out, middle, k, r, q, n)
+}
