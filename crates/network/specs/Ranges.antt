@@ -3,13 +3,9 @@ use mathlib.Core.Bool.{Bool, cond, not, _||_, _&&_}
 use Prim.Native.Nat.{ℕ}
 use lib.Dec.{eqb}
 use lib.IntN.{ℤ, pos, negℤ, _-ℤ_, _*ℤ_}
-use lib.Signed.{ltZ}
 use Rattle.exact.specs.Circle.{C}
+use Rattle.exact.specs.Outside.{outside}
 use Rattle.network.specs.Records.{F, P}
-
--- z is not from low to high
-unfoldable pub outside : ℤ → ℤ → ℤ → Bool
-outside low high z = ltZ z low || ltZ high z
 
 -- a = b
 abbrev pub same : ℤ → ℤ → Bool

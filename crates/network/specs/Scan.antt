@@ -12,7 +12,8 @@ use Rattle.reply.specs.Checks.{refuseIf, _andThen_}
 use Rattle.network.specs.Parts.{parted}
 use Rattle.network.specs.Lines.{LF}
 use Rattle.network.specs.Records.{A, S, P, F, L, R, recordOf}
-use Rattle.network.specs.Ranges.{outside, directionFault, targetFault, termFault}
+use Rattle.network.specs.Ranges.{directionFault, targetFault, termFault}
+use Rattle.exact.specs.Outside.{outside}
 use Rattle.network.specs.declared.record.Record.{Record}
 use Rattle.network.specs.declared.record.Record.the-variants.{Direction, Angles, Sides, Term, Unreadable}
 use Rattle.network.specs.declared.scan.Counts.{Counts}

@@ -1,43 +1,33 @@
 // The ranges of the numbers in a line: refusal 3.
 ghost use mathlib.Core.Path.{_≡_};
-ghost use Rattle.network.specs.Ranges.{outside, directionFault, targetFault, astray, angleFault, fixedFault, sideFault, termFault};
+ghost use Rattle.network.specs.Ranges.{directionFault, targetFault, astray, angleFault, fixedFault, sideFault, termFault};
 
 // A circle of 360 degrees, in 0.001 second.
 const CIRCLE: i64 = 1_296_000_000;
 
-// Whether z is not from low to high.
-pub fn outside(low: i64, high: i64, z: i64) -> bool
-    ensures { λ r. ⌜ r ≡ outside low high z ⌝ }
-{
-    if z < low {
-        return true;
-    }
-    high < z
-}
-
 pub fn direction_fault(direction: i64, q: i64) -> bool
     ensures { λ r. ⌜ r ≡ directionFault direction q ⌝ }
 {
-    if outside(0, CIRCLE - 1, direction) {
+    if exact::outside(0, CIRCLE - 1, direction) {
         return true;
     }
-    outside(1, 10, q)
+    exact::outside(1, 10, q)
 }
 
 pub fn target_fault(target: i64) -> bool
     ensures { λ r. ⌜ r ≡ targetFault target ⌝ }
 {
-    outside(0, 12 * CIRCLE, target)
+    exact::outside(0, 12 * CIRCLE, target)
 }
 
 // Whether i or k is no direction number, from 0 to m.
 fn astray(m: i64, i: i64, k: i64) -> bool
     ensures { λ r. ⌜ r ≡ astray m i k ⌝ }
 {
-    if outside(0, m, i) {
+    if exact::outside(0, m, i) {
         return true;
     }
-    outside(0, m, k)
+    exact::outside(0, m, k)
 }
 
 // An angle, in which i = k is not allowed.
@@ -47,38 +37,38 @@ fn angle_fault(m: i64, i: i64, k: i64) -> bool
     if astray(m, i, k) {
         return true;
     }
-    !outside(k, k, i)
+    !exact::outside(k, k, i)
 }
 
 fn fixed_fault(value: i64) -> bool
     ensures { λ r. ⌜ r ≡ fixedFault value ⌝ }
 {
-    outside(0, CIRCLE - 1, value)
+    exact::outside(0, CIRCLE - 1, value)
 }
 
 // A side term, in which i = k is only allowed in a fixed length.
 fn side_fault(m: i64, logarithm: i64, d: i64, i: i64, k: i64) -> bool
     ensures { λ r. ⌜ r ≡ sideFault m logarithm d i k ⌝ }
 {
-    if outside(0, 200_000_000, logarithm) {
+    if exact::outside(0, 200_000_000, logarithm) {
         return true;
     }
-    if outside(-2000, 2000, d) {
+    if exact::outside(-2000, 2000, d) {
         return true;
     }
     if astray(m, i, k) {
         return true;
     }
-    if outside(k, k, i) {
+    if exact::outside(k, k, i) {
         return false;
     }
-    if outside(0, 0, i) {
+    if exact::outside(0, 0, i) {
         return true;
     }
-    if outside(0, 0, k) {
+    if exact::outside(0, 0, k) {
         return true;
     }
-    outside(0, 0, d)
+    exact::outside(0, 0, d)
 }
 
 // A term, by its letter.

@@ -55,7 +55,7 @@ fn out_of_turn(m: u64, number: i64) -> bool
         return true;
     }
     let turn = (m + 1) as i64;
-    range::outside(turn, turn, number)
+    exact::outside(turn, turn, number)
 }
 
 // Whether a C line after n others is one too many, or shows that the condition before it has no terms.

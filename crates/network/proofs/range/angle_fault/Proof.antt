@@ -3,7 +3,8 @@ use mathlib.Core.Path.{_≡_, sym, _∙_, ap}
 use mathlib.Core.Bool.{not}
 use borrow.Author.Needs.{needs}
 use mir.ValLaws.{toZ-ofZ}
-use Rattle.network.specs.Ranges.{outside, astray, angleFault}
+use Rattle.network.specs.Ranges.{astray, angleFault}
+use Rattle.exact.specs.Outside.{outside}
 use Rattle.network.proofs.range.angle_fault.Statement.{statement}
 use Rattle.network.proofs.range.angle_fault.Tie as tie
 

@@ -3,7 +3,8 @@ use mathlib.Core.Path.{_≡_, sym, _∙_}
 use borrow.Author.Needs.{needs}
 use lib.IntN.{pos}
 use mir.ValLaws.{toZ-ofZ}
-use Rattle.network.specs.Ranges.{outside, astray}
+use Rattle.network.specs.Ranges.{astray}
+use Rattle.exact.specs.Outside.{outside}
 use Rattle.network.proofs.range.astray.Statement.{statement}
 use Rattle.network.proofs.range.astray.Tie as tie
 

@@ -4,7 +4,8 @@ use borrow.Author.Needs.{needs}
 use lib.IntN.{pos, _-ℤ_}
 use mir.ValLaws.{toZ-ofZ}
 use Rattle.exact.specs.Circle.{C}
-use Rattle.network.specs.Ranges.{outside, directionFault}
+use Rattle.network.specs.Ranges.{directionFault}
+use Rattle.exact.specs.Outside.{outside}
 use Rattle.network.proofs.range.direction_fault.Statement.{statement}
 use Rattle.network.proofs.range.direction_fault.Tie as tie
 

@@ -4,7 +4,8 @@ use mathlib.Core.Bool.{Bool, true, false, not}
 use borrow.Author.Needs.{needs}
 use lib.IntN.{pos, negℤ}
 use mir.ValLaws.{toZ-ofZ}
-use Rattle.network.specs.Ranges.{outside, astray, fixedLength, sideFault}
+use Rattle.network.specs.Ranges.{astray, fixedLength, sideFault}
+use Rattle.exact.specs.Outside.{outside}
 use Rattle.network.proofs.range.side_fault.Statement.{statement}
 use Rattle.network.proofs.range.side_fault.Tie as tie
 

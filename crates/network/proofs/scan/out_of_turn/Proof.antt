@@ -6,7 +6,7 @@ use borrow.Author.Needs.{needs}
 use borrow.Author.Tests.{le-leb, lt-leb}
 use mir.Syntax.{w64}
 use mir.ValLaws.{toZ-ofZ, toZ-pos}
-use Rattle.network.specs.Ranges.{outside}
+use Rattle.exact.specs.Outside.{outside}
 use Rattle.network.specs.Scan.{outOfTurn}
 use Rattle.network.proofs.scan.out_of_turn.Statement.{statement}
 use Rattle.network.proofs.scan.out_of_turn.Tie as tie
