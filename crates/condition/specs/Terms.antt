@@ -60,6 +60,10 @@ faultOf Unknown m t = false
 abbrev pub fault : ℤ → Term → Bool
 fault m t = faultOf (t .letter) m t
 
+-- of a term by its letter's code and its fields
+unfoldable pub termFault : ℤ → ℕ → ℤ → ℤ → ℤ → ℤ → Bool
+termFault m letter value d i k = fault m (record { letter = letterOf (pos letter); value = value; d = d; i = i; k = k })
+
 -- ---- what it adds to the coefficient of direction number h
 -- x at the number n, and nothing elsewhere
 abbrev pub only : ℕ → ℤ → ℕ → ℤ

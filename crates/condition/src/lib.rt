@@ -2,6 +2,8 @@
 ghost use mathlib.Core.Path.{_≡_};
 ghost use lib.ListN.{length};
 ghost use Rattle.condition.specs.Rules.{lent, coefficientsReply, coefficientsList, misclosureFigure};
+ghost use Rattle.condition.specs.Terms.{termFault};
+use crate::term::Term;
 use reply::Figure;
 use reply::Refusal;
 use reply::Reply;
@@ -54,6 +56,23 @@ pub fn coefficients(
     }
     tally::hand_over(tally, a);
     Reply::Accepted
+}
+
+// Whether a term with this letter, in a net of m directions, has a number out of range, or i = k where that is not allowed.
+pub fn term_fault(m: i64, letter: u8, value: i64, d: i64, i: i64, k: i64) -> bool
+    ensures { λ r. ⌜ r ≡ termFault m letter value d i k ⌝ }
+{
+    let letter = term::read(letter as i64);
+    term::fault(
+        m,
+        Term {
+            letter,
+            value,
+            d,
+            i,
+            k,
+        },
+    )
 }
 
 // The misclosure w of the same condition. A refusal is 1 to 3 of the checks, or 5.

@@ -11,7 +11,7 @@ pub const CIRCLE: i64 = 1296000000;
 pub const LAST: i64 = CIRCLE - 1;
 
 // A direction lies from 0 to C - 1, and its q from 1 to 10.
-fn out_of_range(direction: i64, q: i64) -> bool
+pub fn out_of_range(direction: i64, q: i64) -> bool
     ensures { λ r. ⌜ r ≡ outOfRange direction q ⌝ }
 {
     if exact::outside(0, LAST, direction) {

@@ -9,7 +9,9 @@ use Rattle.network.specs.Parts.{onFirst, parted}
 use Rattle.network.specs.Fields.{fieldsOf, fieldAt, letterOf}
 use Rattle.network.specs.Numbers.{readDigits, unsignedOf, plus, minus, numberOf}
 use Rattle.network.specs.Records.{with, directionLine, anglesLine, sidesLine, conditionLine, angleLine, fixedLine, sideLine, lineOf, recordOf}
-use Rattle.network.specs.Ranges.{directionFault, targetFault, astray, angleFault, fixedFault, sideFault, termFault}
+use Rattle.exact.specs.Same.{same}
+use Rattle.condition.specs.Terms as terms
+use Rattle.network.specs.Ranges.{targetFault}
 use Rattle.exact.specs.Outside.{outside}
 use Rattle.network.specs.Scan.{suits, outOfTurn, oneTooMany, directionReply, anglesReply, sidesReply, termReply, lineReply, counted, endFault, endReply, scanned, scanReply}
 
@@ -187,7 +189,7 @@ pub figures :
     × (scanReply fixedElsewhere ≡ Refused (OutOfRange 3))
 unfolding
     scanReply scanned endReply endFault counted lineReply termReply anglesReply sidesReply directionReply oneTooMany outOfTurn suits
-    termFault sideFault fixedFault angleFault astray targetFault directionFault
+    terms.termFault terms.letterOf same targetFault
     recordOf lineOf sideLine fixedLine angleLine conditionLine sidesLine anglesLine directionLine with
     letterOf fieldAt fieldsOf parted onFirst numberOf minus plus unsignedOf readDigits
 figures = (refl, refl, refl, refl, refl, refl, refl, refl, refl, refl, refl, refl, refl, refl, refl, refl, refl, refl, refl, refl, refl, refl, refl, refl, refl, refl)

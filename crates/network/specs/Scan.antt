@@ -12,7 +12,9 @@ use Rattle.reply.specs.Checks.{refuseIf, _andThen_}
 use Rattle.network.specs.Parts.{parted}
 use Rattle.network.specs.Lines.{LF}
 use Rattle.network.specs.Records.{A, S, P, F, L, R, recordOf}
-use Rattle.network.specs.Ranges.{directionFault, targetFault, termFault}
+use Rattle.condition.specs.Terms.{termFault}
+use Rattle.direction.specs.Ranges.{outOfRange}
+use Rattle.network.specs.Ranges.{targetFault}
 use Rattle.exact.specs.Outside.{outside}
 use Rattle.network.specs.declared.record.Record.{Record}
 use Rattle.network.specs.declared.record.Record.the-variants.{Direction, Angles, Sides, Term, Unreadable}
@@ -42,7 +44,7 @@ directionReply place c number direction q =
     -- "so is a D line after a C"
     refuseIf (ltb 0 (c .n)) (Malformed place)
     andThen (refuseIf (outOfTurn (c .m) number) (Count place)
-    andThen refuseIf (directionFault direction q) (OutOfRange place))
+    andThen refuseIf (outOfRange direction q) (OutOfRange place))
 
 unfoldable pub anglesReply : ℕ → Counts → ℤ → Reply
 anglesReply place c target = refuseIf (oneTooMany (c .n) (c .terms)) (Count place) andThen refuseIf (targetFault target) (OutOfRange place)

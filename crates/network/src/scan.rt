@@ -82,7 +82,7 @@ fn direction_reply(place: u64, c: Counts, number: i64, direction: i64, q: i64) -
     if out_of_turn(m, number) {
         return Reply::Refused(Refusal::Count(place));
     }
-    if range::direction_fault(direction, q) {
+    if direction::out_of_range(direction, q) {
         return Reply::Refused(Refusal::OutOfRange(place));
     }
     Reply::Accepted
@@ -126,7 +126,7 @@ fn term_reply(place: u64, c: Counts, letter: u8, value: i64, d: i64, i: i64, k: 
         return Reply::Refused(Refusal::Count(place));
     }
     let m = c.m;
-    if range::term_fault(m as i64, letter, value, d, i, k) {
+    if condition::term_fault(m as i64, letter, value, d, i, k) {
         return Reply::Refused(Refusal::OutOfRange(place));
     }
     Reply::Accepted

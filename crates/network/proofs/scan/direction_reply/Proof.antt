@@ -6,7 +6,7 @@ use borrow.Author.Needs.{needs}
 use borrow.Author.Tests.{lt-ltb, le-ltb}
 use lib.Dec.{ltb}
 use mir.ValLaws.{toZ-ofZ}
-use Rattle.network.specs.Ranges.{directionFault}
+use Rattle.direction.specs.Ranges.{outOfRange}
 use Rattle.network.specs.Scan.{outOfTurn, directionReply}
 use Rattle.network.proofs.scan.direction_reply.Statement.{statement}
 use Rattle.network.proofs.scan.direction_reply.Tie as tie
@@ -25,11 +25,11 @@ turn-test c = let f = c .before .before .fits .number in c .out-of-turn .ensures
 in-turn : (c : tie.Else2) → let a = c .before .before .before .args in outOfTurn (a .c .m) (a .number) ≡ false
 in-turn c = sym (turn-test (c .before)) ∙ c .if2 .left
 
-range-test : (c : tie.After-direction-fault) → let a = c .before .before .before .before .args in
-    c .direction-fault .result ≡ directionFault (a .direction) (a .q)
+range-test : (c : tie.After-out-of-range) → let a = c .before .before .before .before .args in
+    c .out-of-range .result ≡ outOfRange (a .direction) (a .q)
 range-test c =
     let s = c .before .before .before .before in let f = s .fits .direction in let g = s .fits .q in
-    c .direction-fault .ensures ∙ simp toZ-ofZ
+    c .out-of-range .ensures ∙ simp toZ-ofZ
 
 -- ---- the answers
 out-of-turn-requires : tie.Need-out-of-turn-requires
@@ -39,8 +39,8 @@ returns-2 : tie.Need-returns-2
 unfolding directionReply
 returns-2 c = rw (no-condition (c .before .before), sym (turn-test (c .before)) ∙ c .if2 .taken)
 
-direction-fault-requires : tie.Need-direction-fault-requires
-direction-fault-requires c κs = search needs
+out-of-range-requires : tie.Need-out-of-range-requires
+out-of-range-requires c κs = search needs
 
 returns-3 : tie.Need-returns-3
 unfolding directionReply
@@ -56,4 +56,4 @@ returns-4 c =
 
 pub direction-reply-spec : {M : Type 1} → statement M
 direction-reply-spec =
-    tie.close (tie.spec returns out-of-turn-requires returns-2 direction-fault-requires returns-3 returns-4)
+    tie.close (tie.spec returns out-of-turn-requires returns-2 out-of-range-requires returns-3 returns-4)

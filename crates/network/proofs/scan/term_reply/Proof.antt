@@ -8,7 +8,7 @@ use lib.Dec.{leb}
 use lib.IntN.{pos}
 use mir.Syntax.{w64}
 use mir.ValLaws.{toZ-ofZ, toZ-pos}
-use Rattle.network.specs.Ranges.{termFault}
+use Rattle.condition.specs.Terms.{termFault}
 use Rattle.network.specs.Scan.{suits, termReply}
 use Rattle.network.proofs.scan.term_reply.Statement.{statement}
 use Rattle.network.proofs.scan.term_reply.Tie as tie
