@@ -1,5 +1,4 @@
 // Runs the line reader, the numbers and the scan on chosen inputs and prints what they answer. What it must print was worked out apart from it.
-use libc::STDOUT_FILENO;
 use network::line;
 use network::line::LineStatus;
 use network::number;
@@ -7,60 +6,51 @@ use network::number::Number;
 use network::scan;
 use reply::Reply;
 
-fn print(v: i64) {
-    if v < 0 {
-        io::write_all(STDOUT_FILENO, b"-");
-    }
-    io::print_decimal(STDOUT_FILENO, exact::magnitude(v));
-}
-
 // A start's status and line.
 fn show_line(file: &[u8], start: usize) {
-    io::print_decimal(STDOUT_FILENO, start as u64);
+    vectors::natural(start as u64);
     let status = line::line_status(file, start);
     match status {
         LineStatus::Whole => {
-            io::write_all(STDOUT_FILENO, b" line [");
+            vectors::text(b" line [");
         }
         LineStatus::NoneLeft => {
-            io::write_all(STDOUT_FILENO, b" none left [");
+            vectors::text(b" none left [");
         }
         LineStatus::LfMissing => {
-            io::write_all(STDOUT_FILENO, b" LF missing [");
+            vectors::text(b" LF missing [");
         }
     }
-    io::write_all(STDOUT_FILENO, line::line(file, start));
-    io::write_all(STDOUT_FILENO, b"]\n");
+    vectors::text(line::line(file, start));
+    vectors::text(b"]\n");
 }
 
 fn show_number(text: &[u8]) {
-    io::write_all(STDOUT_FILENO, b"[");
-    io::write_all(STDOUT_FILENO, text);
-    io::write_all(STDOUT_FILENO, b"] ");
+    vectors::text(b"[");
+    vectors::text(text);
+    vectors::text(b"] ");
     let n = number::read(text);
     match n {
         Number::Value(v) => {
-            print(v);
+            vectors::number(v);
         }
         Number::Malformed => {
-            io::write_all(STDOUT_FILENO, b"malformed");
+            vectors::text(b"malformed");
         }
     }
-    io::write_all(STDOUT_FILENO, b"\n");
+    vectors::text(b"\n");
 }
 
 fn show_scan(file: &[u8]) {
     let answer = scan::scan(file);
     match answer {
         Reply::Accepted => {
-            io::write_all(STDOUT_FILENO, b"accepted\n");
+            vectors::text(b"accepted\n");
         }
         Reply::Refused(why) => {
-            io::write_all(STDOUT_FILENO, b"refused ");
-            io::print_decimal(STDOUT_FILENO, reply::number(why));
-            io::write_all(STDOUT_FILENO, b" ");
-            io::print_decimal(STDOUT_FILENO, reply::place(why));
-            io::write_all(STDOUT_FILENO, b"\n");
+            vectors::text(b"refused");
+            vectors::number_and_place(why);
+            vectors::text(b"\n");
         }
     }
 }
