@@ -7,7 +7,7 @@
 --   count-on, signed-on                 a field takes at most 22 places
 --   lines-more, lines-most              one more line; lines of at most so many bytes
 --   lines-none, lines-on, lines-room    the lines so far, one more, and room for it
---   adj-most, v-most, k-most            the ADJ line takes at most 48 bytes, a V line 68, a K line 90
+--   adj-most, head-most, v-most, k-most  the ADJ line takes at most 48 bytes, a V line 68, a K line 90
 use mathlib.Core.Path.{_≡_, refl, _∙_, ap, subst}
 use mathlib.Core.Bool.{Bool, true, false, cond}
 use mathlib.Core.List.{List, [], _∷_, _++_}
@@ -23,7 +23,7 @@ use mir.Syntax.{w64}
 use mir.Val.{SFits, toZ, ofZ}
 use Rattle.exact.proofs.Bound.{read}
 use Rattle.network.specs.Decimal.{digits, digitsOf, written}
-use Rattle.network.specs.Listing.{signedField, countField, lineEnd, adjLine, vLine, kLine, linesOf, Wrote}
+use Rattle.network.specs.Listing.{signedField, countField, lineEnd, lineHead, adjLine, vLine, kLine, inOrder, Wrote}
 
 pub sets-append : (xs ys l : List ℕ) (i : ℕ) → sets (sets l i xs) (i + length xs) ys ≡ sets l i (xs ++ ys)
 sets-append [] ys l i = rw (add-zero i)
@@ -88,29 +88,29 @@ pub signed-on : {a b c : List ℕ} {at k p q : ℕ} (z : ℤ) → Come a at k b 
 signed-on z f w = come-on 22 f (omega (arith, written-most z)) w
 
 -- ---- lines
-pub lines-more : (n : ℕ) (line : ℕ → List ℕ) → linesOf (n + 1) line ≡ linesOf n line ++ line n
-unfolding linesOf
+pub lines-more : (n : ℕ) (line : ℕ → List ℕ) → inOrder (n + 1) line ≡ inOrder n line ++ line n
+unfolding inOrder
 lines-more n line = rw (add-one n)
 
-pub lines-most : (n most : ℕ) (line : ℕ → List ℕ) → ((i : ℕ) → length (line i) ≤ most) → length (linesOf n line) ≤ n * most
-unfolding linesOf
+pub lines-most : (n most : ℕ) (line : ℕ → List ℕ) → ((i : ℕ) → length (line i) ≤ most) → length (inOrder n line) ≤ n * most
+unfolding inOrder
 lines-most zero most line h = omega arith
-lines-most (suc n) most line h = omega (arith, length-append (linesOf n line) (line n), lines-most n most line h, h n, suc-mul n most)
+lines-most (suc n) most line h = omega (arith, length-append (inOrder n line) (line n), lines-most n most line h, h n, suc-mul n most)
 
 -- the lines so far, and one more
-pub lines-none : (a : List ℕ) (at : ℕ) (line : ℕ → List ℕ) → Wrote a at (linesOf 0 line) a at
-unfolding linesOf
+pub lines-none : (a : List ℕ) (at : ℕ) (line : ℕ → List ℕ) → Wrote a at (inOrder 0 line) a at
+unfolding inOrder
 lines-none a at line = record { buffer = refl; place = omega arith }
 
 pub lines-on :
-    {a b c : List ℕ} {at p q : ℕ} (n : ℕ) (line : ℕ → List ℕ) → Wrote a at (linesOf n line) b p → Wrote b p (line n) c q →
-    Wrote a at (linesOf (n + 1) line) c q
+    {a b c : List ℕ} {at p q : ℕ} (n : ℕ) (line : ℕ → List ℕ) → Wrote a at (inOrder n line) b p → Wrote b p (line n) c q →
+    Wrote a at (inOrder (n + 1) line) c q
 lines-on n line f g = rw (lines-more n line) (then f g)
 
 -- room for one more line
 pub lines-room :
     {a b : List ℕ} {at p : ℕ} (n i most : ℕ) (line : ℕ → List ℕ) → ((j : ℕ) → length (line j) ≤ most) → at + n * most ≤ length a → i < n →
-    Wrote a at (linesOf i line) b p → p + most ≤ length b
+    Wrote a at (inOrder i line) b p → p + most ≤ length b
 lines-room n i most line small room h w = omega (arith, room, w .place, wrote-length w, lines-most i most line small, mul-le-mul-right most h, suc-mul i most)
 
 pub adj-most : (m n : ℕ) → length (adjLine m n) ≤ 48
@@ -118,28 +118,26 @@ adj-most m n =
     omega
     (arith, count-most m, count-most n, length-append (digitsOf m) (countField n ++ lineEnd), length-append (digitsOf n) lineEnd)
 
-pub v-most : (number : ℕ) (u adjusted : ℤ) → length (vLine number u adjusted) ≤ 68
-v-most number u adjusted =
+pub head-most : (letter number : ℕ) (first second : ℤ) → length (lineHead letter number first second) ≤ 67
+head-most letter number first second =
     omega (
       arith,
       count-most number,
-      written-most u,
-      written-most adjusted,
-      length-append (digitsOf number) (signedField u ++ (signedField adjusted ++ lineEnd)),
-      length-append (written u) (signedField adjusted ++ lineEnd),
-      length-append (written adjusted) lineEnd,
+      written-most first,
+      written-most second,
+      length-append (digitsOf number) (signedField first ++ signedField second),
+      length-append (written first) (signedField second),
     )
+
+pub v-most : (number : ℕ) (u adjusted : ℤ) → length (vLine number u adjusted) ≤ 68
+v-most number u adjusted = omega (arith, head-most 86 number u adjusted, length-append (lineHead 86 number u adjusted) lineEnd)
 
 pub k-most : (condition : ℕ) (k r q : ℤ) → length (kLine condition k r q) ≤ 90
 k-most condition k r q =
     omega (
       arith,
-      count-most condition,
-      written-most k,
-      written-most r,
+      head-most 75 condition k r,
       written-most q,
-      length-append (digitsOf condition) (signedField k ++ (signedField r ++ (signedField q ++ lineEnd))),
-      length-append (written k) (signedField r ++ (signedField q ++ lineEnd)),
-      length-append (written r) (signedField q ++ lineEnd),
+      length-append (lineHead 75 condition k r) (signedField q ++ lineEnd),
       length-append (written q) lineEnd,
     )

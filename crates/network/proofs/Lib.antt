@@ -10,3 +10,7 @@ pub mod Unique
 pub mod Figures
 pub mod Composing
 pub mod Listings
+pub mod Figure3
+pub mod Walking
+pub mod Reading
+pub mod Forming

@@ -4,7 +4,7 @@ use mathlib.Core.List.{List, [], _∷_, _++_}
 use Prim.Native.Nat.{ℕ}
 use lib.IntN.{pos, negℤ}
 use Rattle.network.specs.Decimal.{digits, digitsOf, written}
-use Rattle.network.specs.Listing.{refusedLine, linesOf, acceptedListing}
+use Rattle.network.specs.Listing.{refusedLine, inOrder, acceptedListing}
 
 -- ADJ 3 2, three V lines, two K lines; a blank stands for a tab
 -- ADJ 3 2
@@ -41,7 +41,7 @@ figure-3 :
     (pos 0 ∷ pos 0 ∷ [])
     (pos 0 ∷ pos 0 ∷ [])
     ≡ adj ++ (v1 ++ (v2 ++ (v3 ++ (k1 ++ k2))))
-unfolding digits digitsOf written linesOf
+unfolding digits digitsOf written inOrder
 figure-3 = refl
 
 -- REFUSED 7 2

@@ -7,3 +7,7 @@ pub mod Records
 pub mod Ranges
 pub mod Scan
 pub mod Listing
+pub mod Net
+pub mod Cursor
+pub mod Gathered
+pub mod File

@@ -23,22 +23,26 @@ lineEnd = 10 ∷ []
 abbrev pub adjLine : ℕ → ℕ → List ℕ
 adjLine m n = (65 ∷ 68 ∷ 74 ∷ []) ++ (countField m ++ (countField n ++ lineEnd))
 
+-- the head of a V or a K line: its letter, a number and two signed numbers
+abbrev pub lineHead : ℕ → ℕ → ℤ → ℤ → List ℕ
+lineHead letter number first second = (letter ∷ []) ++ (countField number ++ (signedField first ++ signedField second))
+
 -- V, number, u, adjusted
 abbrev pub vLine : ℕ → ℤ → ℤ → List ℕ
-vLine number u adjusted = (86 ∷ []) ++ (countField number ++ (signedField u ++ (signedField adjusted ++ lineEnd)))
+vLine number u adjusted = lineHead 86 number u adjusted ++ lineEnd
 
 -- K, condition, K, R, Q
 abbrev pub kLine : ℕ → ℤ → ℤ → ℤ → List ℕ
-kLine condition k r q = (75 ∷ []) ++ (countField condition ++ (signedField k ++ (signedField r ++ (signedField q ++ lineEnd))))
+kLine condition k r q = lineHead 75 condition k r ++ (signedField q ++ lineEnd)
 
 -- REFUSED, number, place
 abbrev pub refusedLine : ℕ → ℕ → List ℕ
 refusedLine number place = (82 ∷ 69 ∷ 70 ∷ []) ++ ((85 ∷ 83 ∷ 69 ∷ []) ++ ((68 ∷ []) ++ (countField number ++ (countField place ++ lineEnd))))
 
 -- n lines in their order
-unfoldable pub linesOf : ℕ → (ℕ → List ℕ) → List ℕ
-linesOf zero line = []
-linesOf (suc n) line = linesOf n line ++ line n
+unfoldable pub inOrder : ℕ → (ℕ → List ℕ) → List ℕ
+inOrder zero line = []
+inOrder (suc n) line = inOrder n line ++ line n
 
 -- line i + 1 of each kind, by the numbers at place i of their lists
 abbrev pub vLineOf : (u adjusted : List ℤ) → ℕ → List ℕ
@@ -48,10 +52,10 @@ abbrev pub kLineOf : (k r q : List ℤ) → ℕ → List ℕ
 kLineOf k r q j = kLine (j + 1) (getD k j (pos 0)) (getD r j (pos 0)) (getD q j (pos 0))
 
 abbrev pub vLines : (m : ℕ) (u adjusted : List ℤ) → List ℕ
-vLines m u adjusted = linesOf m (vLineOf u adjusted)
+vLines m u adjusted = inOrder m (vLineOf u adjusted)
 
 abbrev pub kLines : (n : ℕ) (k r q : List ℤ) → List ℕ
-kLines n k r q = linesOf n (kLineOf k r q)
+kLines n k r q = inOrder n (kLineOf k r q)
 
 -- the whole listing of an accepted net
 abbrev pub acceptedListing : (m n : ℕ) (u adjusted k r q : List ℤ) → List ℕ

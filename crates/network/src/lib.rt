@@ -1,5 +1,8 @@
 // The network file: its lines, their fields, its numbers, and numbers written for the listing.
+mod conditions;
+mod cursor;
 mod decimal;
+mod directions;
 mod field;
 mod find;
 pub mod line;
@@ -8,3 +11,4 @@ pub mod number;
 mod range;
 mod record;
 pub mod scan;
+mod terms;

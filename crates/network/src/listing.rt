@@ -4,7 +4,7 @@ ghost use mathlib.Core.List.{List, [], _∷_};
 ghost use Prim.Native.Nat.{_+_, _*_, _≤_};
 ghost use lib.ListN.{length, getD};
 ghost use lib.IntN.{pos};
-ghost use Rattle.network.specs.Listing.{signedField, countField, adjLine, vLine, kLine, refusedLine, vLines, kLines, acceptedListing, Wrote};
+ghost use Rattle.network.specs.Listing.{signedField, countField, lineHead, adjLine, vLine, kLine, refusedLine, vLines, kLines, acceptedListing, Wrote};
 use crate::decimal;
 
 const TAB: u8 = 9;
@@ -48,16 +48,24 @@ fn put_count(out: &mut [u8], at: usize, n: u64) -> usize
     decimal::put_digits(out, next, n)
 }
 
+// The head of a V or a K line: its letter, a number and two signed numbers.
+fn put_head(out: &mut [u8], at: usize, letter: u8, number: u64, first: i64, second: i64) -> usize
+    requires { ⌜ at + 67 ≤ length (now out) ⌝ }
+    ensures { λ r. ⌜ Wrote (now (out .entry)) at (lineHead letter number first second) (now (out .exit)) r ⌝ }
+{
+    let head = put_byte(out, at, letter);
+    let numbered = put_count(out, head, number);
+    let one = put_signed(out, numbered, first);
+    put_signed(out, one, second)
+}
+
 // V, number, u, adjusted.
 fn put_v(out: &mut [u8], at: usize, number: u64, u: i64, adjusted: i64) -> usize
     requires { ⌜ at + 68 ≤ length (now out) ⌝ }
     ensures { λ r. ⌜ Wrote (now (out .entry)) at (vLine number u adjusted) (now (out .exit)) r ⌝ }
 {
-    let head = put_byte(out, at, b'V');
-    let first = put_count(out, head, number);
-    let second = put_signed(out, first, u);
-    let third = put_signed(out, second, adjusted);
-    put_byte(out, third, LF)
+    let end = put_head(out, at, b'V', number, u, adjusted);
+    put_byte(out, end, LF)
 }
 
 // K, condition, K, R, Q.
@@ -65,12 +73,9 @@ fn put_k(out: &mut [u8], at: usize, condition: u64, k: i64, r: i64, q: i64) -> u
     requires { ⌜ at + 90 ≤ length (now out) ⌝ }
     ensures { λ p. ⌜ Wrote (now (out .entry)) at (kLine condition k r q) (now (out .exit)) p ⌝ }
 {
-    let head = put_byte(out, at, b'K');
-    let first = put_count(out, head, condition);
-    let second = put_signed(out, first, k);
-    let third = put_signed(out, second, r);
-    let fourth = put_signed(out, third, q);
-    put_byte(out, fourth, LF)
+    let third = put_head(out, at, b'K', condition, k, r);
+    let end = put_signed(out, third, q);
+    put_byte(out, end, LF)
 }
 
 // ADJ, m, n.

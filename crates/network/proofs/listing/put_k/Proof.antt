@@ -1,89 +1,60 @@
 -- `listing::put_k` meets its contract. Assumes nothing.
-use mathlib.Core.Path.{_∙_}
+use mathlib.Core.Path.{_∙_, ap₂}
 use native.Mathlib.Omega.{arith}
 use borrow.Author.Needs.{needs}
 use denote.Ref.{now}
-use Rattle.network.proofs.Composing.{Come, then, wrote-length, read-signed, come, count-on, signed-on}
+use Rattle.exact.proofs.Bound.{read}
+use Rattle.network.specs.Listing.{lineHead, Wrote}
+use Rattle.network.proofs.Composing.{Come, rewrote, then, wrote-length, read-signed, signed-on, come-within, head-most}
 use Rattle.network.proofs.listing.put_k.Statement.{statement}
 use Rattle.network.proofs.listing.put_k.Tie as tie
 
-put-byte-requires : tie.Need-put-byte-requires
-put-byte-requires c κs = search needs
+put-head-requires : tie.Need-put-head-requires
+put-head-requires c κs = search needs
 
--- how far each part has come
-abbrev start1 : tie.After-put-byte → tie.Start
+-- what has been written, and how far it has come
+abbrev start1 : tie.After-put-head → tie.Start
 start1 c = c .before .before .before
 
-come1 : (c : tie.After-put-byte) → Come (now (start1 c .args .out)) (start1 c .args .at) 1 (c .put-byte .last .0) (c .put-byte .result)
-come1 c = come (c .put-byte .ensures)
+headed :
+    (c : tie.After-put-head) →
+    let s = start1 c in Wrote (now (s .args .out)) (s .args .at) (lineHead 75 (s .args .condition) (s .args .k) (s .args .r)) (c .put-head .last .0) (c .put-head .result)
+headed c = let s = start1 c in rewrote (ap₂ (lineHead 75 (s .args .condition)) (read (s .fits .k)) (read (s .fits .r))) (c .put-head .ensures)
 
-put-count-requires : tie.Need-put-count-requires
-put-count-requires c κs = let b = c .before .before .before in omega (arith, start1 b .pre, come1 b .far, come1 b .kept)
-
-abbrev start2 : tie.After-put-count → tie.Start
-start2 c = start1 (c .before .before .before .before)
-
-come2 : (c : tie.After-put-count) → Come (now (start2 c .args .out)) (start2 c .args .at) 23 (c .put-count .last .0) (c .put-count .result)
-come2 c = count-on _ (come1 (c .before .before .before .before)) (c .put-count .ensures)
+come1 : (c : tie.After-put-head) → Come (now (start1 c .args .out)) (start1 c .args .at) 67 (c .put-head .last .0) (c .put-head .result)
+come1 c = let s = start1 c in come-within 67 (head-most 75 (s .args .condition) (s .args .k) (s .args .r)) (headed c)
 
 put-signed-requires : tie.Need-put-signed-requires
-put-signed-requires c κs = let b = c .before .before .before in omega (arith, start2 b .pre, come2 b .far, come2 b .kept)
+put-signed-requires c κs = let b = c .before .before .before in omega (arith, start1 b .pre, come1 b .far, come1 b .kept)
 
-abbrev start3 : tie.After-put-signed → tie.Start
-start3 c = start2 (c .before .before .before .before)
+abbrev start2 : tie.After-put-signed → tie.Start
+start2 c = start1 (c .before .before .before .before)
 
-come3 : (c : tie.After-put-signed) → Come (now (start3 c .args .out)) (start3 c .args .at) 45 (c .put-signed .last .0) (c .put-signed .result)
-come3 c = signed-on _ (come2 (c .before .before .before .before)) (c .put-signed .ensures)
+come2 : (c : tie.After-put-signed) → Come (now (start2 c .args .out)) (start2 c .args .at) 89 (c .put-signed .last .0) (c .put-signed .result)
+come2 c = signed-on _ (come1 (c .before .before .before .before)) (c .put-signed .ensures)
 
-put-signed-requires-2 : tie.Need-put-signed-requires-2
-put-signed-requires-2 c κs = let b = c .before .before .before in omega (arith, start3 b .pre, come3 b .far, come3 b .kept)
-
-abbrev start4 : tie.After-put-signed2 → tie.Start
-start4 c = start3 (c .before .before .before .before)
-
-come4 : (c : tie.After-put-signed2) → Come (now (start4 c .args .out)) (start4 c .args .at) 67 (c .put-signed2 .last .0) (c .put-signed2 .result)
-come4 c = signed-on _ (come3 (c .before .before .before .before)) (c .put-signed2 .ensures)
-
-put-signed-requires-3 : tie.Need-put-signed-requires-3
-put-signed-requires-3 c κs = let b = c .before .before .before in omega (arith, start4 b .pre, come4 b .far, come4 b .kept)
-
-abbrev start5 : tie.After-put-signed3 → tie.Start
-start5 c = start4 (c .before .before .before .before)
-
-come5 : (c : tie.After-put-signed3) → Come (now (start5 c .args .out)) (start5 c .args .at) 89 (c .put-signed3 .last .0) (c .put-signed3 .result)
-come5 c = signed-on _ (come4 (c .before .before .before .before)) (c .put-signed3 .ensures)
-
-put-byte-requires-2 : tie.Need-put-byte-requires-2
-put-byte-requires-2 c κs = let b = c .before .before .before in omega (arith, start5 b .pre, come5 b .far, come5 b .kept)
+put-byte-requires : tie.Need-put-byte-requires
+put-byte-requires c κs = let b = c .before .before .before in omega (arith, start2 b .pre, come2 b .far, come2 b .kept)
 
 same-length : tie.Need-same-length
-same-length c = let b = c .before .before in wrote-length (b .put-byte2 .ensures) ∙ come5 (b .before .before .before .before) .kept
+same-length c = let b = c .before .before in wrote-length (b .put-byte .ensures) ∙ come2 (b .before .before .before .before) .kept
 
 returns : tie.Need-returns
 returns c =
-    let e6 = c .before .before in
-    let e5 = e6 .before .before .before .before in
-    let e4 = e5 .before .before .before .before in
-    let e3 = e4 .before .before .before .before in
+    let e3 = c .before .before in
     let e2 = e3 .before .before .before .before in
     let e1 = e2 .before .before .before .before in
     let s = e1 .before .before .before in
-    (then (e1 .put-byte .ensures)
-    (then (e2 .put-count .ensures)
-    (then (read-signed (s .args .k) (s .fits .k) (e3 .put-signed .ensures))
-    (then (read-signed (s .args .r) (s .fits .r) (e4 .put-signed2 .ensures))
-    (then (read-signed (s .args .q) (s .fits .q) (e5 .put-signed3 .ensures))
-    (e6 .put-byte2 .ensures))))))
+    (then (headed e1)
+    (then (read-signed (s .args .q) (s .fits .q) (e2 .put-signed .ensures))
+    (e3 .put-byte .ensures)))
 
 pub put-k-spec : {M : Type 1} → statement M
 put-k-spec =
     tie.close
     (tie.spec
-    put-byte-requires
-    put-count-requires
+    put-head-requires
     put-signed-requires
-    put-signed-requires-2
-    put-signed-requires-3
-    put-byte-requires-2
+    put-byte-requires
     same-length
     returns)

@@ -6,7 +6,7 @@ use borrow.Author.Needs.{needs}
 use denote.Ref.{now}
 use lib.IntN.{ℤ}
 use Rattle.exact.proofs.Bound.{read-at}
-use Rattle.network.specs.Listing.{kLine, kLineOf, linesOf, Wrote}
+use Rattle.network.specs.Listing.{kLine, kLineOf, inOrder, Wrote}
 use Rattle.network.proofs.Composing.{wrote-length, rewrote, lines-none, lines-on, lines-room, k-most}
 use Rattle.network.proofs.listing.put_ks.Statement.{statement}
 use Rattle.network.proofs.listing.put_ks.Tie as tie
@@ -15,7 +15,7 @@ same-line : (n : ℕ) {k k′ r r′ q q′ : ℤ} → k ≡ k′ → r ≡ r′
 same-line n {k} {k′} {r} {r′} {q} {q′} f g h = ap₂ (λ (x y : ℤ). kLine n x y q) f g ∙ ap (λ (x : ℤ). kLine n k′ r′ x) h
 
 abbrev Inv-loop : tie.InvT-loop
-Inv-loop out₀ at k r q n next₀ j₀ out next j = (j ≤ n) × Wrote out₀ at (linesOf j (kLineOf k r q)) out next
+Inv-loop out₀ at k r q n next₀ j₀ out next j = (j ≤ n) × Wrote out₀ at (inOrder j (kLineOf k r q)) out next
 
 abbrev μ-loop : tie.MeasureT-loop
 μ-loop out₀ at k r q n next₀ j₀ out next j = n - j
@@ -77,7 +77,7 @@ returns c =
     let l = c .before in let s = l .before .before in
     subst
     (λ (k : ℕ).
-    Wrote (now (s .args .out)) (s .args .at) (linesOf k (kLineOf (now (s .args .k)) (now (s .args .r)) (now (s .args .q)))) (l .loop .out) (l .loop .next))
+    Wrote (now (s .args .out)) (s .args .at) (inOrder k (kLineOf (now (s .args .k)) (now (s .args .r)) (now (s .args .q)))) (l .loop .out) (l .loop .next))
     (omega (arith, l .loop .inv .0, c .loop-test .left))
     (l .loop .inv .1)
 

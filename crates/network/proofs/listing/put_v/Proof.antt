@@ -1,77 +1,47 @@
 -- `listing::put_v` meets its contract. Assumes nothing.
-use mathlib.Core.Path.{_∙_}
+use mathlib.Core.Path.{_∙_, ap₂}
 use native.Mathlib.Omega.{arith}
 use borrow.Author.Needs.{needs}
 use denote.Ref.{now}
-use Rattle.network.proofs.Composing.{Come, then, wrote-length, read-signed, come, count-on, signed-on}
+use Rattle.exact.proofs.Bound.{read}
+use Rattle.network.specs.Listing.{lineHead, Wrote}
+use Rattle.network.proofs.Composing.{Come, rewrote, then, wrote-length, come-within, head-most}
 use Rattle.network.proofs.listing.put_v.Statement.{statement}
 use Rattle.network.proofs.listing.put_v.Tie as tie
 
-put-byte-requires : tie.Need-put-byte-requires
-put-byte-requires c κs = search needs
+put-head-requires : tie.Need-put-head-requires
+put-head-requires c κs = search needs
 
--- how far each part has come
-abbrev start1 : tie.After-put-byte → tie.Start
+-- what has been written, and how far it has come
+abbrev start1 : tie.After-put-head → tie.Start
 start1 c = c .before .before .before
 
-come1 : (c : tie.After-put-byte) → Come (now (start1 c .args .out)) (start1 c .args .at) 1 (c .put-byte .last .0) (c .put-byte .result)
-come1 c = come (c .put-byte .ensures)
+headed :
+    (c : tie.After-put-head) →
+    let s = start1 c in Wrote (now (s .args .out)) (s .args .at) (lineHead 86 (s .args .number) (s .args .u) (s .args .adjusted)) (c .put-head .last .0) (c .put-head .result)
+headed c = let s = start1 c in rewrote (ap₂ (lineHead 86 (s .args .number)) (read (s .fits .u)) (read (s .fits .adjusted))) (c .put-head .ensures)
 
-put-count-requires : tie.Need-put-count-requires
-put-count-requires c κs = let b = c .before .before .before in omega (arith, start1 b .pre, come1 b .far, come1 b .kept)
+come1 : (c : tie.After-put-head) → Come (now (start1 c .args .out)) (start1 c .args .at) 67 (c .put-head .last .0) (c .put-head .result)
+come1 c = let s = start1 c in come-within 67 (head-most 86 (s .args .number) (s .args .u) (s .args .adjusted)) (headed c)
 
-abbrev start2 : tie.After-put-count → tie.Start
-start2 c = start1 (c .before .before .before .before)
-
-come2 : (c : tie.After-put-count) → Come (now (start2 c .args .out)) (start2 c .args .at) 23 (c .put-count .last .0) (c .put-count .result)
-come2 c = count-on _ (come1 (c .before .before .before .before)) (c .put-count .ensures)
-
-put-signed-requires : tie.Need-put-signed-requires
-put-signed-requires c κs = let b = c .before .before .before in omega (arith, start2 b .pre, come2 b .far, come2 b .kept)
-
-abbrev start3 : tie.After-put-signed → tie.Start
-start3 c = start2 (c .before .before .before .before)
-
-come3 : (c : tie.After-put-signed) → Come (now (start3 c .args .out)) (start3 c .args .at) 45 (c .put-signed .last .0) (c .put-signed .result)
-come3 c = signed-on _ (come2 (c .before .before .before .before)) (c .put-signed .ensures)
-
-put-signed-requires-2 : tie.Need-put-signed-requires-2
-put-signed-requires-2 c κs = let b = c .before .before .before in omega (arith, start3 b .pre, come3 b .far, come3 b .kept)
-
-abbrev start4 : tie.After-put-signed2 → tie.Start
-start4 c = start3 (c .before .before .before .before)
-
-come4 : (c : tie.After-put-signed2) → Come (now (start4 c .args .out)) (start4 c .args .at) 67 (c .put-signed2 .last .0) (c .put-signed2 .result)
-come4 c = signed-on _ (come3 (c .before .before .before .before)) (c .put-signed2 .ensures)
-
-put-byte-requires-2 : tie.Need-put-byte-requires-2
-put-byte-requires-2 c κs = let b = c .before .before .before in omega (arith, start4 b .pre, come4 b .far, come4 b .kept)
+put-byte-requires : tie.Need-put-byte-requires
+put-byte-requires c κs = let b = c .before .before .before in omega (arith, start1 b .pre, come1 b .far, come1 b .kept)
 
 same-length : tie.Need-same-length
-same-length c = let b = c .before .before in wrote-length (b .put-byte2 .ensures) ∙ come4 (b .before .before .before .before) .kept
+same-length c = let b = c .before .before in wrote-length (b .put-byte .ensures) ∙ come1 (b .before .before .before .before) .kept
 
 returns : tie.Need-returns
 returns c =
-    let e5 = c .before .before in
-    let e4 = e5 .before .before .before .before in
-    let e3 = e4 .before .before .before .before in
-    let e2 = e3 .before .before .before .before in
+    let e2 = c .before .before in
     let e1 = e2 .before .before .before .before in
-    let s = e1 .before .before .before in
-    (then (e1 .put-byte .ensures)
-    (then (e2 .put-count .ensures)
-    (then (read-signed (s .args .u) (s .fits .u) (e3 .put-signed .ensures))
-    (then (read-signed (s .args .adjusted) (s .fits .adjusted) (e4 .put-signed2 .ensures))
-    (e5 .put-byte2 .ensures)))))
+    (then (headed e1)
+    (e2 .put-byte .ensures))
 
 pub put-v-spec : {M : Type 1} → statement M
 put-v-spec =
     tie.close
     (tie.spec
+    put-head-requires
     put-byte-requires
-    put-count-requires
-    put-signed-requires
-    put-signed-requires-2
-    put-byte-requires-2
     same-length
     returns)

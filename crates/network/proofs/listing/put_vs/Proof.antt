@@ -5,13 +5,13 @@ use native.Mathlib.Omega.{arith}
 use borrow.Author.Needs.{needs}
 use denote.Ref.{now}
 use Rattle.exact.proofs.Bound.{read-at}
-use Rattle.network.specs.Listing.{vLine, vLineOf, linesOf, Wrote}
+use Rattle.network.specs.Listing.{vLine, vLineOf, inOrder, Wrote}
 use Rattle.network.proofs.Composing.{wrote-length, rewrote, lines-none, lines-on, lines-room, v-most}
 use Rattle.network.proofs.listing.put_vs.Statement.{statement}
 use Rattle.network.proofs.listing.put_vs.Tie as tie
 
 abbrev Inv-loop : tie.InvT-loop
-Inv-loop out₀ at u adjusted m next₀ i₀ out next i = (i ≤ m) × Wrote out₀ at (linesOf i (vLineOf u adjusted)) out next
+Inv-loop out₀ at u adjusted m next₀ i₀ out next i = (i ≤ m) × Wrote out₀ at (inOrder i (vLineOf u adjusted)) out next
 
 abbrev μ-loop : tie.MeasureT-loop
 μ-loop out₀ at u adjusted m next₀ i₀ out next i = m - i
@@ -60,7 +60,7 @@ returns : tie.Need-returns Inv-loop μ-loop
 returns c =
     let l = c .before in let s = l .before .before in
     subst
-    (λ (k : ℕ). Wrote (now (s .args .out)) (s .args .at) (linesOf k (vLineOf (now (s .args .u)) (now (s .args .adjusted)))) (l .loop .out) (l .loop .next))
+    (λ (k : ℕ). Wrote (now (s .args .out)) (s .args .at) (inOrder k (vLineOf (now (s .args .u)) (now (s .args .adjusted)))) (l .loop .out) (l .loop .next))
     (omega (arith, l .loop .inv .0, c .loop-test .left))
     (l .loop .inv .1)
 

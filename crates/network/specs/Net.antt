@@ -1,0 +1,136 @@
+-- The net of a file whose scan is accepted: its directions with their q, and its conditions with their terms, in the order of their lines.
+use mathlib.Core.List.{List, [], _∷_, _++_}
+use Prim.Native.Nat.{ℕ, suc}
+use lib.IntN.{ℤ, pos}
+use lib.ListN.{length, drop}
+use Rattle.exact.specs.Tabulate.{tabulate}
+use Rattle.reply.specs.declared.Refusal.{Refusal}
+use Rattle.reply.specs.declared.Refusal.the-variants.{Coefficient, Misclosure}
+use Rattle.reply.specs.declared.Reply.{Reply}
+use Rattle.reply.specs.declared.Reply.the-variants.{Accepted, Refused}
+use Rattle.reply.specs.declared.Figure.{Figure}
+use Rattle.reply.specs.declared.Figure.the-variants.{Value, Refused as NoFigure}
+use Rattle.reply.specs.Checks.{_andThen_}
+use Rattle.condition.specs.declared.Kind.{Kind}
+use Rattle.condition.specs.declared.Kind.the-variants.{Angle, Side}
+use Rattle.condition.specs.Rules.{Lent, lent, coefficientsReply, coefficientsList, misclosureFigure}
+use Rattle.adjustment.specs.Table.{Table, at, tableOf}
+use Rattle.adjustment.specs.Solution.{K}
+use Rattle.adjustment.specs.Promise.{Answers, lists, adjustReply, answersOf}
+use Rattle.network.specs.Lines.{linesOf}
+use Rattle.network.specs.Records.{recordOf}
+use Rattle.network.specs.Scan.{scanReply}
+use Rattle.network.specs.declared.record.Record.{Record}
+use Rattle.network.specs.declared.record.Record.the-variants.{Direction, Angles, Sides, Term, Unreadable}
+
+-- a condition with the field lists of its terms, as `condition` takes them
+pub record Condition : Type 0 where
+  pub kind : Kind
+  pub target : ℤ
+  pub kinds : List ℤ
+  pub values : List ℤ
+  pub d : List ℤ
+  pub i : List ℤ
+  pub k : List ℤ
+
+-- the terms of a condition whose C line is still to come, read from the last line back
+abbrev pub noTerms : Condition
+noTerms = record { kind = Side; target = pos 0; kinds = []; values = []; d = []; i = []; k = [] }
+
+pub record Net : Type 0 where
+  pub directions : List ℤ
+  pub q : List ℤ
+  pub pending : Condition
+  pub conditions : List Condition
+
+abbrev pub headed : Kind → ℤ → Condition → Condition
+headed kind target c = record { kind = kind; target = target; kinds = c .kinds; values = c .values; d = c .d; i = c .i; k = c .k }
+
+abbrev pub withTerm : ℕ → (value d i k : ℤ) → Condition → Condition
+withTerm letter value d i k c =
+    record { kind = c .kind; target = c .target; kinds = pos letter ∷ c .kinds; values = value ∷ c .values; d = d ∷ c .d; i = i ∷ c .i; k = k ∷ c .k }
+
+-- a line before the others. Only a C line takes up the terms that follow it, up to the next line of another kind
+unfoldable pub before : Record → Net → Net
+before (Direction number direction q) net =
+    record { directions = direction ∷ net .directions; q = q ∷ net .q; pending = noTerms; conditions = net .conditions }
+before (Angles target) net =
+    record { directions = net .directions; q = net .q; pending = noTerms; conditions = headed Angle target (net .pending) ∷ net .conditions }
+before Sides net = record { directions = net .directions; q = net .q; pending = noTerms; conditions = headed Side (pos 0) (net .pending) ∷ net .conditions }
+before (Term letter value d i k) net =
+    record { directions = net .directions; q = net .q; pending = withTerm letter value d i k (net .pending); conditions = net .conditions }
+before Unreadable net = record { directions = net .directions; q = net .q; pending = noTerms; conditions = net .conditions }
+
+unfoldable pub netOf : List (List ℕ) → Net
+netOf [] = record { directions = []; q = []; pending = noTerms; conditions = [] }
+netOf (line ∷ lines) = before (recordOf line) (netOf lines)
+
+-- the net of the lines from a start on
+unfoldable pub netFrom : List ℕ → ℕ → Net
+netFrom file start = netOf (linesOf (drop start file))
+
+-- ---- "Then conditions in order, 4 before 5"; the place is the condition's number
+unfoldable pub refusedAs : Refusal → Reply → Reply
+refusedAs why Accepted = Accepted
+refusedAs why (Refused other) = Refused why
+
+unfoldable pub figureReply : Refusal → Figure → Reply
+figureReply why (Value w) = Accepted
+figureReply why (NoFigure other) = Refused why
+
+unfoldable pub figureValue : Figure → ℤ
+figureValue (Value w) = w
+figureValue (NoFigure other) = pos 0
+
+unfoldable pub zeros : ℕ → List ℤ
+zeros n = tabulate n (λ i. pos 0)
+
+module _ (directions q : List ℤ) where
+  unfoldable pub lentOf : Condition → Lent
+  lentOf c = lent directions q (c .kind) (c .target) (c .kinds) (c .values) (c .d) (c .i) (c .k)
+
+  -- condition j
+  unfoldable pub conditionReply : ℕ → Condition → Reply
+  conditionReply j c =
+      refusedAs (Coefficient j) (coefficientsReply (lentOf c) (length directions)) andThen figureReply (Misclosure j) (misclosureFigure (lentOf c))
+
+  -- from condition j on
+  unfoldable pub conditionsReply : ℕ → List Condition → Reply
+  conditionsReply j [] = Accepted
+  conditionsReply j (c ∷ cs) = conditionReply j c andThen conditionsReply (suc j) cs
+
+  unfoldable pub rowOf : Condition → List ℤ
+  rowOf c = coefficientsList (lentOf c) (zeros (length directions))
+
+  unfoldable pub misclosureOf : Condition → ℤ
+  misclosureOf c = figureValue (misclosureFigure (lentOf c))
+
+  unfoldable pub rowsOf : List Condition → List ℤ
+  rowsOf [] = []
+  rowsOf (c ∷ cs) = rowOf c ++ rowsOf cs
+
+  unfoldable pub misclosuresOf : List Condition → List ℤ
+  misclosuresOf [] = []
+  misclosuresOf (c ∷ cs) = misclosureOf c ∷ misclosuresOf cs
+
+unfoldable pub tableIn : Net → Table
+tableIn net = tableOf (net .q) (rowsOf (net .directions) (net .q) (net .conditions)) (misclosuresOf (net .directions) (net .q) (net .conditions))
+
+-- the answer lists as the file's operation lends them to `adjustment`
+unfoldable pub room : ℕ → ℕ → Answers
+room m n = lists (zeros m) (zeros m) (zeros m) (zeros n) (zeros n) (zeros n)
+
+unfoldable pub netReply : Net → Reply
+netReply net =
+    conditionsReply (net .directions) (net .q) 1 (net .conditions)
+    andThen adjustReply (net .directions) (net .q)
+    (rowsOf (net .directions) (net .q) (net .conditions))
+    (misclosuresOf (net .directions) (net .q) (net .conditions))
+    (room (length (net .directions)) (length (net .conditions)))
+
+unfoldable pub netAnswers : Net → Answers
+netAnswers net = answersOf (tableIn net) (K (tableIn net)) (at (net .directions))
+
+-- ---- the file
+unfoldable pub fileReply : List ℕ → Reply
+fileReply file = scanReply file andThen netReply (netOf (linesOf file))
