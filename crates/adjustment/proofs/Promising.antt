@@ -2,6 +2,7 @@
 --   by-counts, by-lengths, by-directions, by-conditions, by-solution      the reply, where the checks before have accepted
 --   refused-adjusts          a refusal that is the rule's reply, with the lists as they were lent, keeps the promise
 --   accepted-adjusts         so does an accepted table whose lists are the rules' answers: demand 3 holds of them
+--   accepted-demand3         demand 3 of every table that the rules accept
 --   only-reply               two replies that keep the promise are equal, and leave equal lists
 use mathlib.Core.Path.{_≡_, refl, sym, _∙_, ap}
 use mathlib.Core.Bool.{true, false}
@@ -17,8 +18,8 @@ use Rattle.reply.specs.declared.Refusal.{Refusal}
 use Rattle.reply.specs.declared.Refusal.the-variants.{Count, Remainder}
 use Rattle.reply.specs.declared.Reply.{Reply}
 use Rattle.reply.specs.declared.Reply.the-variants.{Accepted, Refused}
-use Rattle.reply.specs.Checks.{_andThen_, leaves}
-use Rattle.reply.proofs.Checking.{none-refused, both-accepted}
+use Rattle.reply.specs.Checks.{refuseIf, _andThen_, leaves}
+use Rattle.reply.proofs.Checking.{none-refused, both-accepted, if-accepted}
 use Rattle.direction.specs.Ranges.{directionsReply}
 use Rattle.adjustment.specs.Table.{Table, at, tableOf}
 use Rattle.adjustment.specs.Solution.{K}
@@ -27,6 +28,7 @@ use Rattle.adjustment.specs.Refusals.{countsAmiss, lengthsAmiss, conditi
 use Rattle.adjustment.specs.Demand.{Demand3}
 use Rattle.adjustment.specs.Promise.{Answers, adjustReply, answersOf, Adjusts}
 use Rattle.adjustment.specs.Inner.{Sound}
+use Rattle.adjustment.proofs.Admitting.{counts-known, lengths-known, sound-table}
 use Rattle.adjustment.proofs.Demands.{demand-3, demand-ext}
 
 module _ (ds qs cs ws : List ℤ) (lent : Answers) where
@@ -82,6 +84,19 @@ module _ (ds qs cs ws : List ℤ) (lent : Answers) where
             (λ j l. sym (ap (λ (x : Answers). at (x .remainders) j) g ∙ tabulate-at (t .n) (R-of t (K t)) j (pos 0) l))
             (λ j l. sym (ap (λ (x : Answers). at (x .misses) j) g ∙ tabulate-at (t .n) (Q-of t (K t)) j (pos 0) l))
             (demand-3 t (K t) (s .q-least) (s .q-most) close)
+
+  -- ---- demand 3, from the rules alone
+  pub accepted-demand3 : adjustReply ds qs cs ws lent ≡ Accepted → Demand3 t (V-of t (K t)) (R-of t (K t)) (Q-of t (K t))
+  unfolding adjustReply inputReply
+  accepted-demand3 e =
+      let amiss = lengthsAmiss (length ds) (length ws) (length qs) (length cs) (length (lent .corrections)) (length (lent .printed)) (length (lent .adjusted)) (length (lent .correlates)) (length (lent .remainders)) (length (lent .misses)) in
+      let input = both-accepted (inputReply ds qs cs ws (length (lent .corrections)) (length (lent .printed)) (length (lent .adjusted)) (length (lent .correlates)) (length (lent .remainders)) (length (lent .misses))) (solutionReply t) e in
+      let counts = both-accepted (refuseIf (countsAmiss (length ds) (length ws)) (Count 0)) (refuseIf amiss (Count 0) andThen (directionsReply ds qs andThen conditionsReply t)) (input .0) in
+      let lengths = both-accepted (refuseIf amiss (Count 0)) (directionsReply ds qs andThen conditionsReply t) (counts .1) in
+      let table = both-accepted (directionsReply ds qs) (conditionsReply t) (lengths .1) in
+      let l = lengths-known (length ds) (length ws) (length qs) (length cs) _ _ _ _ _ _ (if-accepted amiss (Count 0) (lengths .0)) in
+      let s = sound-table ds qs cs ws (counts-known (length ds) (length ws) (if-accepted (countsAmiss (length ds) (length ws)) (Count 0) (counts .0))) (l .of-q) (l .of-a) (table .0) (table .1) in
+      demand-3 t (K t) (s .q-least) (s .q-most) (close s (input .1))
 
   -- ---- and there is only one
   pub only-reply : (r r' : Reply) (left left' : Answers) → Adjusts ds qs cs ws lent r left → Adjusts ds qs cs ws lent r' left' → (r ≡ r') × (left ≡ left')

@@ -1,6 +1,5 @@
 -- Laws of the conditions in their order: 4 and 5 of one of them, its row and its misclosure, and those of all. Assumes nothing.
---   row-refused, closing-refused, both-accepted      what the two operations on its terms say of condition j
---   never                                            a refusal is no acceptance
+--   row-refused, closing-refused, closing-accepted    what the two operations on its terms say of condition j
 --   row-is, row-length                               the row of a condition that is accepted, whatever stood there before
 --   part-length                                      the part of a list that a row takes
 --   FormedTo                                         what has been formed and what the conditions left give are all there is
@@ -24,6 +23,7 @@ use Rattle.reply.specs.declared.Reply.the-variants.{Accepted, Refused}
 use Rattle.reply.specs.declared.Figure.{Figure}
 use Rattle.reply.specs.declared.Figure.the-variants.{Value, Refused as NoFigure}
 use Rattle.reply.specs.Checks.{figureOf, leaves, _andThen_}
+use Rattle.reply.proofs.Checking.{never, both-accepted}
 use Rattle.condition.specs.declared.Kind.{Kind}
 use Rattle.condition.specs.Rules.{coefficientsReply, coefficientsList, misclosureFigure}
 use Rattle.network.specs.Net.{Condition, Net, headed, before, netOf, netFrom}
@@ -47,19 +47,12 @@ module _ (directions q : List ℤ) (j : ℕ) (c : Condition) where
     unfolding conditionReply refusedAs figureReply
     closing-refused why e = rw (accepted, e)
 
-    pub both-accepted : (w : ℤ) → misclosureFigure (lentOf directions q c) ≡ Value w
+    pub closing-accepted : (w : ℤ) → misclosureFigure (lentOf directions q c) ≡ Value w
         → Value w ≡ figureOf (conditionReply directions q j c) (misclosureOf directions q c)
     unfolding conditionReply refusedAs figureReply misclosureOf figureValue
-    both-accepted w e = rw (accepted, e)
+    closing-accepted w e = rw (accepted, e)
 
 -- ---- what a figure says of the reply that it came with
-abbrev refusals : Reply → ℕ
-refusals Accepted = 0
-refusals (Refused why) = 1
-
-pub never : {A : Type 0} (why : Refusal) → Refused why ≡ Accepted → A
-never why e = absurd (omega (arith, ap refusals e))
-
 abbrev whyOf : Figure → Reply
 whyOf (Value w) = Accepted
 whyOf (NoFigure why) = Refused why
@@ -77,15 +70,15 @@ figure-value Accepted v = refl
 figure-value (Refused why) v = refl
 
 module _ (directions q : List ℤ) (c : Condition) where
-  accepted-row : (j : ℕ) (r : Reply) (f : Figure) → refusedAs (Coefficient j) r andThen figureReply (Misclosure j) f ≡ Accepted → r ≡ Accepted
+  kept-accepted : (why : Refusal) (r : Reply) → refusedAs why r ≡ Accepted → r ≡ Accepted
   unfolding refusedAs
-  accepted-row j Accepted f e = refl
-  accepted-row j (Refused why) f e = absurd (omega (arith, ap refusals e))
+  kept-accepted why Accepted e = refl
+  kept-accepted why (Refused other) e = never why e
 
   module _ (j : ℕ) (e : conditionReply directions q j c ≡ Accepted) where
     row-accepted : coefficientsReply (lentOf directions q c) (length directions) ≡ Accepted
     unfolding conditionReply
-    row-accepted = accepted-row j (coefficientsReply (lentOf directions q c) (length directions)) (misclosureFigure (lentOf directions q c)) e
+    row-accepted = kept-accepted (Coefficient j) (coefficientsReply (lentOf directions q c) (length directions)) (both-accepted _ _ e .0)
 
     pub row-is : (old : List ℤ) → length old ≡ length directions → coefficientsList (lentOf directions q c) old ≡ rowOf directions q c
     unfolding rowOf coefficientsList zeros

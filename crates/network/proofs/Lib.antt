@@ -14,3 +14,4 @@ pub mod Figure3
 pub mod Walking
 pub mod Reading
 pub mod Forming
+pub mod Bounding

@@ -13,10 +13,10 @@ use types.Run.{OneOf, miss}
 use denote.Enum.Declared.{tagOf}
 use borrow.Author.Tests.{lt-ltb, le-ltb, ltb-true, ltb-false}
 use lib.Dec.{ltb}
-use lib.ListN.{length, take, drop, set, length-append}
+use lib.ListN.{length, take, set, length-append}
 use lib.Seq.{take-suc-set, append-snoc, length-take-le}
 use Rattle.network.specs.Parts.{placeFrom}
-use Rattle.network.specs.Lines.{LF, lineAt, linesOf, statusAt}
+use Rattle.network.specs.Lines.{LF, lineAt}
 use Rattle.network.specs.Records.{recordOf}
 use Rattle.network.specs.Net.{Net, noTerms, before, netOf, netFrom}
 use Rattle.network.specs.Cursor.{turnOf}

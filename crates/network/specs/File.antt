@@ -1,14 +1,20 @@
 -- The listing of a file, byte for byte.
-use mathlib.Core.List.{List}
+use mathlib.Core.Path.{_≡_}
+use mathlib.Core.Bool.{cond}
+use mathlib.Core.List.{List, []}
 use Prim.Native.Nat.{ℕ}
+use lib.Dec.{ltb}
 use lib.ListN.{length}
 use Rattle.reply.specs.declared.Reply.{Reply}
 use Rattle.reply.specs.declared.Reply.the-variants.{Accepted, Refused}
 use Rattle.reply.specs.Numbers.{numberOf, placeOf}
+use Rattle.adjustment.specs.Solution.{K}
+use Rattle.adjustment.specs.Corrections.{V-of, R-of, Q-of}
+use Rattle.adjustment.specs.Demand.{Demand3}
 use Rattle.adjustment.specs.Promise.{Answers}
 use Rattle.network.specs.Lines.{linesOf}
-use Rattle.network.specs.Listing.{refusedLine, acceptedListing}
-use Rattle.network.specs.Net.{netOf, netAnswers, fileReply}
+use Rattle.network.specs.Listing.{refusedLine, acceptedListing, Wrote}
+use Rattle.network.specs.Net.{netOf, tableIn, netAnswers, fileReply}
 
 unfoldable pub listingFor : Reply → Answers → List ℕ
 listingFor Accepted a =
@@ -17,3 +23,13 @@ listingFor (Refused why) a = refusedLine (numberOf why) (placeOf why)
 
 unfoldable pub listingOf : List ℕ → List ℕ
 listingOf file = listingFor (fileReply file) (netAnswers (netOf (linesOf file)))
+
+-- what goes into a lent buffer of so many bytes: the listing; nothing, where the buffer could not hold the longest one
+unfoldable pub listed : List ℕ → ℕ → List ℕ
+listed file room = cond (ltb room 6560) [] (listingOf file)
+
+-- ---- what the operation promises of every file and every buffer
+pub record Lists (file before : List ℕ) (count : ℕ) (after : List ℕ) : Type 0 where
+  pub bytes : Wrote before 0 (listed file (length before)) after count
+  -- demand 3 of every accepted file: of the table that its lines give, with V, R and Q as they are listed
+  pub demand3 : fileReply file ≡ Accepted → let t = tableIn (netOf (linesOf file)) in Demand3 t (V-of t (K t)) (R-of t (K t)) (Q-of t (K t))

@@ -1,12 +1,12 @@
 -- What inner functions hand each other: the heading that a line is, the terms of a condition in fixed arrays, and what the arrays can hold.
 use mathlib.Core.Path.{_≡_}
 use mathlib.Core.List.{List, [], _∷_}
-use Prim.Native.Nat.{ℕ, _≤_}
+use Prim.Native.Nat.{_≤_}
 use lib.IntN.{ℤ, pos}
 use lib.ListN.{length, take}
 use Rattle.condition.specs.declared.Kind.{Kind}
 use Rattle.condition.specs.declared.Kind.the-variants.{Angle, Side}
-use Rattle.network.specs.Net.{Condition, Net}
+use Rattle.network.specs.Net.{Condition}
 use Rattle.network.specs.declared.conditions.Heading.{Heading}
 use Rattle.network.specs.declared.conditions.Heading.the-variants.{Of, NoHeading}
 use Rattle.network.specs.declared.record.Record.{Record}

@@ -1,4 +1,4 @@
-// The network file: its lines, their fields, its numbers, and numbers written for the listing.
+// The network file: its lines, numbers and records, its refusals, and the one operation on a whole file, `adjust`, down to the bytes of its listing.
 mod conditions;
 mod cursor;
 mod decimal;
@@ -11,4 +11,40 @@ pub mod number;
 mod range;
 mod record;
 pub mod scan;
+mod solve;
 mod terms;
+
+ghost use Prim.Native.Nat.{_≤_};
+ghost use lib.ListN.{length};
+ghost use Rattle.network.specs.File.{Lists};
+use reply::Reply;
+
+// The longest listing: that of 64 directions and 24 conditions, with the longest numbers.
+pub const LISTING: usize = 6560;
+
+// The listing of a network file, into a lent buffer; how many bytes it has. A buffer of fewer than LISTING bytes stays as it was, and the answer is 0.
+pub fn adjust(file: &[u8], out: &mut [u8]) -> usize
+    ensures listing { λ r. ⌜ Lists (now (file .entry)) (now (out .entry)) r (now (out .exit)) ⌝ }
+    ensures within { λ r. ⌜ r ≤ length (now (out .entry)) ⌝ }
+{
+    if out.len() < LISTING {
+        return 0;
+    }
+    let scanned = scan::scan(file);
+    if let Reply::Refused(why) = scanned {
+        return listing::put_refusal(out, why);
+    }
+    let read = directions::read(file);
+    let m = read.m;
+    let direction = read.direction;
+    let q = read.q;
+    let mut a = [0i64; 1536];
+    let mut w = [0i64; 24];
+    let formed = conditions::form_all(file, &direction[..m], &q[..m], &mut a, &mut w);
+    let reply = formed.reply;
+    if let Reply::Refused(why) = reply {
+        return listing::put_refusal(out, why);
+    }
+    let n = formed.n;
+    solve::solve(&direction[..m], &q[..m], &a[..n * m], &w[..n], out)
+}

@@ -2,6 +2,7 @@
 --   refuse-at, refuse-none        a check over n things in their order: what it replies, from what a loop has found
 --   refuse-first, accept-first    the same, from the first at fault
 --   none-refused                  where it accepts, no thing is at fault
+--   never                         a refusal is no acceptance
 --   neither                       where one or the other is no fault, neither is
 --   both-accepted, if-accepted    where two checks accept one after the other, each does; where one check accepts, its fault is not there
 --   turn-none, turn-more, turn-stops, turn-each      several checks of each of n things, by the loop that makes them
@@ -23,7 +24,7 @@ pub neither : (a b : Bool) → (a || b) ≡ false → (a ≡ false) × (b ≡ fa
 neither true b h = let z : _≡_ {A = ℕ} 0 1 = cc in absurd (omega arith)
 neither false b h = (refl, h)
 
-never : {A : Type 0} (why : Refusal) → Refused why ≡ Accepted → A
+pub never : {A : Type 0} (why : Refusal) → Refused why ≡ Accepted → A
 never why e = let z : _≡_ {A = ℕ} 0 1 = cc in absurd (omega arith)
 
 pub both-accepted : (r s : Reply) → (r andThen s) ≡ Accepted → (r ≡ Accepted) × (s ≡ Accepted)

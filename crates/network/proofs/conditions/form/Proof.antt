@@ -14,7 +14,7 @@ use Rattle.reply.specs.declared.Figure.the-variants.{Value}
 use Rattle.condition.specs.Rules.{coefficientsReply, coefficientsList, misclosureFigure}
 use Rattle.network.specs.Net.{Condition, lentOf}
 use Rattle.network.specs.Gathered.{conditionIn}
-use Rattle.network.proofs.Forming.{row-refused, closing-refused, both-accepted}
+use Rattle.network.proofs.Forming.{row-refused, closing-refused, closing-accepted}
 use Rattle.network.proofs.conditions.form.Statement.{statement}
 use Rattle.network.proofs.conditions.form.Tie as tie
 
@@ -117,7 +117,7 @@ returns-2 : tie.Need-returns-2
 returns-2 c =
     let g = c .before .before .before in let e = formed g in let v = c .before .closed .given in (
       ap Value (read-at (v .0 .0) (c .known-told .given .0 .1))
-          ∙ both-accepted (directions e) (q e) (start e .args .j) (asked e) (accepted g) (v .0 .0) (figure g ∙ v .1),
+          ∙ closing-accepted (directions e) (q e) (start e .args .j) (asked e) (accepted g) (v .0 .0) (figure g ∙ v .1),
       row-list e,
     )
 

@@ -1,5 +1,5 @@
 -- `network::conditions::form_all` meets its contract: what has been formed and what the conditions left give are those of the file. Assumes nothing.
-use mathlib.Core.Path.{_≡_, refl, sym, _∙_, ap}
+use mathlib.Core.Path.{_≡_, sym, _∙_, ap}
 use mathlib.Core.List.{List}
 use Prim.Native.Nat.{ℕ, _+_, _-_, _<_, _≤_}
 use native.Mathlib.Omega.{arith}
@@ -13,12 +13,13 @@ use mir.Val.{toZ, ofZ}
 use Rattle.exact.proofs.Bound.{read-at}
 use Rattle.network.proofs.Walking.{Walked, turn-line, turn-end}
 use Rattle.reply.specs.Checks.{figureOf}
+use Rattle.reply.proofs.Checking.{never}
 use Rattle.condition.specs.Rules.{coefficientsList}
 use Rattle.condition.specs.declared.Kind.{Kind}
 use Rattle.network.specs.Net.{Condition, headed, netFrom, lentOf, conditionReply, misclosureOf}
 use Rattle.network.specs.Gathered.{headingOf, conditionIn}
 use Rattle.network.specs.declared.conditions.Heading.the-variants.{Of}
-use Rattle.network.proofs.Forming.{FormedTo, formed-none, terms-fit, form-turn, form-room, part-length, form-refused, form-more, row-put, form-other, end-reply, end-count, end-rows, end-closings, never}
+use Rattle.network.proofs.Forming.{FormedTo, formed-none, terms-fit, form-turn, form-room, part-length, form-refused, form-more, row-put, form-other, end-reply, end-count, end-rows, end-closings}
 use Rattle.network.proofs.conditions.form_all.Statement.{statement}
 use Rattle.network.proofs.conditions.form_all.Tie as tie
 

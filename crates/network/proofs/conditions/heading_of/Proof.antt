@@ -1,5 +1,4 @@
 -- `network::conditions::heading_of` meets its contract, record by record. Assumes nothing.
-use mathlib.Core.Path.{_∙_}
 use borrow.Author.Needs.{needs}
 use Rattle.exact.proofs.Bound.{read-at}
 use Rattle.network.specs.Gathered.{headingOf}
