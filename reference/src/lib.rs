@@ -1,0 +1,9 @@
+//! A second reading of the rules of the adjustment, written from the documents alone.
+//!
+//! It exists to be compared with the product: the same input must end in the same reply.
+//! Sizes are kept out of the question by reckoning in `i128` throughout, and no input
+//! makes it panic.
+
+mod numeric;
+pub mod refusal;
+pub mod station;
