@@ -4,6 +4,8 @@
 //! Sizes are kept out of the question by reckoning in `i128` throughout, and no input
 //! makes it panic.
 
+pub mod adjustment;
+pub mod condition;
 mod numeric;
 pub mod refusal;
 pub mod station;
