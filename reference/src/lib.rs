@@ -6,6 +6,7 @@
 
 pub mod adjustment;
 pub mod condition;
+pub mod network;
 mod numeric;
 pub mod refusal;
 pub mod station;

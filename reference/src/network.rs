@@ -1,0 +1,286 @@
+//! The network file: its lines, its numbers, its checks, and the listing it ends in.
+
+use crate::adjustment::{Adjustment, Net, MOST_CONDITIONS};
+use crate::condition::{
+    direction_allowed, sum_coefficients, sum_misclosure, target_allowed, ConditionKind, Side, Term,
+    MOST_DIRECTIONS, MOST_TERMS,
+};
+use crate::refusal::{place, Refusal, COUNT, MALFORMED, RANGE};
+
+/// The longest file that is read.
+pub const MOST_BYTES: usize = 65_535;
+
+const MOST_DIGITS: usize = 11;
+
+/// What the line reader found at a start.
+#[derive(Clone, Copy, Debug, PartialEq, Eq, PartialOrd, Ord)]
+pub enum LineStatus {
+    Line,
+    NoneLeft,
+    LfMissing,
+}
+
+/// The line that begins at `start`, without its LF; empty unless the status is `Line`.
+pub fn line(file: &[u8], start: usize) -> &[u8] {
+    let rest = file.get(start..).unwrap_or_default();
+    match line_feed(rest) {
+        Some(end) => &rest[..end],
+        None => &[],
+    }
+}
+
+/// The companion reply of [`line`] for the same start.
+pub fn line_status(file: &[u8], start: usize) -> LineStatus {
+    let rest = file.get(start..).unwrap_or_default();
+    if rest.is_empty() {
+        LineStatus::NoneLeft
+    } else if line_feed(rest).is_some() {
+        LineStatus::Line
+    } else {
+        LineStatus::LfMissing
+    }
+}
+
+fn line_feed(bytes: &[u8]) -> Option<usize> {
+    bytes.iter().position(|&byte| byte == b'\n')
+}
+
+/// A number as the file writes it, or nothing if the field is malformed.
+pub fn read_number(field: &[u8]) -> Option<i64> {
+    let (negative, digits) = match field {
+        [b'-', digits @ ..] => (true, digits),
+        digits => (false, digits),
+    };
+    let sound = (1..=MOST_DIGITS).contains(&digits.len())
+        && digits.iter().all(u8::is_ascii_digit)
+        && (digits[0] != b'0' || field == b"0");
+    if !sound {
+        return None;
+    }
+    let size = digits
+        .iter()
+        .fold(0, |size, digit| 10 * size + i64::from(digit - b'0'));
+    Some(if negative { -size } else { size })
+}
+
+/// The listing of a network file: the adjustment, or the one line of a refusal.
+pub fn listing(file: &[u8]) -> Vec<u8> {
+    let text = match adjust_network(file) {
+        Ok(adjustment) => adjustment_text(&adjustment),
+        Err(refusal) => format!("REFUSED\t{}\t{}\n", refusal.number, refusal.place),
+    };
+    text.into_bytes()
+}
+
+/// The adjustment of a network file.
+pub fn adjust_network(file: &[u8]) -> Result<Adjustment, Refusal> {
+    let net = read_file(file)?.into_net();
+    net.check_conditions()?;
+    net.adjust()
+}
+
+fn adjustment_text(adjustment: &Adjustment) -> String {
+    let mut text = format!("ADJ\t{}\t{}\n", adjustment.u.len(), adjustment.k.len());
+    let corrections = adjustment.u.iter().zip(&adjustment.adjusted);
+    for (index, (u, adjusted)) in corrections.enumerate() {
+        text += &format!("V\t{}\t{u}\t{adjusted}\n", index + 1);
+    }
+    let correlates = adjustment.k.iter().zip(&adjustment.r).zip(&adjustment.q);
+    for (index, ((k, r), q)) in correlates.enumerate() {
+        text += &format!("K\t{}\t{k}\t{r}\t{q}\n", index + 1);
+    }
+    text
+}
+
+/// What a well-formed line says, before any count or range is tested.
+enum Entry {
+    Direction { number: i64, direction: i64, q: i64 },
+    Condition { kind: ConditionKind, target: i64 },
+    Term(Term),
+}
+
+/// A condition as far as its lines have been read.
+struct Condition {
+    kind: ConditionKind,
+    target: i64,
+    terms: Vec<Term>,
+}
+
+/// The network as far as its lines have been read.
+#[derive(Default)]
+struct Network {
+    directions: Vec<i64>,
+    q: Vec<i64>,
+    conditions: Vec<Condition>,
+}
+
+fn read_file(file: &[u8]) -> Result<Network, Refusal> {
+    if file.len() > MOST_BYTES {
+        return Err(Refusal::at_zero(COUNT));
+    }
+    let mut network = Network::default();
+    let mut start = 0;
+    let mut number = 1;
+    loop {
+        match line_status(file, start) {
+            LineStatus::NoneLeft => break,
+            LineStatus::LfMissing => return Err(Refusal::new(MALFORMED, number)),
+            LineStatus::Line => {
+                let line = line(file, start);
+                network
+                    .take_line(line)
+                    .map_err(|refused| Refusal::new(refused, number))?;
+                start += line.len() + 1;
+                number += 1;
+            }
+        }
+    }
+    network.check_end()?;
+    Ok(network)
+}
+
+impl Network {
+    /// One line's checks: 1 over the whole of it, then 2, then 3.
+    fn take_line(&mut self, line: &[u8]) -> Result<(), i64> {
+        let entry = read_entry(line)
+            .filter(|entry| self.heading_allows(entry))
+            .ok_or(MALFORMED)?;
+        if !self.counts_allow(&entry) {
+            return Err(COUNT);
+        }
+        if !self.in_range(&entry) {
+            return Err(RANGE);
+        }
+        self.add(entry);
+        Ok(())
+    }
+
+    fn heading_allows(&self, entry: &Entry) -> bool {
+        match (entry, self.conditions.last()) {
+            (Entry::Direction { .. }, last) => last.is_none(),
+            (Entry::Condition { .. }, _) => true,
+            (Entry::Term(term), Some(last)) => term.fits(last.kind),
+            (Entry::Term(_), None) => false,
+        }
+    }
+
+    fn counts_allow(&self, entry: &Entry) -> bool {
+        match entry {
+            Entry::Direction { number, .. } => {
+                self.directions.len() < MOST_DIRECTIONS
+                    && *number == place(self.directions.len() + 1)
+            }
+            Entry::Condition { .. } => {
+                self.conditions.len() < MOST_CONDITIONS && self.last_has_terms()
+            }
+            Entry::Term(_) => {
+                let last = self.conditions.last();
+                last.is_some_and(|condition| condition.terms.len() < MOST_TERMS)
+            }
+        }
+    }
+
+    fn in_range(&self, entry: &Entry) -> bool {
+        match entry {
+            Entry::Direction { direction, q, .. } => direction_allowed(*direction, *q),
+            Entry::Condition { kind, target } => {
+                *kind == ConditionKind::Side || target_allowed(*target)
+            }
+            Entry::Term(term) => term.in_range(self.directions.len()),
+        }
+    }
+
+    fn add(&mut self, entry: Entry) {
+        match entry {
+            Entry::Direction { direction, q, .. } => {
+                self.directions.push(direction);
+                self.q.push(q);
+            }
+            Entry::Condition { kind, target } => self.conditions.push(Condition {
+                kind,
+                target,
+                terms: Vec::new(),
+            }),
+            Entry::Term(term) => {
+                if let Some(last) = self.conditions.last_mut() {
+                    last.terms.push(term);
+                }
+            }
+        }
+    }
+
+    /// Whether the condition last begun, if any, is not left without terms.
+    fn last_has_terms(&self) -> bool {
+        let last = self.conditions.last();
+        last.is_none_or(|condition| !condition.terms.is_empty())
+    }
+
+    /// The counts that are seen only at the end of the file.
+    fn check_end(&self) -> Result<(), Refusal> {
+        let m = self.directions.len();
+        let n = self.conditions.len();
+        if m == 0 || n == 0 || n > m || !self.last_has_terms() {
+            return Err(Refusal::at_zero(COUNT));
+        }
+        Ok(())
+    }
+
+    fn into_net(self) -> Net {
+        let m = self.directions.len();
+        let row = |condition: &Condition| sum_coefficients(&condition.terms, m);
+        let misclosure = |condition: &Condition| {
+            sum_misclosure(
+                condition.kind,
+                condition.target,
+                &condition.terms,
+                &self.directions,
+            )
+        };
+        Net {
+            a: self.conditions.iter().map(row).collect(),
+            w: self.conditions.iter().map(misclosure).collect(),
+            directions: self.directions.iter().copied().map(i128::from).collect(),
+            q: self.q.iter().copied().map(i128::from).collect(),
+        }
+    }
+}
+
+/// The form of a line by itself: letters, number of fields, and well-formed numbers.
+fn read_entry(line: &[u8]) -> Option<Entry> {
+    let fields: Vec<&[u8]> = line.split(|&byte| byte == b'\t').collect();
+    match fields[..] {
+        [b"D", number, direction, q] => Some(Entry::Direction {
+            number: read_number(number)?,
+            direction: read_number(direction)?,
+            q: read_number(q)?,
+        }),
+        [b"C", b"A", target] => Some(Entry::Condition {
+            kind: ConditionKind::Angle,
+            target: read_number(target)?,
+        }),
+        [b"C", b"S"] => Some(Entry::Condition {
+            kind: ConditionKind::Side,
+            target: 0,
+        }),
+        [b"P", i, k] => Some(Entry::Term(Term::Angle {
+            i: read_number(i)?,
+            k: read_number(k)?,
+        })),
+        [b"F", angle] => Some(Entry::Term(Term::FixedAngle {
+            angle: read_number(angle)?,
+        })),
+        [b"L", logarithm, d, i, k] => read_log(Side::Left, [logarithm, d, i, k]),
+        [b"R", logarithm, d, i, k] => read_log(Side::Right, [logarithm, d, i, k]),
+        _ => None,
+    }
+}
+
+fn read_log(side: Side, [logarithm, d, i, k]: [&[u8]; 4]) -> Option<Entry> {
+    Some(Entry::Term(Term::Log {
+        side,
+        logarithm: read_number(logarithm)?,
+        d: read_number(d)?,
+        i: read_number(i)?,
+        k: read_number(k)?,
+    }))
+}
