@@ -298,3 +298,25 @@ fn wide(list: &[i64]) -> Vec<i128> {
 fn answers(list: Vec<i128>) -> Vec<i64> {
     list.into_iter().map(answer).collect()
 }
+
+#[cfg(test)]
+mod tests {
+    use super::*;
+    use crate::generate::{table_case, Rng};
+
+    #[test]
+    fn check_column_is_the_row_sum_of_the_normals() {
+        let mut rng = Rng::new(138);
+        let mut sound = 0;
+        for _ in 0..400 {
+            let case = table_case(&mut rng);
+            if let Ok(net) = Net::check(&case.table(), case.lengths) {
+                let sums = net.normals().into_iter();
+                let sums: Vec<i128> = sums.map(|row| row.into_iter().sum()).collect();
+                assert_eq!(sums, net.check_column());
+                sound += 1;
+            }
+        }
+        assert!(sound > 100);
+    }
+}

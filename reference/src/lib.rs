@@ -5,7 +5,9 @@
 //! makes it panic.
 
 pub mod adjustment;
+pub mod census;
 pub mod condition;
+pub mod generate;
 pub mod network;
 mod numeric;
 pub mod refusal;

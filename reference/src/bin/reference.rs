@@ -1,11 +1,44 @@
-//! Writes the listing of the network file on standard input.
+//! Writes the listing of the network file on standard input; or, with the argument
+//! `census` (and a number of cases and a seed), how often each reply occurs among the
+//! generated inputs.
 
+use std::env;
 use std::io::{self, Read, Write};
+use std::process::ExitCode;
 
-use reference::network;
+use reference::{census, network};
 
-fn main() -> io::Result<()> {
+fn main() -> ExitCode {
+    let arguments: Vec<String> = env::args().skip(1).collect();
+    let done = match arguments.first().map(String::as_str) {
+        None => write_listing(),
+        Some("census") => write_census(&arguments[1..]),
+        Some(_) => Err(io::Error::other(
+            "use: reference < net, or reference census [cases [seed]]",
+        )),
+    };
+    match done {
+        Ok(()) => ExitCode::SUCCESS,
+        Err(error) => {
+            eprintln!("{error}");
+            ExitCode::FAILURE
+        }
+    }
+}
+
+fn write_listing() -> io::Result<()> {
     let mut file = Vec::new();
     io::stdin().lock().read_to_end(&mut file)?;
     io::stdout().lock().write_all(&network::listing(&file))
+}
+
+fn write_census(arguments: &[String]) -> io::Result<()> {
+    let number = |index: usize, otherwise: u64| match arguments.get(index) {
+        Some(text) => text.parse().map_err(io::Error::other),
+        None => Ok(otherwise),
+    };
+    let cases = usize::try_from(number(0, 20_000)?).map_err(io::Error::other)?;
+    let seed = number(1, 138)?;
+    let report = census::report(&census::take(seed, cases));
+    io::stdout().lock().write_all(report.as_bytes())
 }

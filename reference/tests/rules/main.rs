@@ -1,6 +1,7 @@
-//! The rules as tests: the ten figures, every refusal, and the readings of open
-//! points.
+//! The rules as tests: the ten figures, every refusal, the readings of open points,
+//! and what the generator reaches.
 
+mod census;
 mod figures;
 mod readings;
 mod refusals;

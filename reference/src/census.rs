@@ -1,0 +1,160 @@
+//! How often each reply occurs among the generated inputs, so that one sees what a
+//! differential test over them would reach.
+
+use std::collections::BTreeMap;
+use std::fmt::Debug;
+
+use crate::adjustment::Adjustment;
+use crate::generate::{
+    line_case, network_case, number_case, station_case, table_case, terms_case, Rng,
+};
+use crate::refusal::Refusal;
+use crate::{adjustment, condition, network, station};
+
+/// Replies by number, 0 for acceptance, with how often each occurred.
+pub type Replies = BTreeMap<i64, usize>;
+
+/// The counts of one seed and so many cases for each kind of input.
+#[derive(Clone, Debug, Default, PartialEq, Eq)]
+pub struct Census {
+    pub station: Replies,
+    pub coefficients: Replies,
+    pub misclosure: Replies,
+    pub table: Replies,
+    pub network: Replies,
+    /// Accepted tables of n = 24, of m = 64, and of both; then the same of networks.
+    pub largest_tables: [usize; 3],
+    pub largest_networks: [usize; 3],
+    /// Accepted tables in which some |K| is 10^8, and in which some |R| is 50,000,000.
+    pub limits_met: [usize; 2],
+    pub weaknesses: BTreeMap<adjustment::Weakness, usize>,
+    pub line_statuses: BTreeMap<network::LineStatus, usize>,
+    /// Malformed and well-formed numbers.
+    pub numbers: BTreeMap<bool, usize>,
+}
+
+/// Takes the census of `cases` inputs of each kind.
+pub fn take(seed: u64, cases: usize) -> Census {
+    let mut census = Census::default();
+    let mut rng = Rng::new(seed);
+    for _ in 0..cases {
+        count_station(&mut rng, &mut census);
+        count_terms(&mut rng, &mut census);
+        count_table(&mut rng, &mut census);
+        count_network(&mut rng, &mut census);
+        let case = line_case(&mut rng);
+        let status = network::line_status(&case.file, case.start);
+        *census.line_statuses.entry(status).or_default() += 1;
+        let number = network::read_number(&number_case(&mut rng).field);
+        *census.numbers.entry(number.is_some()).or_default() += 1;
+    }
+    census
+}
+
+fn count<T>(replies: &mut Replies, reply: &Result<T, Refusal>) {
+    let number = match reply {
+        Ok(_) => 0,
+        Err(refusal) => refusal.number,
+    };
+    *replies.entry(number).or_default() += 1;
+}
+
+fn count_station(rng: &mut Rng, census: &mut Census) {
+    let case = station_case(rng);
+    let reply = station::station_means_i64(
+        &case.position,
+        &case.object,
+        &case.face,
+        &case.reading,
+        case.lengths,
+    );
+    count(&mut census.station, &reply);
+}
+
+fn count_terms(rng: &mut Rng, census: &mut Census) {
+    let case = terms_case(rng);
+    let lent = case.condition();
+    let coefficients =
+        condition::coefficients(&case.directions, &case.q, &lent, case.answer_length);
+    count(&mut census.coefficients, &coefficients);
+    let misclosure = condition::misclosure(&case.directions, &case.q, &lent);
+    count(&mut census.misclosure, &misclosure);
+}
+
+fn count_table(rng: &mut Rng, census: &mut Census) {
+    let case = table_case(rng);
+    let reply = adjustment::adjust(&case.table(), case.lengths);
+    count(&mut census.table, &reply);
+    match reply {
+        Ok(adjustment) => {
+            add(&mut census.largest_tables, largest(&adjustment));
+            let met = |list: &[i64], limit: i64| list.iter().any(|x| x.abs() == limit);
+            let limits = [
+                met(&adjustment.k, 100_000_000),
+                met(&adjustment.r, 50_000_000),
+            ];
+            add(&mut census.limits_met, limits);
+        }
+        Err(_) => {
+            if let Some(weakness) = adjustment::weakness(&case.table()) {
+                *census.weaknesses.entry(weakness).or_default() += 1;
+            }
+        }
+    }
+}
+
+fn count_network(rng: &mut Rng, census: &mut Census) {
+    let reply = network::adjust_network(&network_case(rng).file);
+    count(&mut census.network, &reply);
+    if let Ok(adjustment) = reply {
+        add(&mut census.largest_networks, largest(&adjustment));
+    }
+}
+
+/// Whether n is 24, m is 64, and both.
+fn largest(adjustment: &Adjustment) -> [bool; 3] {
+    let most_conditions = adjustment.k.len() == 24;
+    let most_directions = adjustment.v.len() == 64;
+    [
+        most_conditions,
+        most_directions,
+        most_conditions && most_directions,
+    ]
+}
+
+fn add<const N: usize>(totals: &mut [usize; N], seen: [bool; N]) {
+    for (total, seen) in totals.iter_mut().zip(seen) {
+        *total += usize::from(seen);
+    }
+}
+
+/// The census as text, one line for each kind of input.
+pub fn report(census: &Census) -> String {
+    let sizes = |name: &str, [conditions, directions, both]: [usize; 3]| {
+        format!("{name} accepted: n = 24 {conditions}, m = 64 {directions}, both {both}\n")
+    };
+    let [k, r] = census.limits_met;
+    [
+        describe("station", &census.station),
+        describe("coefficients", &census.coefficients),
+        describe("misclosure", &census.misclosure),
+        describe("table", &census.table),
+        describe("network", &census.network),
+        sizes("tables", census.largest_tables),
+        sizes("networks", census.largest_networks),
+        format!("limits met exactly in accepted tables: K {k}, R {r}\n"),
+        describe("weak rows", &census.weaknesses),
+        describe("line statuses", &census.line_statuses),
+        describe("numbers well formed", &census.numbers),
+    ]
+    .concat()
+}
+
+fn describe<K: Debug>(name: &str, counts: &BTreeMap<K, usize>) -> String {
+    let total: usize = counts.values().sum();
+    let share = |count: usize| 100.0 * count as f64 / total.max(1) as f64;
+    let shares = counts
+        .iter()
+        .map(|(key, &count)| format!("{key:?}: {count} ({:.1}%)", share(count)));
+    format!("{name}: {}\n", shares.collect::<Vec<_>>().join(", "))
+}

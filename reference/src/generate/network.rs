@@ -1,0 +1,531 @@
+//! Network files, whole and damaged; and bytes for the line and number readers.
+
+use super::{direction_count, inverse_weights, Rng, CIRCLE};
+use crate::network::MOST_BYTES;
+
+/// The bytes of a network file.
+#[derive(Clone, Debug, PartialEq, Eq)]
+pub struct NetworkCase {
+    pub file: Vec<u8>,
+}
+
+/// Bytes and a start for the line reader.
+#[derive(Clone, Debug, PartialEq, Eq)]
+pub struct LineCase {
+    pub file: Vec<u8>,
+    pub start: usize,
+}
+
+/// A field for the number reader.
+#[derive(Clone, Debug, PartialEq, Eq)]
+pub struct NumberCase {
+    pub field: Vec<u8>,
+}
+
+/// A line as its fields.
+type Line = Vec<String>;
+
+macro_rules! line {
+    ($($field:expr),+) => { vec![$($field.to_string()),+] };
+}
+
+pub fn network_case(rng: &mut Rng) -> NetworkCase {
+    let mut lines = sound_net(rng);
+    let damaged = rng.chance(55);
+    if damaged && rng.chance(70) {
+        for _ in 0..rng.pick(&[1, 1, 1, 2, 3]) {
+            damage_lines(rng, &mut lines);
+        }
+    }
+    let mut file = write_lines(&lines);
+    if damaged && rng.chance(50) {
+        for _ in 0..rng.pick(&[1, 1, 1, 2, 3]) {
+            damage_bytes(rng, &mut file);
+        }
+    }
+    NetworkCase { file }
+}
+
+pub fn line_case(rng: &mut Rng) -> LineCase {
+    let length = match rng.below(4) {
+        0 => rng.below(4),
+        1 => rng.below(200),
+        _ => rng.count(1, 24),
+    };
+    let line_feeds = rng.pick(&[0, 10, 40, 90]);
+    let file: Vec<u8> = (0..length)
+        .map(|_| {
+            if rng.chance(line_feeds) {
+                b'\n'
+            } else {
+                odd_byte(rng)
+            }
+        })
+        .collect();
+    let start = match rng.below(12) {
+        0 => length,
+        1 => length + 1,
+        2 => rng.pick(&[usize::MAX, usize::MAX - 1, length + 100]),
+        3 => 0,
+        _ => rng.below(length + 1),
+    };
+    LineCase { file, start }
+}
+
+pub fn number_case(rng: &mut Rng) -> NumberCase {
+    let digits = rng.count(0, 13);
+    let mut field: Vec<u8> = (0..digits).map(|_| rng.pick(b"0123456789")).collect();
+    if rng.chance(40) && field.first() == Some(&b'0') {
+        field[0] = b'9';
+    }
+    if rng.chance(30) {
+        field.insert(0, b'-');
+    }
+    if rng.chance(15) {
+        let index = rng.below(field.len() + 1);
+        field.insert(index, odd_byte(rng));
+    }
+    if rng.chance(15) {
+        field = boundary_text(rng, 9).into_bytes();
+    }
+    NumberCase { field }
+}
+
+fn write_lines(lines: &[Line]) -> Vec<u8> {
+    let mut text = String::new();
+    for line in lines {
+        text += &line.join("\t");
+        text.push('\n');
+    }
+    text.into_bytes()
+}
+
+/// A net that is well formed; what its solution says of it is another matter.
+fn sound_net(rng: &mut Rng) -> Vec<Line> {
+    let m = direction_count(rng);
+    let directions: Vec<i64> = (0..m).map(|_| rng.direction()).collect();
+    let q = inverse_weights(rng, m);
+    let mut lines: Vec<Line> = Vec::new();
+    for (index, (direction, q)) in directions.iter().zip(&q).enumerate() {
+        lines.push(line!["D", index + 1, direction, q]);
+    }
+    let most = m.min(24);
+    let n = match rng.below(3) {
+        0 => most,
+        1 => rng.count(1, most),
+        _ => rng.count(1, most.div_ceil(2)),
+    };
+    let side_share = rng.pick(&[0, 20, 60]);
+    let odd = if rng.chance(30) { rng.below(n) } else { n };
+    for (index, own) in rng.sample(1, m as i64, n).into_iter().enumerate() {
+        if index == odd {
+            lines.extend(odd_condition(rng, &directions));
+        } else if rng.chance(side_share) {
+            lines.extend(side_condition(rng, &directions, own));
+        } else {
+            lines.extend(angle_condition(rng, &directions, own));
+        }
+    }
+    lines
+}
+
+/// Some direction number other than the one given, 0 included.
+fn other_direction(rng: &mut Rng, m: usize, one: i64) -> i64 {
+    let m = m as i64;
+    (one + rng.range(1, m)).rem_euclid(m + 1)
+}
+
+fn angle(directions: &[i64], i: i64, k: i64) -> i64 {
+    let value = |number: i64| match number {
+        0 => 0,
+        _ => directions[number as usize - 1],
+    };
+    (value(k) - value(i)).rem_euclid(CIRCLE)
+}
+
+/// Angles whose target leaves a moderate misclosure. The row's own direction takes
+/// part, so that rows are seldom dependent.
+fn angle_condition(rng: &mut Rng, directions: &[i64], own: i64) -> Vec<Line> {
+    let m = directions.len();
+    let mut terms: Vec<Line> = Vec::new();
+    let mut sum = 0;
+    let count = rng.pick(&[1, 1, 2, 2, 3, 4, 6, 12]);
+    for index in 0..count {
+        if index > 0 && rng.chance(20) {
+            let fixed = rng.direction();
+            terms.push(line!["F", fixed]);
+            sum += fixed;
+        } else {
+            let k = if index == 0 {
+                own
+            } else {
+                rng.range(0, m as i64)
+            };
+            let i = other_direction(rng, m, k);
+            terms.push(line!["P", i, k]);
+            sum += angle(directions, i, k);
+        }
+    }
+    let target = (sum - moderate_misclosure(rng)).clamp(0, 12 * CIRCLE);
+    rng.shuffle(&mut terms);
+    terms.insert(0, line!["C", "A", target]);
+    terms
+}
+
+/// Logarithms that close but for a moderate misclosure; their differences are small
+/// enough, most often, for the correlates and the remainders to pass.
+fn side_condition(rng: &mut Rng, directions: &[i64], own: i64) -> Vec<Line> {
+    let m = directions.len();
+    let most = rng.pick(&[80, 200, 200, 500]);
+    let mut terms: Vec<Line> = Vec::new();
+    let pairs = rng.pick(&[1, 1, 2, 3, 6]);
+    for index in 0..pairs {
+        let logarithm = rng.range(50_000_000, 199_000_000);
+        let apart = match index {
+            0 => moderate_misclosure(rng) / 100,
+            _ => 0,
+        };
+        let k = if index == 0 {
+            own
+        } else {
+            rng.range(1, m as i64)
+        };
+        let i = other_direction(rng, m, k);
+        let d = rng.sign() * rng.range(most / 2, most);
+        terms.push(line!["L", logarithm, d, i, k]);
+        if rng.chance(20) {
+            terms.push(line!["R", logarithm - apart, 0, 0, 0]);
+        } else {
+            let k = rng.range(0, m as i64);
+            let i = other_direction(rng, m, k);
+            let d = rng.range(-most, most);
+            terms.push(line!["R", logarithm - apart, d, i, k]);
+        }
+    }
+    rng.shuffle(&mut terms);
+    terms.insert(0, line!["C", "S"]);
+    terms
+}
+
+fn moderate_misclosure(rng: &mut Rng) -> i64 {
+    match rng.below(12) {
+        0 => 0,
+        1 => rng.range(-150_000, 150_000),
+        _ => rng.range(-9_000, 9_000),
+    }
+}
+
+/// A condition made to stand at the edge of one test of the solution.
+fn odd_condition(rng: &mut Rng, directions: &[i64]) -> Vec<Line> {
+    let m = directions.len();
+    match rng.below(10) {
+        // No coefficient at all.
+        0 => {
+            let fixed = rng.direction();
+            vec![line!["C", "A", fixed], line!["F", fixed]]
+        }
+        1 => vec![
+            line!["C", "S"],
+            line!["L", 5_000, 0, 0, 0],
+            line!["R", 5_000, 0, 0, 0],
+        ],
+        // A correlate or a pivot at its limit.
+        2 | 3 => {
+            let d = rng.sign() * rng.pick(&[9, 10, 10, 11, 12, 20]);
+            let apart = rng.pick(&[0, 1, 9, 10, 11, 30]);
+            let k = rng.range(1, m as i64);
+            vec![
+                line!["C", "S"],
+                line!["L", 100_000_000 + apart, d, 0, k],
+                line!["R", 100_000_000, 0, 0, 0],
+            ]
+        }
+        // A remainder at its limit.
+        4 | 5 => {
+            let mut lines = vec![line!["C", "S"]];
+            let apart = rng.pick(&[1, 2, 3, 7]);
+            let numbers = rng.sample(1, m as i64, 12);
+            for (index, pair) in numbers.chunks(2).enumerate() {
+                let d = rng.pick(&[1_500, 2_000, 2_000]);
+                let (i, k) = (pair[0], pair.get(1).copied().unwrap_or(0));
+                let logarithm = if index == 0 { apart } else { 0 };
+                lines.push(line!["L", logarithm, d, i, k]);
+            }
+            lines
+        }
+        // A coefficient at its limit.
+        6 | 7 => {
+            let k = rng.range(1, m as i64);
+            let over = rng.pick(&[999, 1_000, 1_000, 1_001, 1_001]);
+            vec![
+                line!["C", "S"],
+                line!["L", 70_000_000, 1_000, 0, k],
+                line!["R", 70_000_000, -over, 0, k],
+            ]
+        }
+        // A misclosure at its limit.
+        8 => {
+            let side = rng.sign();
+            let apart = rng.pick(&[9_999, 10_000, 10_001]);
+            let k = rng.range(1, m as i64);
+            vec![
+                line!["C", "S"],
+                line!["L", 70_000_000 + side * apart, 1_500, 0, k],
+                line!["R", 70_000_000, 0, 0, 0],
+            ]
+        }
+        _ => {
+            let k = rng.range(1, m as i64);
+            let sum = angle(directions, 0, k) + 648_000_000;
+            let w = rng.sign() * rng.pick(&[999_999, 1_000_000, 1_000_001]);
+            vec![
+                line!["C", "A", sum - w],
+                line!["P", 0, k],
+                line!["F", 648_000_000],
+            ]
+        }
+    }
+}
+
+/// Numbers and near-numbers at which some rule turns, in a net of m directions.
+fn boundary_text(rng: &mut Rng, m: usize) -> String {
+    let m = m as i64;
+    match rng.below(4) {
+        0 => rng
+            .pick(&[
+                "00",
+                "-0",
+                "+1",
+                "",
+                "-",
+                "01",
+                "-01",
+                " 1",
+                "1 ",
+                "1\r",
+                "1.0",
+                "0x1",
+                "A",
+                "100000000000",
+                "-100000000000",
+                "000000000000",
+                "18446744073709551617",
+                "--1",
+            ])
+            .to_string(),
+        1 => rng
+            .pick(&[-1, 0, 1, m - 1, m, m + 1, 10, 11, 12, 13, 64, 65])
+            .to_string(),
+        2 => rng
+            .pick(&[
+                2_000,
+                2_001,
+                -2_000,
+                -2_001,
+                CIRCLE - 1,
+                CIRCLE,
+                200_000_000,
+                200_000_001,
+            ])
+            .to_string(),
+        _ => rng
+            .pick(&[
+                12 * CIRCLE,
+                12 * CIRCLE + 1,
+                99_999_999_999,
+                -99_999_999_999,
+                -1,
+                4_294_967_296,
+                4_294_967_297,
+            ])
+            .to_string(),
+    }
+}
+
+fn damage_lines(rng: &mut Rng, lines: &mut Vec<Line>) {
+    if lines.is_empty() {
+        return;
+    }
+    let m = lines.iter().filter(|line| line[0] == "D").count();
+    let index = rng.below(lines.len());
+    let other = rng.below(lines.len());
+    match rng.below(22) {
+        0..=4 => {
+            let field = rng.below(lines[index].len());
+            lines[index][field] = boundary_text(rng, m);
+        }
+        5 => {
+            lines.remove(index);
+        }
+        6 => {
+            let again = lines[index].clone();
+            lines.insert(other, again);
+        }
+        7 => lines.swap(index, other),
+        8 => {
+            let again = lines[index].clone();
+            lines.insert(index, again);
+        }
+        9 => {
+            let text = boundary_text(rng, m);
+            lines[index].push(text);
+        }
+        10 => {
+            lines[index].pop();
+            if lines[index].is_empty() {
+                lines[index].push(String::new());
+            }
+        }
+        11 => {
+            let letters = [
+                "D", "C", "P", "F", "L", "R", "A", "S", "d", "c", "p", "X", "", "ADJ", "D ",
+            ];
+            lines[index][0] = rng.pick(&letters).to_string();
+        }
+        12 => lines.insert(index, line![""]),
+        13 => lines.push(line![""]),
+        14 | 15 => fill_directions(rng, lines, m),
+        16 | 17 => fill_conditions(rng, lines, m),
+        18 => fill_terms(rng, lines),
+        19 => repeat_condition(rng, lines),
+        20 => lines.retain(|line| line[0] == "D"),
+        _ => lines.retain(|line| line[0] != "D"),
+    }
+}
+
+/// Brings the D lines to 64, 65 or 66.
+fn fill_directions(rng: &mut Rng, lines: &mut Vec<Line>, m: usize) {
+    let wanted = rng.pick(&[64, 65, 65, 66]);
+    let spoiled = rng.chance(20);
+    for number in m + 1..=wanted {
+        let q = if spoiled && number == 65 { "x" } else { "1" };
+        let place = (number - 1).min(lines.len());
+        lines.insert(place, line!["D", number, number, q]);
+    }
+}
+
+/// Brings the conditions to 24 or 25, or leaves one without terms.
+fn fill_conditions(rng: &mut Rng, lines: &mut Vec<Line>, m: usize) {
+    let count = lines.iter().filter(|line| line[0] == "C").count();
+    match rng.below(5) {
+        0 => lines.push(line!["C", "S"]),
+        1 => {
+            let place = rng.count(m.min(lines.len()), lines.len());
+            let target = boundary_text(rng, m);
+            lines.insert(place, line!["C", "A", target]);
+        }
+        2 => lines.truncate(rng.count(m.min(lines.len()), lines.len())),
+        _ => {
+            let wanted = rng.pick(&[24, 25, 25]);
+            for number in count..wanted {
+                lines.push(line!["C", "A", 0]);
+                lines.push(line!["P", 0, 1 + number % m.max(1)]);
+            }
+        }
+    }
+}
+
+/// Brings the last condition to 12, 13 or 14 terms; the last may be out of range too.
+fn fill_terms(rng: &mut Rng, lines: &mut Vec<Line>) {
+    let Some(start) = lines.iter().rposition(|line| line[0] == "C") else {
+        return;
+    };
+    let Some(term) = lines.get(start + 1).cloned() else {
+        return;
+    };
+    let wanted = rng.pick(&[12, 13, 13, 14]);
+    while lines.len() < start + 1 + wanted {
+        lines.push(term.clone());
+    }
+    if rng.chance(30) {
+        if let Some(field) = lines.last_mut().and_then(|line| line.last_mut()) {
+            *field = rng.pick(&["-1", "x", "99999999999"]).to_string();
+        }
+    }
+}
+
+/// The same condition twice, which makes a weak row of the second.
+fn repeat_condition(rng: &mut Rng, lines: &mut Vec<Line>) {
+    let starts: Vec<usize> = (0..lines.len())
+        .filter(|&index| lines[index][0] == "C")
+        .collect();
+    if starts.is_empty() {
+        return;
+    }
+    let start = rng.pick(&starts);
+    let end = (start + 1..lines.len())
+        .find(|&index| lines[index][0] == "C")
+        .unwrap_or(lines.len());
+    let again: Vec<Line> = lines[start..end].to_vec();
+    lines.extend(again);
+}
+
+/// A byte that has a meaning somewhere, or any byte.
+fn odd_byte(rng: &mut Rng) -> u8 {
+    if rng.chance(70) {
+        rng.pick(b"\t\t\n\n\r\0 -+0123456789DCPFLRASdx.")
+    } else {
+        rng.range(0, 255) as u8
+    }
+}
+
+fn damage_bytes(rng: &mut Rng, file: &mut Vec<u8>) {
+    let index = rng.below(file.len());
+    match rng.below(16) {
+        0..=3 => {
+            if let Some(byte) = file.get_mut(index) {
+                *byte = odd_byte(rng);
+            }
+        }
+        4 => {
+            if let Some(byte) = file.get_mut(index) {
+                *byte ^= 1 << rng.below(8);
+            }
+        }
+        5 => {
+            if index < file.len() {
+                file.remove(index);
+            }
+        }
+        6 => file.insert(index, odd_byte(rng)),
+        7 => {
+            file.pop();
+        }
+        8 => *file = with_carriage_returns(file),
+        9 => file.truncate(index),
+        10 => file.push(rng.pick(b"\n\0\t D")),
+        11 => file.extend(rng.pick(&[&b"\n\n"[..], b"D\t1", b"P\t0\t1", b"."])),
+        12 => file.clear(),
+        _ => stretch(rng, file),
+    }
+}
+
+fn with_carriage_returns(file: &[u8]) -> Vec<u8> {
+    let mut longer = Vec::new();
+    for &byte in file {
+        if byte == b'\n' {
+            longer.push(b'\r');
+        }
+        longer.push(byte);
+    }
+    longer
+}
+
+/// Brings the file to about the limit of its length, at its end or in its first line.
+fn stretch(rng: &mut Rng, file: &mut Vec<u8>) {
+    let wanted = MOST_BYTES - 1 + rng.pick(&[0, 1, 1, 2, 2, 3, 4_000]);
+    let filling = rng.pick(b"\n\0\t 1x");
+    let added = wanted.saturating_sub(file.len());
+    if rng.chance(80) {
+        file.extend(vec![filling; added]);
+        if rng.chance(50) {
+            if let Some(last) = file.last_mut() {
+                *last = b'\n';
+            }
+        }
+    } else {
+        let mut longer = vec![filling; added];
+        longer.append(file);
+        *file = longer;
+    }
+}

@@ -1,0 +1,424 @@
+//! Condition tables: nets that close, nets that hardly do, and nets at the edge of
+//! each test of the solution.
+
+use super::{direction_count, inverse_weights, spoil_length, Rng, CIRCLE};
+use crate::adjustment::{AnswerLengths, ConditionTable};
+
+/// A lent table, and the lengths of the six lists lent for the answer.
+#[derive(Clone, Debug, PartialEq, Eq)]
+pub struct TableCase {
+    pub directions: Vec<i64>,
+    pub q: Vec<i64>,
+    pub a: Vec<i64>,
+    pub w: Vec<i64>,
+    pub lengths: AnswerLengths,
+}
+
+impl TableCase {
+    pub fn table(&self) -> ConditionTable<'_> {
+        ConditionTable {
+            directions: &self.directions,
+            q: &self.q,
+            a: &self.a,
+            w: &self.w,
+        }
+    }
+}
+
+/// Inverse weights, rows and misclosures while a table is being made.
+struct Draft {
+    q: Vec<i64>,
+    rows: Vec<Vec<i64>>,
+    w: Vec<i64>,
+}
+
+pub fn table_case(rng: &mut Rng) -> TableCase {
+    let draft = match rng.below(20) {
+        0..=5 => sparse_net(rng),
+        6..=8 => full_net(rng),
+        9 => nearly_dependent(rng),
+        10 => amplified(rng),
+        11 => small_pivot(rng),
+        12 => small_coefficients(rng),
+        13 => large_coefficients(rng),
+        14 => fullest(rng),
+        15 => steep_factor(rng),
+        16 => heavy_constant(rng),
+        _ => sparse_net(rng),
+    };
+    let m = draft.q.len();
+    let mut case = TableCase {
+        directions: (0..m).map(|_| rng.direction()).collect(),
+        lengths: AnswerLengths::fitting(m, draft.w.len()),
+        q: draft.q,
+        a: draft.rows.concat(),
+        w: draft.w,
+    };
+    if rng.chance(22) {
+        for _ in 0..rng.count(1, 3) {
+            damage_range(rng, &mut case);
+        }
+    }
+    if rng.chance(4) {
+        damage_lengths(rng, &mut case);
+    }
+    if rng.chance(2) {
+        change_counts(rng, &mut case);
+    }
+    case
+}
+
+fn condition_count(rng: &mut Rng, m: usize) -> usize {
+    let most = m.min(24);
+    match rng.below(4) {
+        0 => most,
+        1 => rng.count(1, most),
+        _ => rng.count(1, most.div_ceil(2)),
+    }
+}
+
+/// Angle rows of a few ±100, side rows among them.
+fn sparse_net(rng: &mut Rng) -> Draft {
+    let m = direction_count(rng);
+    let n = condition_count(rng, m);
+    let side_share = rng.pick(&[0, 15, 50]);
+    let most_w = rng.pick(&[0, 3_000, 30_000, 300_000]);
+    // Each row has a direction of its own, so that rows are seldom dependent.
+    let own = rng.sample(0, m as i64 - 1, n);
+    let mut rows = Vec::new();
+    for own in own {
+        let mut row = vec![0; m];
+        let most = if rng.chance(side_share) {
+            rng.pick(&[60, 300, 2_000])
+        } else {
+            100
+        };
+        for _ in 0..rng.count(1, 7) {
+            let index = rng.below(m);
+            row[index] = side_or_angle(rng, most);
+        }
+        row[own as usize] = rng.sign() * most;
+        rows.push(row);
+    }
+    let w = misclosures(rng, n, most_w);
+    let q = inverse_weights(rng, m);
+    Draft { q, rows, w }
+}
+
+fn side_or_angle(rng: &mut Rng, most: i64) -> i64 {
+    match most {
+        100 => rng.pick(&[-200, -100, -100, 100, 100, 200]),
+        _ => rng.range(-most, most),
+    }
+}
+
+/// Rows in which every direction takes part.
+fn full_net(rng: &mut Rng) -> Draft {
+    let m = direction_count(rng);
+    let n = condition_count(rng, m);
+    let most = rng.pick(&[20, 100, 300, 600]);
+    let most_w = rng.pick(&[3_000, 30_000, 200_000]);
+    let rows = (0..n).map(|_| random_row(rng, m, most)).collect();
+    let w = misclosures(rng, n, most_w);
+    let q = inverse_weights(rng, m);
+    Draft { q, rows, w }
+}
+
+fn random_row(rng: &mut Rng, m: usize, most: i64) -> Vec<i64> {
+    (0..m).map(|_| rng.range(-most, most)).collect()
+}
+
+fn misclosures(rng: &mut Rng, n: usize, most: i64) -> Vec<i64> {
+    (0..n).map(|_| rng.range(-most, most)).collect()
+}
+
+/// One row is made of earlier ones, with little or nothing of its own.
+fn nearly_dependent(rng: &mut Rng) -> Draft {
+    let mut draft = if rng.chance(50) {
+        sparse_net(rng)
+    } else {
+        full_net(rng)
+    };
+    let n = draft.rows.len();
+    let last = rng.below(n);
+    let (one, other) = (rng.below(last), rng.below(last));
+    let (by_one, by_other) = (rng.sign(), rng.range(-1, 1));
+    if last > 0 {
+        let mixed = draft.rows[one].iter().zip(&draft.rows[other]);
+        draft.rows[last] = mixed
+            .map(|(a, b)| (by_one * a + by_other * b).clamp(-2_000, 2_000))
+            .collect();
+    }
+    for _ in 0..rng.below(3) {
+        let index = rng.below(draft.rows[last].len());
+        let own = rng.sign() * rng.pick(&[1, 9, 10, 11, 30]);
+        let a = &mut draft.rows[last][index];
+        *a = (*a + own).clamp(-2_000, 2_000);
+    }
+    draft
+}
+
+/// A second pivot that rounding has made far too small stands before the two largest
+/// rows there are, which it meets with opposite signs: D(3,4) passes its limit.
+/// Without the rounding no D could be larger than the largest N.
+fn amplified(rng: &mut Rng) -> Draft {
+    let m = 64;
+    let size = rng.range(1_500, 1_980);
+    let (own, pivot) = under_rounded_pivot(rng, size);
+    let meeting = 20_000 * own.iter().map(|(sign, r)| sign * r).sum::<i64>();
+    let apart = rng.pick(&[0, 500, 900, 990]) * pivot;
+    let step = (meeting.abs() + apart) / (10 * own[0].1);
+
+    // The first row has as many of either sign, so that it does not meet the third.
+    let plus = own.iter().filter(|(sign, _)| *sign == 1).count();
+    let mut signs: Vec<i64> = vec![1; m / 2 - plus];
+    signs.resize(m - own.len(), -1);
+    rng.shuffle(&mut signs);
+    signs.splice(0..0, own.iter().map(|(sign, _)| *sign));
+
+    let first: Vec<i64> = signs.iter().map(|sign| sign * size).collect();
+    let mut second = first.clone();
+    for (a, (sign, r)) in second.iter_mut().zip(&own) {
+        *a += sign * r;
+    }
+    let third = vec![2_000; m];
+    let mut fourth = third.clone();
+    fourth[0] = (2_000 - step).clamp(-2_000, 2_000);
+    let rows = vec![first, second, third, fourth];
+    let w = misclosures(rng, rows.len(), 40);
+    Draft {
+        q: vec![10; m],
+        rows,
+        w,
+    }
+}
+
+/// Signs and own parts r of four directions in which a second row differs from a first
+/// of 64 directions of one size with q = 10; and the second pivot, mostly next to 100,
+/// though the row's own part is larger.
+fn under_rounded_pivot(rng: &mut Rng, size: i64) -> ([(i64, i64); 4], i64) {
+    let mut own = [(1, 11), (1, -4), (-1, 2), (1, -1)];
+    let mut pivot = 100;
+    for _ in 0..400 {
+        own = [
+            (rng.sign(), rng.range(9, 12)),
+            (rng.sign(), rng.range(-6, 6)),
+            (rng.sign(), rng.range(-4, 4)),
+            (rng.sign(), rng.range(-2, 2)),
+        ];
+        let sum: i64 = own.iter().map(|(_, r)| r).sum();
+        let squares: i64 = own.iter().map(|(_, r)| r * r).sum();
+        let n_11 = 640 * size * size;
+        let n_12 = n_11 + 10 * size * sum;
+        let n_22 = n_11 + 20 * size * sum + 10 * squares;
+        let factor = (1_000_000 * n_12 + n_11 / 2) / n_11;
+        pivot = n_22 - (factor * n_12 + 500_000) / 1_000_000;
+        let meeting: i64 = own.iter().map(|(sign, r)| sign * r).sum();
+        if (100..=160).contains(&pivot) && (3..=6).contains(&(own[0].0 * meeting)) {
+            break;
+        }
+    }
+    (own, pivot)
+}
+
+/// A row whose normal coefficient lies next to the least pivot.
+fn small_pivot(rng: &mut Rng) -> Draft {
+    let mut draft = sparse_net(rng);
+    let m = draft.q.len();
+    let row = rng.below(draft.rows.len());
+    let index = rng.below(m);
+    let most = rng.pick(&[9, 10, 11, 12]);
+    draft.rows[row] = vec![0; m];
+    draft.rows[row][index] = rng.sign() * most;
+    draft.q[index] = rng.pick(&[1, 1, 1, 2]);
+    draft.w[row] = rng.range(-20, 20);
+    draft
+}
+
+/// Small coefficients: correlates at and over their limit.
+fn small_coefficients(rng: &mut Rng) -> Draft {
+    let m = rng.count(1, 8);
+    let n = rng.count(1, m);
+    let mut rows = Vec::new();
+    let mut w = Vec::new();
+    for own in 0..n {
+        let mut row = vec![0; m];
+        row[own] = rng.sign() * rng.pick(&[10, 10, 11, 20, 50]);
+        if rng.chance(30) {
+            let index = rng.below(m);
+            row[index] = rng.range(-30, 30);
+        }
+        rows.push(row);
+        let edge = rng.pick(&[0, 1, 700, 999, 1_000, 1_000, 1_001, 3_000]);
+        w.push(rng.sign() * edge);
+    }
+    let q = vec![rng.pick(&[1, 1, 2]); m];
+    Draft { q, rows, w }
+}
+
+/// Large coefficients and a small misclosure: no whole correlate closes the condition.
+fn large_coefficients(rng: &mut Rng) -> Draft {
+    let m = rng.count(4, 64);
+    let n = rng.count(1, 3);
+    let most = rng.pick(&[1_000, 1_000, 1_500, 2_000]);
+    let mut rows = vec![vec![0; m]; n];
+    let each = if rng.chance(40) {
+        // Ten directions of 1,000 and q = 10: R = 50,000,000 is met exactly.
+        10.min(m / n)
+    } else {
+        m / n
+    };
+    for (j, row) in rows.iter_mut().enumerate() {
+        for a in row.iter_mut().skip(j * each).take(each) {
+            *a = rng.sign() * most;
+        }
+    }
+    let w = (0..n)
+        .map(|_| rng.sign() * rng.pick(&[0, 1, 4, 5, 5, 6, 10, 15, 200]))
+        .collect();
+    Draft {
+        q: vec![10; m],
+        rows,
+        w,
+    }
+}
+
+/// D at its limit: 64 directions of ±2,000 with q = 10, in rows that do not meet.
+fn fullest(rng: &mut Rng) -> Draft {
+    let m = 64;
+    let chosen = rng.count(1, 4);
+    let rows = rng
+        .sample(0, 63, chosen)
+        .into_iter()
+        .map(|row: i64| {
+            let sign = |i: i64| 1 - 2 * i64::from((row & i).count_ones() % 2);
+            (0..64).map(|i| 2_000 * sign(i)).collect()
+        })
+        .collect();
+    let most = rng.pick(&[1, 1, 5, 3_000]);
+    let w = (0..chosen)
+        .map(|_| 256 * rng.range(-most, most) + rng.pick(&[0, 0, 0, 5, 6]))
+        .collect();
+    Draft {
+        q: vec![10; m],
+        rows,
+        w,
+    }
+}
+
+/// A first pivot of 100 under a second row of about 1,000: M at its limit of 10^9.
+fn steep_factor(rng: &mut Rng) -> Draft {
+    let m = rng.count(12, 20);
+    let mut first = vec![0; m];
+    let mut second = vec![0; m];
+    for index in 0..10 {
+        first[index] = 1;
+        second[index] = 1_000;
+    }
+    let index = rng.below(10);
+    second[index] += rng.pick(&[-2, -1, 0, 0, 0, 1, 2]);
+    for a in second.iter_mut().skip(10) {
+        *a = rng.range(200, 900);
+    }
+    if rng.chance(50) {
+        for a in &mut second {
+            *a = -*a;
+        }
+    }
+    let w = vec![rng.range(-3, 3), rng.range(-3_000, 3_000)];
+    Draft {
+        q: vec![10; m],
+        rows: vec![first, second],
+        w,
+    }
+}
+
+/// L at its limit of 4 * 10^9, with correlates that still pass.
+fn heavy_constant(rng: &mut Rng) -> Draft {
+    let m = rng.count(3, 12);
+    let mut first = vec![0; m];
+    let mut second = vec![0; m];
+    first[0] = rng.pick(&[400, 500, 600]);
+    second[0] = 3 * first[0] + rng.pick(&[-1, 0, 0, 0, 1]);
+    for a in second.iter_mut().skip(1) {
+        *a = rng.range(400, 1_500);
+    }
+    let side = rng.sign();
+    let short = rng.pick(&[0, 0, 0, 1, 2]);
+    let w = vec![side * 1_000_000, -side * (1_000_000 - short)];
+    Draft {
+        q: vec![1; m],
+        rows: vec![first, second],
+        w,
+    }
+}
+
+/// A number at or beyond the edge of its range.
+fn damage_range(rng: &mut Rng, case: &mut TableCase) {
+    let edge = |rng: &mut Rng, most: i64| match rng.below(3) {
+        0 => rng.sign() * most,
+        1 => rng.sign() * (most + 1),
+        _ => rng.extreme(),
+    };
+    match rng.below(6) {
+        0 => {
+            let value = rng.outside(0, CIRCLE - 1);
+            set(rng, &mut case.directions, value);
+        }
+        1 => {
+            let value = rng.outside(1, 10);
+            set(rng, &mut case.q, value);
+        }
+        2 | 3 => {
+            let value = edge(rng, 2_000);
+            set(rng, &mut case.a, value);
+        }
+        _ => {
+            let value = edge(rng, 1_000_000);
+            set(rng, &mut case.w, value);
+        }
+    }
+}
+
+fn set(rng: &mut Rng, list: &mut [i64], value: i64) {
+    let index = rng.below(list.len());
+    if let Some(place) = list.get_mut(index) {
+        *place = value;
+    }
+}
+
+fn damage_lengths(rng: &mut Rng, case: &mut TableCase) {
+    let lengths = &mut case.lengths;
+    match rng.below(10) {
+        0 => spoil_length(rng, &mut case.directions),
+        1 => spoil_length(rng, &mut case.q),
+        2 => spoil_length(rng, &mut case.a),
+        3 => spoil_length(rng, &mut case.w),
+        4 => lengths.v = rng.wrong_length(lengths.v),
+        5 => lengths.u = rng.wrong_length(lengths.u),
+        6 => lengths.adjusted = rng.wrong_length(lengths.adjusted),
+        7 => lengths.k = rng.wrong_length(lengths.k),
+        8 => lengths.r = rng.wrong_length(lengths.r),
+        _ => lengths.q = rng.wrong_length(lengths.q),
+    }
+}
+
+/// Lists that agree with each other, but in counts that are not allowed.
+fn change_counts(rng: &mut Rng, case: &mut TableCase) {
+    let (m, n) = match rng.below(6) {
+        0 => (0, 0),
+        1 => (0, 1),
+        2 => (rng.count(1, 64), 0),
+        3 => (65, rng.count(1, 24)),
+        4 => (64, 25),
+        _ => {
+            let m = rng.count(1, 23);
+            (m, m + 1)
+        }
+    };
+    case.directions.resize(m, 0);
+    case.q.resize(m, 1);
+    case.a.resize(m * n, 0);
+    case.w.resize(n, 0);
+    case.lengths = AnswerLengths::fitting(m, n);
+}
