@@ -8,6 +8,7 @@
 --   lines-more, lines-most              one more line; lines of at most so many bytes
 --   lines-none, lines-on, lines-room    the lines so far, one more, and room for it
 --   adj-most, head-most, v-most, k-most  the ADJ line takes at most 48 bytes, a V line 68, a K line 90
+--   accepted-most, refused-most          an accepted listing, and a REFUSED line, take at most so many
 use mathlib.Core.Path.{_≡_, refl, _∙_, ap, subst}
 use mathlib.Core.Bool.{Bool, true, false, cond}
 use mathlib.Core.List.{List, [], _∷_, _++_}
@@ -16,14 +17,14 @@ use native.Mathlib.Nat.{add-zero, add-suc, suc-add, suc-mul, mul-le-mul-right}
 use native.Mathlib.Numerals.{add-one}
 use native.Mathlib.Omega.{arith}
 use lib.Dec.{ltb}
-use lib.ListN.{length, set, length-append}
+use lib.ListN.{length, getD, set, length-append}
 use lib.Seq.{sets, length-sets}
 use lib.IntN.{ℤ, pos, negsuc}
 use mir.Syntax.{w64}
 use mir.Val.{SFits, toZ, ofZ}
 use Rattle.exact.proofs.Bound.{read}
 use Rattle.network.specs.Decimal.{digits, digitsOf, written}
-use Rattle.network.specs.Listing.{signedField, countField, lineEnd, lineHead, adjLine, vLine, kLine, inOrder, Wrote}
+use Rattle.network.specs.Listing.{signedField, countField, lineEnd, lineHead, adjLine, vLine, kLine, refusedLine, inOrder, vLineOf, kLineOf, vLines, kLines, acceptedListing, Wrote}
 
 pub sets-append : (xs ys l : List ℕ) (i : ℕ) → sets (sets l i xs) (i + length xs) ys ≡ sets l i (xs ++ ys)
 sets-append [] ys l i = rw (add-zero i)
@@ -141,3 +142,19 @@ k-most condition k r q =
       length-append (lineHead 75 condition k r) (signedField q ++ lineEnd),
       length-append (written q) lineEnd,
     )
+
+pub accepted-most : (m n : ℕ) (u adjusted k r q : List ℤ) → length (acceptedListing m n u adjusted k r q) ≤ 48 + m * 68 + n * 90
+accepted-most m n u adjusted k r q =
+    omega (
+      arith,
+      adj-most m n,
+      lines-most m 68 (vLineOf u adjusted) (λ i. v-most (i + 1) (getD u i (pos 0)) (getD adjusted i (pos 0))),
+      lines-most n 90 (kLineOf k r q) (λ j. k-most (j + 1) (getD k j (pos 0)) (getD r j (pos 0)) (getD q j (pos 0))),
+      length-append (adjLine m n) (vLines m u adjusted ++ kLines n k r q),
+      length-append (vLines m u adjusted) (kLines n k r q),
+    )
+
+pub refused-most : (number place : ℕ) → length (refusedLine number place) ≤ 52
+refused-most number place =
+    omega
+    (arith, count-most number, count-most place, length-append (digitsOf number) (countField place ++ lineEnd), length-append (digitsOf place) lineEnd)

@@ -15,3 +15,5 @@ pub mod Walking
 pub mod Reading
 pub mod Forming
 pub mod Bounding
+pub mod Tabling
+pub mod Filing

@@ -1,6 +1,6 @@
 -- Laws of the two loops that fill lists from a file's lines: what has been filled and what the lines left have are all there is. Assumes nothing.
---   ReadTo; read-none, read-room, read-more, read-other, read-end               the directions with their q
---   Gathering; gather-none, gather-room, gather-more, gather-end, gathered      the terms of one condition
+--   ReadTo; read-none, read-room, read-more, read-other, read-all, read-weights the directions with their q
+--   Gathering; gather-none, gather-room, gather-more, full, gathered            the terms of one condition
 use mathlib.Core.Path.{_≡_, refl, sym, _∙_, ap}
 use mathlib.Core.List.{List, [], _∷_, _++_}
 use Prim.Native.Nat.{ℕ, _+_, _<_, _≤_}
@@ -79,15 +79,6 @@ module _ {file : List ℕ} {direction q : List ℤ} {m start : ℕ} (r : ReadTo 
     pub read-weights : take m q ≡ netFrom file 0 .q
     unfolding netOf
     read-weights = taken-all q (netFrom file 0 .q) m (ap (λ (net : Net). take m q ++ net .q) (sym e) ∙ r .weights)
-
-    pub read-count : m ≡ length (netFrom file 0 .directions)
-    unfolding netOf
-    read-count =
-        omega (
-          arith,
-          ap (λ (net : Net). length (net .directions)) e,
-          taken-long direction (netFrom file start .directions) (netFrom file 0 .directions) m (omega (arith, r .most, r .long)) (r .directions),
-        )
 
 -- ---- the terms of one condition
 pub record Gathering (file : List ℕ) (start : ℕ) (kinds values d i k : List ℤ) (count at : ℕ) : Type 0 where

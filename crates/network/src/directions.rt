@@ -16,7 +16,7 @@ pub struct Directions {
 
 pub fn read(file: &[u8]) -> Directions
     requires { ⌜ length (netFrom (now file) 0 .directions) ≤ 64 ⌝ }
-    ensures count { λ r. ⌜ r .m ≡ length (netFrom (now (file .entry)) 0 .directions) ⌝ }
+    ensures count { λ r. ⌜ (r .m ≤ 64) × (length (r .direction) ≡ 64) × (length (r .q) ≡ 64) ⌝ }
     ensures directions { λ r. ⌜ take (r .m) (r .direction) ≡ netFrom (now (file .entry)) 0 .directions ⌝ }
     ensures weights { λ r. ⌜ take (r .m) (r .q) ≡ netFrom (now (file .entry)) 0 .q ⌝ }
 {

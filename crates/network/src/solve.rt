@@ -2,26 +2,43 @@
 ghost use mathlib.Core.Path.{_≡_};
 ghost use Prim.Native.Nat.{_≤_};
 ghost use lib.ListN.{length};
-ghost use Rattle.adjustment.specs.Table.{at, tableOf};
-ghost use Rattle.adjustment.specs.Solution.{K};
-ghost use Rattle.adjustment.specs.Promise.{adjustReply, answersOf};
 ghost use Rattle.network.specs.Listing.{Wrote};
-ghost use Rattle.network.specs.Net.{room};
-ghost use Rattle.network.specs.File.{listingFor};
+ghost use Rattle.network.specs.File.{tableListing};
 use crate::listing;
 use reply::Reply;
 
-// The listing of a lent condition table, or its refusal, from the start of the buffer. Answers how many bytes it has.
+// The listing of a lent condition table, or its refusal, from the start of the buffer; the six answer lists are lent too. Answers how many bytes it has.
+fn list_table(
+    directions: &[i64],
+    q: &[i64],
+    a: &[i64],
+    w: &[i64],
+    v: &mut [i64],
+    u: &mut [i64],
+    adjusted: &mut [i64],
+    k: &mut [i64],
+    r: &mut [i64],
+    misses: &mut [i64],
+    out: &mut [u8],
+) -> usize
+    requires { ⌜ (length (now directions) ≤ 64) × (length (now w) ≤ 24) × (6560 ≤ length (now out)) × (length (now q) ≡ length (now directions)) ⌝ }
+    requires { ⌜ (length (now v) ≡ length (now directions)) × (length (now u) ≡ length (now directions)) × (length (now adjusted) ≡ length (now directions)) ⌝ }
+    requires { ⌜ (length (now k) ≡ length (now w)) × (length (now r) ≡ length (now w)) × (length (now misses) ≡ length (now w)) ⌝ }
+    ensures { λ bytes. ⌜ Wrote (now (out .entry)) 0
+        (tableListing (now (directions .entry)) (now (q .entry)) (now (a .entry)) (now (w .entry))) (now (out .exit)) bytes ⌝ }
+{
+    let reply = adjustment::adjust(directions, q, a, w, v, u, adjusted, k, r, misses);
+    if let Reply::Refused(why) = reply {
+        return listing::put_refusal(out, why);
+    }
+    listing::put_accepted(out, directions.len(), w.len(), u, adjusted, k, r, misses)
+}
+
+// The same, with answer lists of its own.
 pub fn solve(directions: &[i64], q: &[i64], a: &[i64], w: &[i64], out: &mut [u8]) -> usize
-    requires { ⌜ (length (now directions) ≤ 64) × (length (now w) ≤ 24) × (6560 ≤ length (now out)) ⌝ }
-    requires { ⌜ length (now q) ≡ length (now directions) ⌝ }
-    ensures { λ r. ⌜ Wrote (now (out .entry)) 0
-        (listingFor
-        (adjustReply (now (directions .entry)) (now (q .entry)) (now (a .entry)) (now (w .entry))
-        (room (length (now (directions .entry))) (length (now (w .entry)))))
-        (answersOf (tableOf (now (q .entry)) (now (a .entry)) (now (w .entry)))
-        (K (tableOf (now (q .entry)) (now (a .entry)) (now (w .entry)))) (at (now (directions .entry)))))
-        (now (out .exit)) r ⌝ }
+    requires { ⌜ (length (now directions) ≤ 64) × (length (now w) ≤ 24) × (6560 ≤ length (now out)) × (length (now q) ≡ length (now directions)) ⌝ }
+    ensures { λ bytes. ⌜ Wrote (now (out .entry)) 0
+        (tableListing (now (directions .entry)) (now (q .entry)) (now (a .entry)) (now (w .entry))) (now (out .exit)) bytes ⌝ }
 {
     let m = directions.len();
     let n = w.len();
@@ -31,7 +48,7 @@ pub fn solve(directions: &[i64], q: &[i64], a: &[i64], w: &[i64], out: &mut [u8]
     let mut k = [0i64; 24];
     let mut r = [0i64; 24];
     let mut misses = [0i64; 24];
-    let reply = adjustment::adjust(
+    list_table(
         directions,
         q,
         a,
@@ -42,9 +59,6 @@ pub fn solve(directions: &[i64], q: &[i64], a: &[i64], w: &[i64], out: &mut [u8]
         &mut k[..n],
         &mut r[..n],
         &mut misses[..n],
-    );
-    if let Reply::Refused(why) = reply {
-        return listing::put_refusal(out, why);
-    }
-    listing::put_accepted(out, m, n, &u, &adjusted, &k, &r, &misses)
+        out,
+    )
 }

@@ -1,139 +1,110 @@
+-- `network::adjust` meets its contract. Assumes nothing.
+use mathlib.Core.Path.{_≡_, refl, sym, _∙_}
+use mathlib.Core.List.{List}
+use Prim.Native.Nat.{ℕ, _≤_}
+use native.Mathlib.Omega.{arith}
 use borrow.Author.Needs.{needs}
+use denote.Ref.{now}
+use lib.ListN.{length, take}
+use lib.Seq.{length-take-le}
+use Rattle.reply.specs.declared.Reply.the-variants.{Accepted}
+use Rattle.reply.specs.Numbers.{numberOf, placeOf}
+use Rattle.network.specs.Scan.{none, scanReply}
+use Rattle.network.specs.Net.{netFrom}
+use Rattle.network.proofs.Composing.{refused-most}
+use Rattle.network.proofs.Bounding.{Room, scan-bounds}
+use Rattle.network.proofs.Filing.{lists-nothing, lists-refused, lists-net}
 use Rattle.network.proofs.adjust.Statement.{statement}
 use Rattle.network.proofs.adjust.Tie as tie
-use Rattle.network.proofs.adjust.Reads as reads
-use Rattle.network.proofs.adjust.Lts as lts
-use Rattle.network.proofs.conditions.form_all.Reads as form-all-reads
-use Rattle.network.proofs.directions.read.Reads as read-reads
-use Rattle.network.proofs.listing.put_refusal.Reads as put-refusal-reads
-use Rattle.network.proofs.scan.scan.Reads as scan-reads
-use Rattle.network.proofs.solve.solve.Reads as solve-reads
 
--- src/lib.rt:31:9
 returns : tie.Need-returns
-returns c = ?
+returns c =
+    let a = c .before .before .before .args in
+    (lists-nothing (now (a .file)) (now (a .out)) (c .if1 .taken), omega arith)
 
--- src/lib.rt:33:9
 scan-requires : tie.Need-scan-requires
 scan-requires c κs = search needs
 
--- src/lib.rt:34:27
 enum-known-scanned : tie.Need-enum-known-scanned
 enum-known-scanned c = search needs
 
--- src/lib.rt:35:9
 put-refusal-requires : tie.Need-put-refusal-requires
 put-refusal-requires c κs = search needs
 
--- src/lib.rt:35:9
 same-length : tie.Need-same-length
 same-length c = search needs
 
--- src/lib.rt:35:9
+-- ---- a buffer that has room, and what the scan has said
+module _ (c : tie.After-scan) where
+  abbrev start : tie.Start
+  start = c .before .before .before .before
+
+  abbrev file : List ℕ
+  file = now (start .args .file)
+
+  abbrev out : List ℕ
+  out = now (start .args .out)
+
+  roomy : 6560 ≤ length out
+  roomy = omega (arith, c .before .if1 .left)
+
 returns-2 : tie.Need-returns-2
-returns-2 c = ?
+returns-2 c =
+    let p = c .before .before in let r = p .before .before .before in let e = r .before .before in let why = r .scanned .given .0 .0 in (
+      lists-refused (file e) (out e) (roomy e) why (sym (e .scan .ensures) ∙ r .scanned .given .1) (p .put-refusal .ensures),
+      omega (arith, roomy e, p .put-refusal .ensures .place, refused-most (numberOf why) (placeOf why)),
+    )
 
 enum-told : tie.Need-enum-told
 enum-told c = search needs
 
--- src/lib.rt:37:9
+-- ---- accepted: its directions, conditions and terms are within their bounds
+module _ (c : tie.After-enum-told) where
+  abbrev scanned : tie.After-scan
+  scanned = c .before .before
+
+  accepted : scanReply (file scanned) ≡ Accepted
+  accepted = sym (scanned .scan .ensures) ∙ c .enum-told .given .1
+
+  bounds : Room none (netFrom (file scanned) 0)
+  bounds = scan-bounds (file scanned) accepted
+
 read-requires : tie.Need-read-requires
-read-requires c κs = ?
+read-requires c κs = omega (arith, bounds c .m)
 
--- src/lib.rt:43:45
 array-share-prefix-direction : tie.Need-array-share-prefix-direction
-array-share-prefix-direction c = ?
+array-share-prefix-direction c = search needs
 
--- src/lib.rt:43:45
-slice-aggregate-form-all : tie.Need-slice-aggregate-form-all
-slice-aggregate-form-all c = ?
+slice-aggregate-list-net : tie.Need-slice-aggregate-list-net
+slice-aggregate-list-net c = sym (length-take-le _ _ (omega arith))
 
--- src/lib.rt:43:62
 array-share-prefix-q : tie.Need-array-share-prefix-q
-array-share-prefix-q c = ?
+array-share-prefix-q c = search needs
 
--- src/lib.rt:43:62
-slice-aggregate-form-all-2 : tie.Need-slice-aggregate-form-all-2
-slice-aggregate-form-all-2 c = ?
+slice-aggregate-list-net-2 : tie.Need-slice-aggregate-list-net-2
+slice-aggregate-list-net-2 c = sym (length-take-le _ _ (omega arith))
 
--- src/lib.rt:43:71
-slice-aggregate-form-all-3 : tie.Need-slice-aggregate-form-all-3
-slice-aggregate-form-all-3 c = search needs
+slice-aggregate-list-net-3 : tie.Need-slice-aggregate-list-net-3
+slice-aggregate-list-net-3 c = search needs
 
--- src/lib.rt:43:79
-slice-aggregate-form-all-4 : tie.Need-slice-aggregate-form-all-4
-slice-aggregate-form-all-4 c = search needs
+slice-aggregate-list-net-4 : tie.Need-slice-aggregate-list-net-4
+slice-aggregate-list-net-4 c = search needs
 
--- src/lib.rt:43:9
-form-all-requires : tie.Need-form-all-requires
-form-all-requires c κs = ?
+list-net-requires : tie.Need-list-net-requires
+list-net-requires c κs =
+    let d = c .before .before .before .before .before .before .before in let t = d .before in let r = d .read .result in let e = d .read .ensures in
+    let m = length-take-le (r .m) (r .direction) (omega (arith, e .0 .0, e .0 .1)) in let g = length-take-le (r .m) (r .q) (omega (arith, e .0 .0, e .0 .2)) in (
+      (e .1 .0, e .1 .1),
+      ((omega (arith, m, e .0 .0), g ∙ sym m), ((omega (arith, bounds t .n), bounds t .fit), (refl, refl, roomy (scanned t)))),
+    )
 
--- src/lib.rt:45:27
-enum-known-reply : tie.Need-enum-known-reply
-enum-known-reply c = search needs
-
--- src/lib.rt:46:9
-put-refusal-requires-2 : tie.Need-put-refusal-requires-2
-put-refusal-requires-2 c κs = search needs
-
--- src/lib.rt:46:9
 same-length-2 : tie.Need-same-length-2
 same-length-2 c = search needs
 
--- src/lib.rt:46:9
 returns-3 : tie.Need-returns-3
-returns-3 c = ?
-
-enum-told-2 : tie.Need-enum-told-2
-enum-told-2 c = search needs
-
--- src/lib.rt:49:18
-array-share-prefix-direction-2 : tie.Need-array-share-prefix-direction-2
-array-share-prefix-direction-2 c = ?
-
--- src/lib.rt:49:18
-slice-aggregate-solve : tie.Need-slice-aggregate-solve
-slice-aggregate-solve c = ?
-
--- src/lib.rt:49:35
-array-share-prefix-q-2 : tie.Need-array-share-prefix-q-2
-array-share-prefix-q-2 c = ?
-
--- src/lib.rt:49:35
-slice-aggregate-solve-2 : tie.Need-slice-aggregate-solve-2
-slice-aggregate-solve-2 c = ?
-
--- src/lib.rt:49:49
-mul-a : tie.Need-mul-a
-mul-a c = ?
-
--- src/lib.rt:49:44
-array-share-prefix-a : tie.Need-array-share-prefix-a
-array-share-prefix-a c = ?
-
--- src/lib.rt:49:44
-slice-aggregate-solve-3 : tie.Need-slice-aggregate-solve-3
-slice-aggregate-solve-3 c = ?
-
--- src/lib.rt:49:57
-array-share-prefix-w : tie.Need-array-share-prefix-w
-array-share-prefix-w c = ?
-
--- src/lib.rt:49:57
-slice-aggregate-solve-4 : tie.Need-slice-aggregate-solve-4
-slice-aggregate-solve-4 c = ?
-
--- src/lib.rt:49:5
-solve-requires : tie.Need-solve-requires
-solve-requires c κs = ?
-
--- src/lib.rt:26:1
-same-length-3 : tie.Need-same-length-3
-same-length-3 c = search needs
-
--- src/lib.rt:26:1
-returns-4 : tie.Need-returns-4
-returns-4 c = ?
+returns-3 c =
+    let p = c .before .before .before .before in let t = p .before .before .before .before .before .before .before .before .before in let e = scanned t in
+    (lists-net (file e) (out e) (roomy e) (accepted t) (p .list-net .ensures .0), omega (arith, roomy e, p .list-net .ensures .1))
 
 pub adjust-spec : {M : Type 1} → statement M
 adjust-spec =
@@ -148,26 +119,11 @@ adjust-spec =
     enum-told
     read-requires
     array-share-prefix-direction
-    slice-aggregate-form-all
+    slice-aggregate-list-net
     array-share-prefix-q
-    slice-aggregate-form-all-2
-    slice-aggregate-form-all-3
-    slice-aggregate-form-all-4
-    form-all-requires
-    enum-known-reply
-    put-refusal-requires-2
+    slice-aggregate-list-net-2
+    slice-aggregate-list-net-3
+    slice-aggregate-list-net-4
+    list-net-requires
     same-length-2
-    returns-3
-    enum-told-2
-    array-share-prefix-direction-2
-    slice-aggregate-solve
-    array-share-prefix-q-2
-    slice-aggregate-solve-2
-    mul-a
-    array-share-prefix-a
-    slice-aggregate-solve-3
-    array-share-prefix-w
-    slice-aggregate-solve-4
-    solve-requires
-    same-length-3
-    returns-4)
+    returns-3)

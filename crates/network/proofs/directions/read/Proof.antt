@@ -8,7 +8,7 @@ use denote.Ref.{now}
 use lib.ListN.{length}
 use Rattle.exact.proofs.Bound.{read-at}
 use Rattle.network.proofs.Walking.{Walked, turn-line, turn-end}
-use Rattle.network.proofs.Reading.{ReadTo, read-none, read-room, read-more, read-other, read-all, read-weights, read-count}
+use Rattle.network.proofs.Reading.{ReadTo, read-none, read-room, read-more, read-other, read-all, read-weights}
 use Rattle.network.proofs.directions.read.Statement.{statement}
 use Rattle.network.proofs.directions.read.Tie as tie
 
@@ -34,7 +34,7 @@ returns : tie.Need-returns Inv-loop μ-loop
 returns c =
     let t = c .before .before in let l = t .before .loop in
     let end = turn-end (now (t .before .before .before .args .file)) (l .start) (sym (t .read .ensures) ∙ c .enum-told .given .1) in
-    (read-count (l .inv) end, (read-all (l .inv) end, read-weights (l .inv) end))
+    ((l .inv .most, l .inv .long, l .inv .q-long), (read-all (l .inv) end, read-weights (l .inv) end))
 
 enum-known-said : tie.Need-enum-known-said Inv-loop μ-loop
 enum-known-said c = search needs
