@@ -1,4 +1,5 @@
 pub mod Figures
+pub mod Telling
 pub mod Sizes
 pub mod Weakness
 pub mod Reducing

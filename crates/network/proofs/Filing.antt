@@ -2,13 +2,11 @@
 --   file-demand3                              demand 3 of every accepted file
 --   lists-nothing, lists-refused, lists-net   the promise is kept: of a buffer that is too short, of a file that its scan refuses, of another
 --   one-listing                               two answers that keep the promise are equal, and leave equal buffers
-use mathlib.Core.Path.{_≡_, refl, sym, _∙_, ap}
-use mathlib.Core.Bool.{cond}
-use mathlib.Core.List.{List, []}
+use mathlib.Core.Path.{_≡_, refl, sym, _∙_}
+use mathlib.Core.List.{List}
 use Prim.Native.Nat.{ℕ, _≤_, _<_}
 use borrow.Author.Tests.{lt-ltb, le-ltb}
 use lib.ListN.{length}
-use lib.Seq.{sets}
 use Rattle.reply.specs.declared.Refusal.{Refusal}
 use Rattle.reply.specs.declared.Reply.the-variants.{Accepted, Refused}
 use Rattle.reply.specs.Numbers.{numberOf, placeOf}
@@ -23,7 +21,6 @@ use Rattle.network.specs.Scan.{scanReply}
 use Rattle.network.specs.Listing.{refusedLine, Wrote}
 use Rattle.network.specs.Net.{Net, netOf, netFrom, conditionsReply, rowsOf, misclosuresOf, tableIn, room, netReply, fileReply}
 use Rattle.network.specs.File.{listingFor, netListing, listingOf, listed, Lists}
-use Rattle.network.proofs.Composing.{rewrote}
 
 module _ (file : List ℕ) where
   abbrev net : Net

@@ -2,8 +2,6 @@
 use mathlib.Core.Path.{sym}
 use native.Mathlib.Omega.{arith}
 use borrow.Author.Needs.{needs}
-use denote.Ref.{now}
-use lib.ListN.{length}
 use lib.Seq.{length-take-le}
 use Rattle.network.proofs.solve.solve.Statement.{statement}
 use Rattle.network.proofs.solve.solve.Tie as tie
