@@ -1,4 +1,5 @@
 -- A file whose scan is accepted has no more directions, conditions and terms than the rules allow. Assumes nothing.
+--   unless-none, whole, some-part  all parts but the last; a file has one part at least
 --   whole-lines                    the lines with their LF are all parts but the last
 --   Room, line-room                what is still to come after a line, and before it
 --   scan-room                      what is still to come, wherever the scan stands
@@ -32,11 +33,11 @@ use Rattle.network.specs.declared.record.Record.the-variants.{Direction,
 use Rattle.network.specs.declared.scan.Counts.{Counts}
 
 -- ---- all parts but the last
-abbrev unless-none : List (List ℕ) → List (List ℕ) → List (List ℕ)
+abbrev pub unless-none : List (List ℕ) → List (List ℕ) → List (List ℕ)
 unless-none [] lines = []
 unless-none (part ∷ parts) lines = lines
 
-whole : List (List ℕ) → List (List ℕ)
+unfoldable pub whole : List (List ℕ) → List (List ℕ)
 whole [] = []
 whole (part ∷ parts) = unless-none parts (part ∷ whole parts)
 
@@ -49,7 +50,7 @@ some-step : (x : ℕ) (parts lines : List (List ℕ)) (b : Bool) → unless-none
 some-step x parts lines true h = refl
 some-step x parts lines false h = some-first x parts lines ∙ h
 
-some-part : (s : List ℕ) (lines : List (List ℕ)) → unless-none (parted LF ([] ∷ []) s) lines ≡ lines
+pub some-part : (s : List ℕ) (lines : List (List ℕ)) → unless-none (parted LF ([] ∷ []) s) lines ≡ lines
 unfolding parted
 some-part [] lines = refl
 some-part (x ∷ s) lines = some-step x (parted LF ([] ∷ []) s) lines (eqb x LF) (some-part s lines)
@@ -69,7 +70,7 @@ unfolding whole
 lines-step x s true h = some-part s ([] ∷ whole (parted LF ([] ∷ []) s)) ∙ ap (λ (lines : List (List ℕ)). [] ∷ lines) h
 lines-step x s false h = whole-first x (parted LF ([] ∷ []) s) ∙ ap (onFirst x) h
 
-whole-lines : (s : List ℕ) → whole (parted LF ([] ∷ []) s) ≡ parted LF [] s
+pub whole-lines : (s : List ℕ) → whole (parted LF ([] ∷ []) s) ≡ parted LF [] s
 unfolding parted whole
 whole-lines [] = refl
 whole-lines (x ∷ s) = lines-step x s (eqb x LF) (whole-lines s)

@@ -17,3 +17,4 @@ pub mod Forming
 pub mod Bounding
 pub mod Tabling
 pub mod Filing
+pub mod Passing

@@ -5,7 +5,7 @@
 --   never                         a refusal is no acceptance
 --   neither                       where one or the other is no fault, neither is
 --   both-accepted, if-accepted    where two checks accept one after the other, each does; where one check accepts, its fault is not there
---   turn-none, turn-more, turn-stops, turn-each      several checks of each of n things, by the loop that makes them
+--   turn-none, turn-all, turn-more, turn-stops, turn-each      several checks of each of n things, by the loop that makes them
 use mathlib.Core.Path.{_≡_, refl, subst}
 use mathlib.Core.Bool.{Bool, true, false, _||_}
 use Prim.Native.Nat.{ℕ, zero, suc, _+_, _≤_, _<_}
@@ -58,6 +58,11 @@ module _ (check : ℕ → Reply) where
   pub turn-none : inTurn 0 check ≡ Accepted
   unfolding inTurn
   turn-none = refl
+
+  pub turn-all : (n : ℕ) → ((j : ℕ) → j < n → check j ≡ Accepted) → inTurn n check ≡ Accepted
+  unfolding inTurn
+  turn-all zero each = refl
+  turn-all (suc n) each = rw (turn-all n (λ j l. each j (omega arith))) (each n (omega arith))
 
   pub turn-more : (n : ℕ) → inTurn n check ≡ Accepted → check n ≡ Accepted → inTurn (n + 1) check ≡ Accepted
   unfolding inTurn
