@@ -1,0 +1,4 @@
+pub mod Telling
+pub mod Lettered
+pub mod OwnBytes
+pub mod Unique

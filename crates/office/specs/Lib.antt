@@ -1,0 +1,4 @@
+pub mod Verdicts
+pub mod Promises
+pub mod Terms
+pub mod Statuses

@@ -1,0 +1,216 @@
+// The public operations for programs in C, C++ and Rust. Each calls the library's own operation and tells its reply in numbers; nothing is worked
+// out here. A lent list comes as a pointer and a length. include/molsadriu.h declares these functions.
+ghost use mathlib.Core.Path.{_≡_};
+ghost use Prim.Native.Nat.{_≤_};
+ghost use lib.ListN.{length, take, drop};
+ghost use Rattle.station.specs.Sightings.{book};
+ghost use Rattle.adjustment.specs.Promise.{lists};
+ghost use Rattle.network.specs.Lines.{lineAt, statusAt};
+ghost use Rattle.network.specs.File.{Lists};
+ghost use Rattle.office.specs.Verdicts.{refused, verdictOf};
+ghost use Rattle.office.specs.Promises.{Means, Table};
+ghost use Rattle.office.specs.Terms.{headingOf, termsOf, coefficientsReplyUnder, coefficientsListUnder, misclosureUnder, figureReply, figureLeaves};
+ghost use Rattle.office.specs.Statuses.{statusNumber};
+use condition::Kind;
+use network::line::LineStatus;
+use reply::Figure;
+use reply::Refusal;
+use reply::Reply;
+
+// What a caller is told: 0 and 0 where the input is accepted, else the rules' number and place of the refusal.
+#[repr(C)]
+pub struct Verdict {
+    pub number: u64,
+    pub place: u64,
+}
+
+// The kind of condition that a letter names.
+enum Heading {
+    Named(Kind),
+    Unknown,
+}
+
+// The verdict on a refusal.
+fn refuse(why: Refusal) -> Verdict
+    ensures { λ v. ⌜ v ≡ refused why ⌝ }
+{
+    let number = reply::number(why);
+    let place = reply::place(why);
+    Verdict { number, place }
+}
+
+// The verdict on a reply.
+fn tell(reply: Reply) -> Verdict
+    ensures { λ v. ⌜ v ≡ verdictOf reply ⌝ }
+{
+    match reply {
+        Reply::Accepted => Verdict {
+            number: 0,
+            place: 0,
+        },
+        Reply::Refused(why) => refuse(why),
+    }
+}
+
+// A is an angle condition, S a side condition.
+fn kind_named(letter: u8) -> Heading
+    ensures { λ h. ⌜ h ≡ headingOf letter ⌝ }
+{
+    if letter == b'A' {
+        Heading::Named(Kind::Angle)
+    } else if letter == b'S' {
+        Heading::Named(Kind::Side)
+    } else {
+        Heading::Unknown
+    }
+}
+
+// Station means: the direction and the number of pairs of each object, into two lent lists of 16.
+#[no_mangle]
+pub extern "C" fn molsadriu_station_means(
+    position: &[i64],
+    object: &[i64],
+    face: &[i64],
+    reading: &[i64],
+    direction: &mut [i64],
+    pairs: &mut [i64],
+) -> Verdict
+    ensures { λ v. ⌜ Means (book (now (position .entry)) (now (object .entry)) (now (face .entry)) (now (reading .entry)))
+        (now (direction .entry)) (now (pairs .entry)) v (now (direction .exit)) (now (pairs .exit)) ⌝ }
+{
+    let reply = station::means(position, object, face, reading, direction, pairs);
+    tell(reply)
+}
+
+// The coefficients of one condition, into a lent list of as many numbers as there are directions.
+#[no_mangle]
+pub extern "C" fn molsadriu_coefficients(
+    directions: &[i64],
+    q: &[i64],
+    letter: u8,
+    target: i64,
+    kinds: &[i64],
+    values: &[i64],
+    d: &[i64],
+    i: &[i64],
+    k: &[i64],
+    a: &mut [i64],
+) -> Verdict
+    ensures verdict { λ v. ⌜ v ≡ verdictOf (coefficientsReplyUnder (headingOf letter)
+        (termsOf (now (directions .entry)) (now (q .entry)) target
+        (now (kinds .entry)) (now (values .entry)) (now (d .entry)) (now (i .entry)) (now (k .entry)))
+        (length (now (a .entry)))) ⌝ }
+    ensures list { λ v. ⌜ now (a .exit) ≡ coefficientsListUnder (headingOf letter)
+        (termsOf (now (directions .entry)) (now (q .entry)) target
+        (now (kinds .entry)) (now (values .entry)) (now (d .entry)) (now (i .entry)) (now (k .entry)))
+        (now (a .entry)) ⌝ }
+{
+    let heading = kind_named(letter);
+    let Heading::Named(kind) = heading else {
+        return refuse(Refusal::Malformed(0));
+    };
+    let reply = condition::coefficients(directions, q, kind, target, kinds, values, d, i, k, a);
+    tell(reply)
+}
+
+// The misclosure of the same condition, into one lent number.
+#[no_mangle]
+pub extern "C" fn molsadriu_misclosure(
+    directions: &[i64],
+    q: &[i64],
+    letter: u8,
+    target: i64,
+    kinds: &[i64],
+    values: &[i64],
+    d: &[i64],
+    i: &[i64],
+    k: &[i64],
+    w: &mut i64,
+) -> Verdict
+    ensures verdict { λ v. ⌜ v ≡ verdictOf (figureReply (misclosureUnder (headingOf letter)
+        (termsOf (now (directions .entry)) (now (q .entry)) target
+        (now (kinds .entry)) (now (values .entry)) (now (d .entry)) (now (i .entry)) (now (k .entry))))) ⌝ }
+    ensures value { λ v. ⌜ now (w .exit) ≡ figureLeaves (misclosureUnder (headingOf letter)
+        (termsOf (now (directions .entry)) (now (q .entry)) target
+        (now (kinds .entry)) (now (values .entry)) (now (d .entry)) (now (i .entry)) (now (k .entry))))
+        (now (w .entry)) ⌝ }
+{
+    let heading = kind_named(letter);
+    let Heading::Named(kind) = heading else {
+        return refuse(Refusal::Malformed(0));
+    };
+    let figure = condition::misclosure(directions, q, kind, target, kinds, values, d, i, k);
+    match figure {
+        Figure::Value(value) => {
+            *w = value;
+            tell(Reply::Accepted)
+        }
+        Figure::Refused(why) => refuse(why),
+    }
+}
+
+// Adjusts a lent condition table: V, u, adjusted directions, K, R and Q into six lent lists.
+#[no_mangle]
+pub extern "C" fn molsadriu_adjust_table(
+    directions: &[i64],
+    q: &[i64],
+    a: &[i64],
+    w: &[i64],
+    corrections: &mut [i64],
+    printed: &mut [i64],
+    adjusted: &mut [i64],
+    correlates: &mut [i64],
+    remainders: &mut [i64],
+    misses: &mut [i64],
+) -> Verdict
+    ensures { λ v. ⌜ Table (now (directions .entry)) (now (q .entry)) (now (a .entry)) (now (w .entry))
+        (lists (now (corrections .entry)) (now (printed .entry)) (now (adjusted .entry)) (now (correlates .entry)) (now (remainders .entry)) (now (misses .entry)))
+        v
+        (lists (now (corrections .exit)) (now (printed .exit)) (now (adjusted .exit)) (now (correlates .exit)) (now (remainders .exit)) (now (misses .exit))) ⌝ }
+{
+    let reply = adjustment::adjust(
+        directions,
+        q,
+        a,
+        w,
+        corrections,
+        printed,
+        adjusted,
+        correlates,
+        remainders,
+        misses,
+    );
+    tell(reply)
+}
+
+// Adjusts a network file: its listing, into a lent buffer of at least 6,560 bytes, and how many bytes it has.
+#[no_mangle]
+pub extern "C" fn molsadriu_adjust_file(file: &[u8], out: &mut [u8]) -> usize
+    ensures listing { λ r. ⌜ Lists (now (file .entry)) (now (out .entry)) r (now (out .exit)) ⌝ }
+    ensures room { λ r. ⌜ r ≤ length (now (out .entry)) ⌝ }
+{
+    network::adjust(file, out)
+}
+
+// The length of the line that starts at `start`, without its LF. Its bytes are the file's own, from there on.
+#[no_mangle]
+pub extern "C" fn molsadriu_line(file: &[u8], start: usize) -> usize
+    ensures length { λ r. ⌜ r ≡ length (lineAt (now (file .entry)) start) ⌝ }
+    ensures bytes { λ r. ⌜ take r (drop start (now (file .entry))) ≡ lineAt (now (file .entry)) start ⌝ }
+{
+    let line = network::line::line(file, start);
+    line.len()
+}
+
+// What stands at `start`: 0 a line, 1 none left, 2 bytes whose LF is missing.
+#[no_mangle]
+pub extern "C" fn molsadriu_line_status(file: &[u8], start: usize) -> u64
+    ensures { λ r. ⌜ r ≡ statusNumber (statusAt (now (file .entry)) start) ⌝ }
+{
+    let status = network::line::line_status(file, start);
+    match status {
+        LineStatus::Whole => 0,
+        LineStatus::NoneLeft => 1,
+        LineStatus::LfMissing => 2,
+    }
+}
