@@ -1,0 +1,157 @@
+/* Molsadriu: adjustment of observed directions by the method of conditions, for programs in C (C99) and C++.
+ *
+ * Link with the archive of the crate office: `tools/native` makes target/native/liboffice.a for this computer. Of the C library it
+ * asks memcpy and memset, no more.
+ *
+ * LISTS. A list is lent as two arguments, a pointer to its first number and how many numbers it has. An empty list may be a null
+ * pointer and 0. Every list has its own length, and no length is trusted: lengths that disagree with each other or with the rules are
+ * refused before anything is read.
+ *
+ * WHO OWNS WHAT. Everything stays the caller's. Nothing is kept after the call, nothing is allocated, and there is no state between
+ * calls, so that calls from several threads at once are sound as long as no list lent for an answer is shared. What comes in through
+ * a pointer to const is only read. A list lent for an answer is written whole where the input is accepted; where it is refused it stays
+ * as it was. docs/COSTS.md says how much stack a call takes.
+ *
+ * WHAT CANNOT BE SEEN, and is up to the caller: that a list has as many numbers as its length says (a null pointer with a length above
+ * 0 has not), that its pointer is aligned for its type, and that a list lent for an answer shares no place with any other list of the
+ * same call. Lists that are only read may overlap.
+ *
+ * UNITS. Directions, readings and printed corrections u are in 0.001 second, coefficients a in hundredths, misclosures w in
+ * thousandths of the condition's unit, correlates K in millionths, corrections V in 10^-8 second, remainders R and Q in 10^-10 of the
+ * condition's unit.
+ *
+ * That each function does this for every input is proved, from its pointers and lengths inward; see docs/PROMISES.md. */
+#ifndef MOLSADRIU_H
+#define MOLSADRIU_H
+
+#include <stddef.h>
+#include <stdint.h>
+
+#ifdef __cplusplus
+extern "C" {
+#endif
+
+/* The archive is made for computers whose lengths have 64 bits; a compiler for another one stops here. */
+typedef char molsadriu_lengths_have_64_bits[sizeof(size_t) == 8 ? 1 : -1];
+
+#define MOLSADRIU_CIRCLE 1296000000 /* C: the circle, in 0.001 second */
+#define MOLSADRIU_SIGHTINGS 512     /* most sightings at a station */
+#define MOLSADRIU_OBJECTS 16        /* objects of a station: the length of its two answer lists */
+#define MOLSADRIU_DIRECTIONS 64     /* most directions, m */
+#define MOLSADRIU_CONDITIONS 24     /* most conditions, n; also not above m */
+#define MOLSADRIU_TERMS 12          /* most terms of a condition */
+#define MOLSADRIU_FILE 65535        /* most bytes of a network file */
+#define MOLSADRIU_LISTING 6560      /* bytes that hold the listing of any network file */
+
+/* What a caller is told: number 0 and place 0 where the input is accepted, else the number and the place of the refusal.
+ *
+ *  No.  When                                                                Place
+ *   1   line malformed, unknown, or under the wrong heading;                line,
+ *       a term's kind doesn't fit its condition;                            or the term's ordinal,
+ *       a condition's letter is neither A nor S                             or 0
+ *   2   counts of directions, conditions or terms; lengths that disagree;   line,
+ *       a D line out of turn; file too long                                 or 0
+ *   3   number out of range, or i = k where that is not allowed             line, direction number or term's ordinal, or 0
+ *   4   coefficient beyond 2,000                                            condition
+ *   5   misclosure beyond 1,000,000                                         condition
+ *   6   weak row                                                            row
+ *   7   correlate too large                                                 row
+ *   8   remainder R too large                                               condition
+ *  21   no sightings, over 512, or lists of unequal length                  0
+ *  22   sighting field out of range                                         its ordinal
+ *  23   a face missing or given more than once                              100 * position + object
+ *  24   position without object 1                                           100 * position + 1
+ *  25   faces over 60,000 apart                                             as 23
+ *  26   a position's direction over 120,000 (doubled) from the lowest's     as 23
+ *
+ * Lines, ordinals, directions, rows and conditions count from 1. The first refusal in the rules' order of checks is told, and no other. */
+typedef struct molsadriu_verdict {
+    uint64_t number;
+    uint64_t place;
+} molsadriu_verdict;
+
+/* Station means. In: one list for each field of the sightings, all of one length, 1 to 512, in any order of arrival: position (1 to
+ * 16), object (1 to 16; 1 is the initial), face (0 left, 1 right) and reading (0 to C - 1). Out, in two lists of exactly 16: the
+ * direction of each object from the initial, and the number of pairs it comes from; 0 and 0 for an object never seen.
+ * Comes back: the verdict, 21 to 26 where it refuses. */
+molsadriu_verdict molsadriu_station_means(
+    const int64_t *position, size_t position_length,
+    const int64_t *object, size_t object_length,
+    const int64_t *face, size_t face_length,
+    const int64_t *reading, size_t reading_length,
+    int64_t *direction, size_t direction_room,
+    int64_t *pairs, size_t pairs_room);
+
+/* One condition's coefficients. In: the directions 1 to m (m from 1 to 64; each 0 to C - 1), their inverse weights q (1 to 10; m of
+ * them), the letter of the condition, 'A' for angles or 'S' for sides, the target of an angle condition (0 to 12 C; not read under S),
+ * and one list for each field of the terms, all of one length, 1 to 12:
+ *   kind    'P' an angle from i to k, 'F' a fixed angle (both under A), 'L' or 'R' a side term on the left or on the right (under S)
+ *   value   the fixed angle of F (0 to C - 1), the logarithm of L and R (0 to 200,000,000, in 10^-7); not read of P
+ *   d       the difference per second of L and R (-2,000 to 2,000); not read of P and F
+ *   i, k    direction numbers, 0 to m; 0 is the fixed initial; not read of F
+ * i and k differ, but for a fixed length, an L or R with i = k = 0 and d = 0.
+ * Out: the coefficients of directions 1 to m, in a list of exactly m.
+ * Comes back: the verdict, 1 to 4 where it refuses; a letter other than A and S is 1 at 0 before all else, 4 has place 1. */
+molsadriu_verdict molsadriu_coefficients(
+    const int64_t *directions, size_t directions_length,
+    const int64_t *q, size_t q_length,
+    uint8_t letter, int64_t target,
+    const int64_t *kind, size_t kind_length,
+    const int64_t *value, size_t value_length,
+    const int64_t *d, size_t d_length,
+    const int64_t *i, size_t i_length,
+    const int64_t *k, size_t k_length,
+    int64_t *a, size_t a_room);
+
+/* The misclosure of the same condition. In: as above. Out: w, in the one number at w, which stays as it was where the input is
+ * refused. Comes back: the verdict, 1, 2, 3 or 5 (at 1) where it refuses. */
+molsadriu_verdict molsadriu_misclosure(
+    const int64_t *directions, size_t directions_length,
+    const int64_t *q, size_t q_length,
+    uint8_t letter, int64_t target,
+    const int64_t *kind, size_t kind_length,
+    const int64_t *value, size_t value_length,
+    const int64_t *d, size_t d_length,
+    const int64_t *i, size_t i_length,
+    const int64_t *k, size_t k_length,
+    int64_t *w);
+
+/* Adjusts a condition table. In: the directions 1 to m and their q as above; a, the coefficients (-2,000 to 2,000), n rows of m,
+ * row after row; w, the n misclosures (-1,000,000 to 1,000,000); n from 1 to 24 and not above m.
+ * Out, in three lists of exactly m: the corrections V, the printed corrections u, and the adjusted directions; and in three lists of
+ * exactly n: the correlates K, the remainders R, and the printed remainders Q.
+ * Comes back: the verdict, 2 to 8 where it refuses. */
+molsadriu_verdict molsadriu_adjust_table(
+    const int64_t *directions, size_t directions_length,
+    const int64_t *q, size_t q_length,
+    const int64_t *a, size_t a_length,
+    const int64_t *w, size_t w_length,
+    int64_t *corrections, size_t corrections_room,
+    int64_t *printed, size_t printed_room,
+    int64_t *adjusted, size_t adjusted_room,
+    int64_t *correlates, size_t correlates_room,
+    int64_t *remainders, size_t remainders_room,
+    int64_t *misses, size_t misses_room);
+
+/* Adjusts a network file. In: the bytes of the file. Out: its listing, or its one REFUSED line (number and place, parted by tabs), in
+ * the first bytes of `out`, which must have room for MOLSADRIU_LISTING; the bytes after it stay as they were.
+ * Comes back: how many bytes the listing has, never more than the room; 0 where the room is too small, and then `out` is as it was.
+ * A file of more than 65,535 bytes is refused by its length, and not read. */
+size_t molsadriu_adjust_file(const uint8_t *file, size_t file_length, uint8_t *out, size_t out_room);
+
+/* The line reader. The line at `start` is the caller's own bytes: it begins at file + start, and what comes back is its length, without
+ * its LF. Any start is allowed; a start within a line gives the rest of it. The length is 0 where molsadriu_line_status does not say
+ * MOLSADRIU_LINE, and also at an empty line. The next line starts at start + length + 1. */
+size_t molsadriu_line(const uint8_t *file, size_t file_length, size_t start);
+
+/* What stands at `start`, one of these three: */
+#define MOLSADRIU_LINE 0       /* a line with its LF */
+#define MOLSADRIU_NONE_LEFT 1  /* nothing: the start is at or past the end */
+#define MOLSADRIU_LF_MISSING 2 /* bytes, and no LF after them */
+uint64_t molsadriu_line_status(const uint8_t *file, size_t file_length, size_t start);
+
+#ifdef __cplusplus
+}
+#endif
+
+#endif
