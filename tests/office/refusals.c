@@ -1,0 +1,301 @@
+/* The functions of include/molsadriu.h, called with what a careless program might lend: lists of every wrong length, numbers at the ends of
+ * their type, letters of no meaning. Each list is a block of its own with nothing behind it, so that valgrind sees a read or a write past it. */
+#include <inttypes.h>
+#include <stdio.h>
+#include <stdlib.h>
+#include <string.h>
+
+#include "molsadriu.h"
+
+static unsigned checks, failures;
+
+static void check(int right, const char *what, int line)
+{
+    checks++;
+    if (!right) {
+        failures++;
+        printf("refusals.c:%d: %s\n", line, what);
+    }
+}
+#define CHECK(fact) check((fact) != 0, #fact, __LINE__)
+
+static int is(molsadriu_verdict v, uint64_t number, uint64_t place)
+{
+    if (v.number == number && v.place == place) return 1;
+    printf("  %" PRIu64 " at %" PRIu64 ", and not %" PRIu64 " at %" PRIu64 "\n", v.number, v.place, number, place);
+    return 0;
+}
+
+/* A list in a block of exactly its length; what it held when it was lent. */
+typedef struct {
+    int64_t *at;
+    size_t length;
+    int64_t before[MOLSADRIU_OBJECTS];
+} list;
+
+static list lend(const int64_t *numbers, size_t length)
+{
+    list l;
+    l.at = malloc(length * sizeof *l.at);
+    if (l.at == NULL) exit(2);
+    l.length = length;
+    memcpy(l.at, numbers, length * sizeof *l.at);
+    memcpy(l.before, numbers, length * sizeof *l.at);
+    return l;
+}
+
+static int unchanged(const list *lists, size_t first, size_t count, const size_t *lengths)
+{
+    for (size_t j = first; j < count; j++)
+        if (memcmp(lists[j].at, lists[j].before, lengths[j] * sizeof(int64_t)) != 0) return 0;
+    return 1;
+}
+
+static void give_back(list *lists, size_t count)
+{
+    for (size_t j = 0; j < count; j++) free(lists[j].at);
+}
+
+/* Numbers that no field takes. */
+static const int64_t ends[2] = {INT64_MIN, INT64_MAX};
+
+/* Calls an operation with each of its lists at each wrong length, one at a time: always this refusal, and the answer lists stay. */
+static void wrong_lengths(molsadriu_verdict (*call)(const list *), list *lists, size_t count, size_t answers, uint64_t number)
+{
+    size_t right[10];
+    for (size_t j = 0; j < count; j++) right[j] = lists[j].length;
+    for (size_t j = 0; j < count; j++) {
+        const size_t wrong[6] = {0, right[j] - 1, right[j] + 1, 1000, SIZE_MAX / 8 + 1, SIZE_MAX};
+        for (size_t n = 0; n < 6; n++) {
+            lists[j].length = wrong[n];
+            CHECK(is(call(lists), number, 0));
+            CHECK(unchanged(lists, answers, count, right));
+        }
+        /* an empty list may have no place */
+        int64_t *at = lists[j].at;
+        lists[j].at = NULL;
+        lists[j].length = 0;
+        CHECK(is(call(lists), number, 0));
+        lists[j].at = at;
+        lists[j].length = right[j];
+    }
+}
+
+/* ---- station: figure 9 */
+static molsadriu_verdict means(const list *l)
+{
+    return molsadriu_station_means(l[0].at, l[0].length, l[1].at, l[1].length, l[2].at, l[2].length, l[3].at, l[3].length,
+                                   l[4].at, l[4].length, l[5].at, l[5].length);
+}
+
+static void station(void)
+{
+    const int64_t position[4] = {1, 1, 1, 1}, object[4] = {1, 1, 2, 2}, face[4] = {0, 1, 0, 1};
+    const int64_t reading[4] = {0, 648004000, 144010000, 792016000};
+    const int64_t held[MOLSADRIU_OBJECTS] = {-7, -7, -7, -7, -7, -7, -7, -7, -7, -7, -7, -7, -7, -7, -7, -7};
+    list l[6] = {lend(position, 4), lend(object, 4), lend(face, 4), lend(reading, 4), lend(held, 16), lend(held, 16)};
+    const size_t right[6] = {4, 4, 4, 4, 16, 16};
+    wrong_lengths(means, l, 6, 4, 21);
+    for (size_t j = 0; j < 4; j++)
+        for (size_t n = 0; n < 4; n++)
+            for (size_t e = 0; e < 2; e++) {
+                l[j].at[n] = ends[e];
+                CHECK(is(means(l), 22, n + 1));
+                CHECK(unchanged(l, 4, 6, right));
+                l[j].at[n] = l[j].before[n];
+            }
+    l[2].at[3] = 0;
+    CHECK(is(means(l), 23, 102));
+    l[2].at[3] = 1;
+    CHECK(is(means(l), 0, 0));
+    CHECK(l[4].at[0] == 0 && l[4].at[1] == 144011000 && l[4].at[2] == 0 && l[4].at[15] == 0);
+    CHECK(l[5].at[0] == 1 && l[5].at[1] == 1 && l[5].at[2] == 0 && l[5].at[15] == 0);
+    give_back(l, 6);
+}
+
+/* ---- one condition's terms: the first condition of figure 3, and a side condition */
+static uint8_t letter;
+static int64_t target, w;
+
+static molsadriu_verdict coefficients(const list *l)
+{
+    return molsadriu_coefficients(l[0].at, l[0].length, l[1].at, l[1].length, letter, target, l[2].at, l[2].length, l[3].at, l[3].length,
+                                  l[4].at, l[4].length, l[5].at, l[5].length, l[6].at, l[6].length, l[7].at, l[7].length);
+}
+
+static molsadriu_verdict misclosure(const list *l)
+{
+    return molsadriu_misclosure(l[0].at, l[0].length, l[1].at, l[1].length, letter, target, l[2].at, l[2].length, l[3].at, l[3].length,
+                                l[4].at, l[4].length, l[5].at, l[5].length, l[6].at, l[6].length, &w);
+}
+
+/* Both operations refuse alike, and leave what they were lent. */
+static void both_refuse(const list *l, uint64_t number, uint64_t place)
+{
+    const size_t right[8] = {3, 3, 3, 3, 3, 3, 3, 3};
+    w = 4711;
+    CHECK(is(coefficients(l), number, place));
+    CHECK(is(misclosure(l), number, place));
+    CHECK(unchanged(l, 7, 8, right));
+    CHECK(w == 4711);
+}
+
+static void terms(void)
+{
+    const int64_t directions[3] = {216000000, 216003000, 215997000}, q[3] = {1, 1, 1};
+    const int64_t kind[3] = {'P', 'P', 'F'}, value[3] = {INT64_MIN, INT64_MAX, 216000000}, d[3] = {INT64_MIN, INT64_MAX, INT64_MIN};
+    const int64_t i[3] = {0, 0, INT64_MIN}, k[3] = {1, 2, INT64_MAX}, held[3] = {-7, -7, -7};
+    list l[8] = {lend(directions, 3), lend(q, 3), lend(kind, 3), lend(value, 3), lend(d, 3), lend(i, 3), lend(k, 3), lend(held, 3)};
+    letter = 'A';
+    target = 648000000;
+    wrong_lengths(coefficients, l, 8, 7, 2);
+    w = 4711;
+    wrong_lengths(misclosure, l, 7, 7, 2);
+    CHECK(w == 4711);
+    for (size_t e = 0; e < 2; e++) {
+        for (size_t j = 0; j < 7; j++)
+            for (size_t n = 0; n < 3; n++) {
+                /* what is read of a P (terms 1 and 2) is i and k, of an F (term 3) its value; d is not read here */
+                int read = j < 3 || (j == 3 && n == 2) || ((j == 5 || j == 6) && n < 2);
+                if (!read) continue;
+                l[j].at[n] = ends[e];
+                both_refuse(l, j == 2 ? 1 : 3, n + 1);
+                l[j].at[n] = l[j].before[n];
+            }
+        target = ends[e];
+        both_refuse(l, 3, 0);
+        target = 648000000;
+    }
+    /* any other letter is 1 at 0, before all else: here before a length and a direction that are wrong */
+    for (int c = 0; c < 256; c++) {
+        if (c == 'A' || c == 'S') continue;
+        letter = (uint8_t)c;
+        both_refuse(l, 1, 0);
+        l[1].length = 2;
+        l[0].at[0] = -1;
+        both_refuse(l, 1, 0);
+        l[1].length = 3;
+        l[0].at[0] = directions[0];
+    }
+    letter = 'S';
+    both_refuse(l, 1, 1);
+    letter = 'A';
+    CHECK(is(coefficients(l), 0, 0) && l[7].at[0] == 100 && l[7].at[1] == 100 && l[7].at[2] == 0);
+    CHECK(is(misclosure(l), 0, 0) && w == 3000);
+    /* a side condition: its target is not read */
+    const int64_t sides[3] = {'L', 'R', 'R'}, logarithms[3] = {98000000, 97999000, 0}, differences[3] = {250, -40, 0};
+    const int64_t from[3] = {1, 0, 0}, to[3] = {2, 3, 0};
+    for (size_t n = 0; n < 3; n++) {
+        l[2].at[n] = sides[n];
+        l[3].at[n] = logarithms[n];
+        l[4].at[n] = differences[n];
+        l[5].at[n] = from[n];
+        l[6].at[n] = to[n];
+    }
+    letter = 'S';
+    target = INT64_MIN;
+    CHECK(is(coefficients(l), 0, 0) && l[7].at[0] == -250 && l[7].at[1] == 250 && l[7].at[2] == 40);
+    CHECK(is(misclosure(l), 0, 0) && w == 100000);
+    give_back(l, 8);
+}
+
+/* ---- a condition table: figure 1 */
+static molsadriu_verdict adjust(const list *l)
+{
+    return molsadriu_adjust_table(l[0].at, l[0].length, l[1].at, l[1].length, l[2].at, l[2].length, l[3].at, l[3].length,
+                                  l[4].at, l[4].length, l[5].at, l[5].length, l[6].at, l[6].length,
+                                  l[7].at, l[7].length, l[8].at, l[8].length, l[9].at, l[9].length);
+}
+
+static void table(void)
+{
+    const int64_t directions[3] = {0, 1000, MOLSADRIU_CIRCLE - 1}, q[3] = {1, 1, 1}, a[3] = {-306, 694, -1058}, misclosures[1] = {-79200};
+    const int64_t held[3] = {-7, -7, -7};
+    list l[10] = {lend(directions, 3), lend(q, 3), lend(a, 3), lend(misclosures, 1), lend(held, 3), lend(held, 3), lend(held, 3),
+                  lend(held, 1), lend(held, 1), lend(held, 1)};
+    const size_t right[10] = {3, 3, 3, 1, 3, 3, 3, 1, 1, 1};
+    wrong_lengths(adjust, l, 10, 4, 2);
+    for (size_t j = 0; j < 4; j++)
+        for (size_t n = 0; n < right[j]; n++)
+            for (size_t e = 0; e < 2; e++) {
+                l[j].at[n] = ends[e];
+                CHECK(j < 2 ? is(adjust(l), 3, n + 1) : is(adjust(l), j + 2, 1));
+                CHECK(unchanged(l, 4, 10, right));
+                l[j].at[n] = l[j].before[n];
+            }
+    CHECK(is(adjust(l), 0, 0));
+    CHECK(l[5].at[0] == -1430 && l[5].at[1] == 3243 && l[5].at[2] == -4945);
+    CHECK(l[6].at[0] == MOLSADRIU_CIRCLE - 1430 && l[6].at[1] == 4243 && l[6].at[2] == MOLSADRIU_CIRCLE - 4946);
+    CHECK(l[7].at[0] == 467357 && l[8].at[0] == -2948 && l[9].at[0] == 3200000);
+    CHECK(l[4].at[0] == -306 * INT64_C(467357));
+    give_back(l, 10);
+}
+
+/* ---- the line reader */
+static void lines(void)
+{
+    static const char text[] = "D\t1\n\nlast";
+    const size_t length = sizeof text - 1;
+    uint8_t *file = malloc(length);
+    if (file == NULL) exit(2);
+    memcpy(file, text, length);
+    CHECK(molsadriu_line_status(file, length, 0) == MOLSADRIU_LINE && molsadriu_line(file, length, 0) == 3);
+    CHECK(molsadriu_line_status(file, length, 2) == MOLSADRIU_LINE && molsadriu_line(file, length, 2) == 1);
+    CHECK(molsadriu_line_status(file, length, 3) == MOLSADRIU_LINE && molsadriu_line(file, length, 3) == 0);
+    CHECK(molsadriu_line_status(file, length, 4) == MOLSADRIU_LINE && molsadriu_line(file, length, 4) == 0);
+    CHECK(molsadriu_line_status(file, length, 5) == MOLSADRIU_LF_MISSING && molsadriu_line(file, length, 5) == 0);
+    const size_t past[3] = {length, length + 1, SIZE_MAX};
+    for (size_t n = 0; n < 3; n++) {
+        CHECK(molsadriu_line_status(file, length, past[n]) == MOLSADRIU_NONE_LEFT && molsadriu_line(file, length, past[n]) == 0);
+        CHECK(molsadriu_line_status(NULL, 0, past[n]) == MOLSADRIU_NONE_LEFT && molsadriu_line(NULL, 0, past[n]) == 0);
+    }
+    free(file);
+}
+
+/* ---- a network file: figure 3 */
+static const char net[] = "D\t1\t216000000\t1\nD\t2\t216003000\t1\nD\t3\t215997000\t1\nC\tA\t648000000\nP\t0\t1\nP\t0\t2\nF\t216000000\n"
+                          "C\tA\t648000000\nP\t0\t2\nP\t0\t3\nF\t216000000\n";
+static const char listing[] = "ADJ\t3\t2\nV\t1\t-2000\t215998000\nV\t2\t-1000\t216002000\nV\t3\t1000\t215998000\n"
+                              "K\t1\t-2000000\t0\t0\nK\t2\t1000000\t0\t0\n";
+static const char too_long[] = "REFUSED\t2\t0\n";
+
+/* The listing of a file in a block of exactly its length, in a buffer of `room` bytes; whether it is these bytes, and nothing else is changed. */
+static int lists(const uint8_t *file, size_t length, size_t room, const char *expected)
+{
+    uint8_t *out = malloc(room + 1);
+    if (out == NULL) exit(2);
+    memset(out, '#', room + 1);
+    size_t n = molsadriu_adjust_file(file, length, out, room);
+    int right = n == strlen(expected) && memcmp(out, expected, n) == 0;
+    for (size_t j = n; j < room + 1; j++) right = right && out[j] == '#';
+    free(out);
+    return right;
+}
+
+static void network(void)
+{
+    const size_t length = sizeof net - 1;
+    uint8_t *file = malloc(length);
+    if (file == NULL) exit(2);
+    memcpy(file, net, length);
+    const size_t small[4] = {0, 1, 100, MOLSADRIU_LISTING - 1};
+    for (size_t j = 0; j < 4; j++) CHECK(lists(file, length, small[j], ""));
+    CHECK(molsadriu_adjust_file(file, length, NULL, 0) == 0);
+    CHECK(lists(file, length, MOLSADRIU_LISTING, listing));
+    CHECK(lists(file, length, 4 * MOLSADRIU_LISTING, listing));
+    CHECK(lists(NULL, 0, MOLSADRIU_LISTING, too_long));
+    CHECK(lists(file, MOLSADRIU_FILE + 1, MOLSADRIU_LISTING, too_long));
+    CHECK(lists(file, SIZE_MAX, MOLSADRIU_LISTING, too_long));
+    free(file);
+}
+
+int main(void)
+{
+    station();
+    terms();
+    table();
+    lines();
+    network();
+    printf("%u checks, %u failed\n", checks, failures);
+    return failures != 0;
+}
