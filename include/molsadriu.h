@@ -1,7 +1,7 @@
 /* Molsadriu: adjustment of observed directions by the method of conditions, for programs in C (C99) and C++.
  *
- * Link with the archive of the crate office: `tools/native` makes target/native/liboffice.a for this computer. Of the C library it
- * asks memcpy and memset, no more.
+ * Link with the archive of the crate office: `tools/native` makes target/native/liboffice.a for this computer. Of the C library it asks
+ * memcpy, memmove and memset at most.
  *
  * LISTS. A list is lent as two arguments, a pointer to its first number and how many numbers it has. An empty list may be a null
  * pointer and 0. Every list has its own length, and no length is trusted: lengths that disagree with each other or with the rules are
