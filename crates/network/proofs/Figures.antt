@@ -12,7 +12,6 @@ use Rattle.network.specs.Records.{with, directionLine, anglesLine, sides
 use Rattle.exact.specs.Same.{same}
 use Rattle.condition.specs.Terms as terms
 use Rattle.network.specs.Ranges.{targetFault}
-use Rattle.exact.specs.Outside.{outside}
 use Rattle.network.specs.Scan.{suits, outOfTurn, oneTooMany, directionReply, anglesReply, sidesReply, termReply, lineReply, counted, endFault, endReply, scanned, scanReply}
 
 -- Figure 3's file is accepted

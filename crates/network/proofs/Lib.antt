@@ -18,3 +18,4 @@ pub mod Bounding
 pub mod Tabling
 pub mod Filing
 pub mod Passing
+pub mod Following

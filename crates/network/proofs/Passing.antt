@@ -124,7 +124,7 @@ pub record GoodCondition (m : ℕ) (c : Condition) : Type 0 where
   pub target : targetCheck (c .kind) (c .target) ≡ Accepted
   pub terms : Good m (c .kind) c
 
-pub AllGood : ℕ → List Condition → Type 0
+unfoldable pub AllGood : ℕ → List Condition → Type 0
 AllGood m [] = Unit {0}
 AllGood m (c ∷ cs) = GoodCondition m c × AllGood m cs
 
@@ -256,6 +256,10 @@ file-passed file e =
     (all-passed (parted LF ([] ∷ []) file) (some-part file ([] ∷ [])) (both-accepted (refuseIf (ltb 65535 (length file)) (Count 0)) (scanned 1 none (parted LF ([] ∷ []) file)) e .1))
 
 -- ---- the checks of `condition`
+pub directions-pass : (ds q : List ℤ) → Directions ds q → directionsReply ds q ≡ Accepted
+unfolding directionsReply
+directions-pass ds q lines = refuse-none (length ds) (faultAt ds q) (λ i. OutOfRange (i + 1)) (lines .ranges)
+
 module _ (ds q : List ℤ) (c : Condition) (lines : Directions ds q) (some : 1 ≤ length ds) (few : length ds ≤ 64) (g : GoodCondition (length ds) c) (short : length (c .kinds) ≤ 12) where
   no-fault : countsFault (lentOf ds q c) ≡ false
   unfolding lentOf directionsMiscounted termsMiscounted
@@ -274,10 +278,6 @@ module _ (ds q : List ℤ) (c : Condition) (lines : Directions ds q) (some : 1 �
         eq-eqb (length (c .kinds)) (length (c .kinds)) refl,
       )
 
-  directions-pass : directionsReply ds q ≡ Accepted
-  unfolding directionsReply
-  directions-pass = refuse-none (length ds) (faultAt ds q) (λ i. OutOfRange (i + 1)) (lines .ranges)
-
   terms-pass : termsCheck (c .kind) (pos (length ds)) (length (c .kinds)) (termOf c) ≡ Accepted
   unfolding termsCheck
   terms-pass =
@@ -286,10 +286,10 @@ module _ (ds q : List ℤ) (c : Condition) (lines : Directions ds q) (some : 1 �
 
   checks-pass : checks (lentOf ds q c) ≡ Accepted
   unfolding checks lentOf
-  checks-pass = rw (no-fault, directions-pass, g .target) terms-pass
+  checks-pass = rw (no-fault, directions-pass ds q lines, g .target) terms-pass
 
 -- ---- every condition of a file whose scan is accepted
-pub Checked : (ds q : List ℤ) → List Condition → Type 0
+unfoldable pub Checked : (ds q : List ℤ) → List Condition → Type 0
 Checked ds q [] = Unit {0}
 Checked ds q (c ∷ cs) = (checks (lentOf ds q c) ≡ Accepted) × Checked ds q cs
 

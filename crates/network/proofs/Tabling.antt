@@ -1,6 +1,7 @@
 -- Laws of the listing of a condition table and of a net, by what `adjustment` and the conditions have answered. Assumes nothing.
 --   Lent                             answer lists as long as they must be
 --   table-refused, table-accepted    the listing of a refused and of an accepted table
+--   misclosures-length               a misclosure for each condition
 --   net-refused, net-accepted        the listing of a net whose conditions are refused, and of one whose are not
 --   listing-most, table-most         no listing has more than 6,560 bytes
 use mathlib.Core.Path.{_≡_, refl, sym, _∙_, ap, ap₂}
@@ -62,7 +63,7 @@ module _ (ds q a w : List ℤ) {lent : Answers} (l : Lent (length ds) (length w)
         ∙ ap (λ (r : Reply). listingFor r answers) (sym (answered ∙ e))
 
 -- ---- the net
-misclosures-length : (directions q : List ℤ) (cs : List Condition) → length (misclosuresOf directions q cs) ≡ length cs
+pub misclosures-length : (directions q : List ℤ) (cs : List Condition) → length (misclosuresOf directions q cs) ≡ length cs
 unfolding misclosuresOf
 misclosures-length directions q [] = refl
 misclosures-length directions q (c ∷ cs) = ap suc (misclosures-length directions q cs)
