@@ -1,4 +1,4 @@
--- `adjust::read_after` meets its contract: the part that is lent ends where the buffer does, and what stands before it stays. Assumes nothing.
+-- `lister::read_after` meets its contract: the part that is lent ends where the buffer does, and what stands before it stays. Assumes nothing.
 use mathlib.Core.Path.{_≡_, subst}
 use mathlib.Core.List.{List}
 use Prim.Native.Nat.{ℕ, _-_}
@@ -7,9 +7,9 @@ use lib.ListN.{length, take, drop, length-drop}
 use lib.Seq.{length-take-le}
 use borrow.Author.Needs.{needs}
 use borrow.Rule.Slice.PartMut.{take-put}
-use Rattle.adjust.specs.Input.{Within}
-use Rattle.adjust.proofs.read_after.Statement.{statement}
-use Rattle.adjust.proofs.read_after.Tie as tie
+use Rattle.lister.specs.Input.{Within}
+use Rattle.lister.proofs.read_after.Statement.{statement}
+use Rattle.lister.proofs.read_after.Tie as tie
 
 -- what is lent is as long as the room that is left
 behind : (at : ℕ) (xs : List ℕ) → length (take (length xs - at) (drop at xs)) ≡ length xs - at

@@ -1,9 +1,9 @@
--- `adjust::write_listing` is safe: the listing that it writes is a part of its buffer. Assumes nothing.
+-- `lister::write_listing` is safe: the listing that it writes is a part of its buffer. Assumes nothing.
 use mathlib.Core.Path.{sym}
 use lib.Seq.{length-take-le}
 use borrow.Author.Needs.{needs}
-use Rattle.adjust.proofs.write_listing.Statement.{statement}
-use Rattle.adjust.proofs.write_listing.Tie as tie
+use Rattle.lister.proofs.write_listing.Statement.{statement}
+use Rattle.lister.proofs.write_listing.Tie as tie
 
 slice-aggregate-adjust : tie.Need-slice-aggregate-adjust
 slice-aggregate-adjust c = search needs

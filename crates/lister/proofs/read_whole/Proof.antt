@@ -1,14 +1,14 @@
--- `adjust::read_whole` meets its contract. The invariant: the buffer keeps its length, and what has come fits it. The measure is the room that is left,
+-- `lister::read_whole` meets its contract. The invariant: the buffer keeps its length, and what has come fits it. The measure is the room that is left,
 -- which falls, since the loop goes on only where a byte came. Assumes nothing.
 use Prim.Native.Nat.{_≤_, _-_}
 use mathlib.Core.Path.{_≡_, subst}
 use lib.ListN.{length}
-use Rattle.adjust.specs.declared.Input.{Input}
-use Rattle.adjust.specs.Input.{Within}
+use Rattle.lister.specs.declared.Input.{Input}
+use Rattle.lister.specs.Input.{Within}
 use native.Mathlib.Omega.{arith}
 use borrow.Author.Needs.{needs}
-use Rattle.adjust.proofs.read_whole.Statement.{statement}
-use Rattle.adjust.proofs.read_whole.Tie as tie
+use Rattle.lister.proofs.read_whole.Statement.{statement}
+use Rattle.lister.proofs.read_whole.Tie as tie
 
 abbrev Inv-loop : tie.InvT-loop
 Inv-loop fd buf₀ done₀ buf done = (length buf ≡ length buf₀) × (done ≤ length buf₀)

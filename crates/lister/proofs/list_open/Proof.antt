@@ -1,13 +1,13 @@
--- `adjust::adjust_open` is safe: what it hands on is a part of its buffer. Assumes nothing.
+-- `lister::list_open` is safe: what it hands on is a part of its buffer. Assumes nothing.
 use mathlib.Core.Path.{sym, subst}
 use Prim.Native.Nat.{_≤_}
 use lib.ListN.{length}
 use lib.Seq.{length-take-le}
 use borrow.Author.Needs.{needs}
-use Rattle.adjust.specs.declared.Input.{Input}
-use Rattle.adjust.specs.Input.{Within}
-use Rattle.adjust.proofs.adjust_open.Statement.{statement}
-use Rattle.adjust.proofs.adjust_open.Tie as tie
+use Rattle.lister.specs.declared.Input.{Input}
+use Rattle.lister.specs.Input.{Within}
+use Rattle.lister.proofs.list_open.Statement.{statement}
+use Rattle.lister.proofs.list_open.Tie as tie
 
 -- what came fits the buffer
 fits : (c : tie.After-n) → c .n .given .0 .0 ≤ length (c .before .before .before .read-whole .last .1 .0)
@@ -43,5 +43,5 @@ returns-2 c = search needs
 returns-3 : tie.Need-returns-3
 returns-3 c = search needs
 
-pub adjust-open-spec : {M : Type 1} → statement M
-adjust-open-spec = tie.close (tie.spec slice-aggregate-read-whole read-whole-requires enum-known-n enum-told returns array-share-prefix-file slice-aggregate-write-listing write-listing-requires returns-2 returns-3)
+pub list-open-spec : {M : Type 1} → statement M
+list-open-spec = tie.close (tie.spec slice-aggregate-read-whole read-whole-requires enum-known-n enum-told returns array-share-prefix-file slice-aggregate-write-listing write-listing-requires returns-2 returns-3)
