@@ -1,0 +1,2 @@
+pub mod Repeated
+pub mod Ten
