@@ -6,8 +6,9 @@
 use mathlib.Core.Path.{_≡_, refl, sym, subst}
 use mathlib.Core.List.{List, [], _∷_}
 use Prim.Native.Nat.{ℕ, _≤_}
-use lib.IntN.{ℤ, pos, negℤ, natAbs}
+use lib.IntN.{ℤ, pos, negℤ, natAbs, _-ℤ_, _*ℤ_}
 use lib.ListN.{replicate}
+use Rattle.exact.specs.Circle.{C}
 use Rattle.reply.specs.Numbers.{numberOf, placeOf}
 use Rattle.reply.specs.declared.Refusal.{Refusal}
 use Rattle.reply.specs.declared.Reply.{Reply}
@@ -143,7 +144,7 @@ Nine = Means (sighted 0 648004000 144010000 792016000) 144011000
 -- 10. "One pair with g = 2C - 1: direction 0. g = 3: direction 2."
 abbrev pub Ten : Type 0
 Ten =
-    ((g-of (sighted 0 648000000 1295999999 648000000) ≡ pos 2591999999) × Means (sighted 0 648000000 1295999999 648000000) 0)
+    ((g-of (sighted 0 648000000 1295999999 648000000) ≡ pos 2 *ℤ C -ℤ pos 1) × Means (sighted 0 648000000 1295999999 648000000) 0)
     × ((g-of (sighted 0 648000000 1 648000002) ≡ pos 3) × Means (sighted 0 648000000 1 648000002) 2)
 
 -- a refusal's number and place, from the refusal
