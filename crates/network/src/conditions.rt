@@ -75,16 +75,27 @@ fn form(
     let d = t.d;
     let i = t.i;
     let k = t.k;
-    let p = &kinds[..n];
-    let x = &values[..n];
+    let letters = &kinds[..n];
+    let figures = &values[..n];
     let ds = &d[..n];
     let is = &i[..n];
     let ks = &k[..n];
-    let checked = condition::coefficients(directions, q, kind, target, p, x, ds, is, ks, row);
+    let checked = condition::coefficients(
+        directions,
+        q,
+        kind,
+        target,
+        letters,
+        figures,
+        ds,
+        is,
+        ks,
+        row,
+    );
     if let Reply::Refused(_) = checked {
         return Figure::Refused(Refusal::Coefficient(j));
     }
-    let closed = condition::misclosure(directions, q, kind, target, p, x, ds, is, ks);
+    let closed = condition::misclosure(directions, q, kind, target, letters, figures, ds, is, ks);
     match closed {
         Figure::Value(w) => Figure::Value(w),
         Figure::Refused(_) => Figure::Refused(Refusal::Misclosure(j)),

@@ -21,14 +21,14 @@ use Rattle.network.proofs.conditions.form.Tie as tie
 array-share-prefix-kinds : tie.Need-array-share-prefix-kinds
 array-share-prefix-kinds c = search needs
 
-slice-aggregate-p : tie.Need-slice-aggregate-p
-slice-aggregate-p c = sym (length-take-le _ _ (omega arith))
+slice-aggregate-letters : tie.Need-slice-aggregate-letters
+slice-aggregate-letters c = sym (length-take-le _ _ (omega arith))
 
 array-share-prefix-values : tie.Need-array-share-prefix-values
 array-share-prefix-values c = search needs
 
-slice-aggregate-x : tie.Need-slice-aggregate-x
-slice-aggregate-x c = sym (length-take-le _ _ (omega arith))
+slice-aggregate-figures : tie.Need-slice-aggregate-figures
+slice-aggregate-figures c = sym (length-take-le _ _ (omega arith))
 
 array-share-prefix-d : tie.Need-array-share-prefix-d
 array-share-prefix-d c = search needs
@@ -134,9 +134,9 @@ form-spec =
     tie.close
     (tie.spec
     array-share-prefix-kinds
-    slice-aggregate-p
+    slice-aggregate-letters
     array-share-prefix-values
-    slice-aggregate-x
+    slice-aggregate-figures
     array-share-prefix-d
     slice-aggregate-ds
     array-share-prefix-i
