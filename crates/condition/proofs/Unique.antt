@@ -1,7 +1,7 @@
 -- The promises leave nothing open: two answers that meet one promise are equal. Assumes nothing.
 --   one-answer       of `coefficients`: its reply, and the final contents of the lent list
 --   one-figure       of `misclosure`
---   one-fault        of `term_fault`
+--   one-fault, one-target     of `term_fault` and of `target_fault`
 use mathlib.Core.Path.{_≡_, sym, _∙_}
 use mathlib.Core.Bool.{Bool}
 use mathlib.Core.List.{List}
@@ -11,7 +11,7 @@ use lib.ListN.{length}
 use Rattle.reply.specs.declared.Reply.{Reply}
 use Rattle.reply.specs.declared.Figure.{Figure}
 use Rattle.condition.specs.Terms.{termFault}
-use Rattle.condition.specs.Rules.{Lent, coefficientsReply, coefficientsList, misclosureFigure}
+use Rattle.condition.specs.Rules.{Lent, targetFault, coefficientsReply, coefficientsList, misclosureFigure}
 
 -- what `coefficients` promises of its reply and of the lent list afterwards
 abbrev pub Answers : Lent → List ℤ → Reply → List ℤ → Type 0
@@ -25,3 +25,6 @@ one-figure l f g x y = x ∙ sym y
 
 pub one-fault : (m : ℤ) (letter : ℕ) (value d i k : ℤ) (a b : Bool) → a ≡ termFault m letter value d i k → b ≡ termFault m letter value d i k → a ≡ b
 one-fault m letter value d i k a b x y = x ∙ sym y
+
+pub one-target : (target : ℤ) (a b : Bool) → a ≡ targetFault target → b ≡ targetFault target → a ≡ b
+one-target target a b x y = x ∙ sym y

@@ -69,8 +69,11 @@ countsFault l =
     || termsMiscounted (length (l .kinds)) (length (l .values)) (length (l .d)) (length (l .i)) (length (l .k))
 
 -- 3, place 0: the target of an angle condition, "0 to 12C"; "a side condition's target [is] not read"
+abbrev pub targetFault : ℤ → Bool
+targetFault target = outside (pos 0) (pos 12 *ℤ C) target
+
 abbrev pub targetCheck : Kind → ℤ → Reply
-targetCheck Angle target = refuseIf (outside (pos 0) (pos 12 *ℤ C) target) (OutOfRange 0)
+targetCheck Angle target = refuseIf (targetFault target) (OutOfRange 0)
 targetCheck Side target = Accepted
 
 -- one term: "1 for a kind that doesn't fit and 3 for a range or i = k (place: its ordinal [..])"

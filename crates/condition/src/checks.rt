@@ -8,9 +8,6 @@ use crate::term;
 use reply::Refusal;
 use reply::Reply;
 
-// The largest target of an angle condition.
-const MOST_TARGET: i64 = 12 * direction::CIRCLE;
-
 // Whether there are too few or too many directions, or not as many q.
 fn directions_miscounted(m: usize, q: usize) -> bool
     ensures { λ r. ⌜ r ≡ directionsMiscounted m q ⌝ }
@@ -52,7 +49,7 @@ fn target_check(kind: Kind, target: i64) -> Reply
 {
     match kind {
         Kind::Angle => {
-            if exact::outside(0, MOST_TARGET, target) {
+            if crate::target_fault(target) {
                 return Reply::Refused(Refusal::OutOfRange(0));
             }
             Reply::Accepted

@@ -1,7 +1,7 @@
 // One condition's lent terms: its coefficients and its misclosure. Both operations make the same checks, in checks.rt.
 ghost use mathlib.Core.Path.{_≡_};
 ghost use lib.ListN.{length};
-ghost use Rattle.condition.specs.Rules.{lent, coefficientsReply, coefficientsList, misclosureFigure};
+ghost use Rattle.condition.specs.Rules.{lent, targetFault, coefficientsReply, coefficientsList, misclosureFigure};
 ghost use Rattle.condition.specs.Terms.{termFault};
 use crate::term::Term;
 use reply::Figure;
@@ -56,6 +56,16 @@ pub fn coefficients(
     }
     tally::hand_over(tally, a);
     Reply::Accepted
+}
+
+// The largest target of an angle condition.
+const MOST_TARGET: i64 = 12 * direction::CIRCLE;
+
+// Whether an angle condition's target is out of range.
+pub fn target_fault(target: i64) -> bool
+    ensures { λ r. ⌜ r ≡ targetFault target ⌝ }
+{
+    exact::outside(0, MOST_TARGET, target)
 }
 
 // Whether a term with this letter, in a net of m directions, has a number out of range, or i = k where that is not allowed.

@@ -11,7 +11,6 @@ use Rattle.network.specs.Numbers.{readDigits, unsignedOf, plus, minus, n
 use Rattle.network.specs.Records.{with, directionLine, anglesLine, sidesLine, conditionLine, angleLine, fixedLine, sideLine, lineOf, recordOf}
 use Rattle.exact.specs.Same.{same}
 use Rattle.condition.specs.Terms as terms
-use Rattle.network.specs.Ranges.{targetFault}
 use Rattle.network.specs.Scan.{suits, outOfTurn, oneTooMany, directionReply, anglesReply, sidesReply, termReply, lineReply, counted, endFault, endReply, scanned, scanReply}
 
 -- Figure 3's file is accepted
@@ -188,7 +187,7 @@ pub figures :
     × (scanReply fixedElsewhere ≡ Refused (OutOfRange 3))
 unfolding
     scanReply scanned endReply endFault counted lineReply termReply anglesReply sidesReply directionReply oneTooMany outOfTurn suits
-    terms.termFault terms.letterOf same targetFault
+    terms.termFault terms.letterOf same
     recordOf lineOf sideLine fixedLine angleLine conditionLine sidesLine anglesLine directionLine with
     letterOf fieldAt fieldsOf parted onFirst numberOf minus plus unsignedOf readDigits
 figures = (refl, refl, refl, refl, refl, refl, refl, refl, refl, refl, refl, refl, refl, refl, refl, refl, refl, refl, refl, refl, refl, refl, refl, refl, refl, refl)

@@ -26,12 +26,11 @@ use Rattle.condition.specs.declared.Kind.{Kind}
 use Rattle.condition.specs.declared.Kind.the-variants.{Angle, Side}
 use Rattle.condition.specs.declared.term.Term.{Term}
 use Rattle.condition.specs.Terms.{letterOf, suits, fault, termFault}
-use Rattle.condition.specs.Rules.{termAt, directionsMiscounted, termsMiscounted, countsFault, targetCheck, termCheck, termsCheck, checks, beyond, coefficientsReply, misclosure, misclosureFigure, Lent}
+use Rattle.condition.specs.Rules.{termAt, directionsMiscounted, termsMiscounted, countsFault, targetFault, targetCheck, termCheck, termsCheck, checks, beyond, coefficientsReply, misclosure, misclosureFigure, Lent}
 use Rattle.network.specs.Lines.{LF, linesOf}
 use Rattle.network.specs.Parts.{parted}
 use Rattle.network.specs.Records.{A, S, P, F, L, R, recordOf}
 use Rattle.network.specs.Scan.{none, suits as fits, outOfTurn, oneTooMany, directionReply, anglesReply, sidesReply, termReply, lineReply, counted, endFault, endReply, scanned, scanReply}
-use Rattle.network.specs.Ranges.{targetFault}
 use Rattle.network.specs.Net.{Condition, Net, noTerms, headed, withTerm, before, netOf, netFrom, lentOf, refusedAs, figureReply, conditionReply}
 use Rattle.network.specs.declared.record.Record.{Record}
 use Rattle.network.specs.declared.record.Record.the-variants.{Direction, Angles, Sides, Term as TermLine, Unreadable}
@@ -200,7 +199,7 @@ module _ (place : ℕ) (c : Counts) (net : Net) (coherent : Coherent c) where
   }
 
   line-passed : (said : Record) → lineReply place c said ≡ Accepted → (Coherent (counted c said) → Passed (counted c said) net) → Passed c (before said net)
-  unfolding lineReply directionReply anglesReply sidesReply termReply counted before AllGood targetFault
+  unfolding lineReply directionReply anglesReply sidesReply termReply counted before AllGood
   line-passed (Direction number direction q) e after =
       let first = both-accepted (refuseIf (ltb 0 (c .n)) (Malformed place)) (refuseIf (outOfTurn (c .m) number) (Count place) andThen refuseIf (outOfRange direction q) (OutOfRange place)) e in
       let none : c .n ≤ 0 = ltb-false 0 (c .n) (if-accepted (ltb 0 (c .n)) (Malformed place) (first .0)) in

@@ -4,7 +4,6 @@ pub mod Fields
 pub mod Numbers
 pub mod Decimal
 pub mod Records
-pub mod Ranges
 pub mod Scan
 pub mod Listing
 pub mod Net

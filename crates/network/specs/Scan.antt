@@ -13,8 +13,8 @@ use Rattle.network.specs.Parts.{parted}
 use Rattle.network.specs.Lines.{LF}
 use Rattle.network.specs.Records.{A, S, P, F, L, R, recordOf}
 use Rattle.condition.specs.Terms.{termFault}
+use Rattle.condition.specs.Rules.{targetFault}
 use Rattle.direction.specs.Ranges.{outOfRange}
-use Rattle.network.specs.Ranges.{targetFault}
 use Rattle.exact.specs.Outside.{outside}
 use Rattle.network.specs.declared.record.Record.{Record}
 use Rattle.network.specs.declared.record.Record.the-variants.{Direction, Angles, Sides, Term, Unreadable}

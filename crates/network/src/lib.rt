@@ -8,7 +8,6 @@ mod find;
 pub mod line;
 mod listing;
 pub mod number;
-mod range;
 mod record;
 pub mod scan;
 mod solve;

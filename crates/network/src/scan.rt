@@ -5,7 +5,6 @@ ghost use Rattle.network.specs.Scan.{Low, suits, outOfTurn, oneTooMany, 
 ghost use Rattle.network.specs.Scan.{lineReply, counted, endFault, endReply, scanReply};
 use crate::line;
 use crate::line::LineStatus;
-use crate::range;
 use crate::record;
 use crate::record::Record;
 use reply::Refusal;
@@ -107,7 +106,7 @@ fn angles_reply(place: u64, c: Counts, target: i64) -> Reply
     if one_too_many(n, terms) {
         return Reply::Refused(Refusal::Count(place));
     }
-    if range::target_fault(target) {
+    if condition::target_fault(target) {
         return Reply::Refused(Refusal::OutOfRange(place));
     }
     Reply::Accepted

@@ -1,20 +1,19 @@
 -- `condition::checks::target_check` meets its contract. Assumes nothing.
 use mathlib.Core.Path.{_≡_, sym, _∙_}
-use lib.IntN.{pos}
 use mir.ValLaws.{toZ-ofZ}
-use Rattle.exact.specs.Outside.{outside}
 use borrow.Author.Needs.{needs}
+use Rattle.condition.specs.Rules.{targetFault}
 use Rattle.condition.proofs.checks.target_check.Statement.{statement}
 use Rattle.condition.proofs.checks.target_check.Tie as tie
 
 enum-told : tie.Need-enum-told
 enum-told c = search needs
 
-outside-requires : tie.Need-outside-requires
-outside-requires c κs = search needs
+target-fault-requires : tie.Need-target-fault-requires
+target-fault-requires c κs = search needs
 
-target-test : (c : tie.After-outside) → c .outside .result ≡ outside (pos 0) (pos 15552000000) (c .before .before .before .args .target)
-target-test c = let f = c .before .before .before .fits .target in c .outside .ensures ∙ simp toZ-ofZ
+target-test : (c : tie.After-target-fault) → c .target-fault .result ≡ targetFault (c .before .before .before .args .target)
+target-test c = let f = c .before .before .before .fits .target in c .target-fault .ensures ∙ simp toZ-ofZ
 
 returns : tie.Need-returns
 returns c = rw (c .before .before .enum-told .given .1, sym (target-test (c .before)) ∙ c .if1 .taken)
@@ -30,4 +29,4 @@ returns-3 c = search needs
 
 pub target-check-spec : {M : Type 1} → statement M
 target-check-spec =
-    tie.close (tie.spec enum-told outside-requires returns enum-told-2 returns-2 returns-3)
+    tie.close (tie.spec enum-told target-fault-requires returns enum-told-2 returns-2 returns-3)

@@ -3,7 +3,7 @@ use mathlib.Core.Path.{_≡_, sym, _∙_}
 use mathlib.Core.Bool.{false}
 use borrow.Author.Needs.{needs}
 use mir.ValLaws.{toZ-ofZ}
-use Rattle.network.specs.Ranges.{targetFault}
+use Rattle.condition.specs.Rules.{targetFault}
 use Rattle.network.specs.Scan.{oneTooMany, anglesReply}
 use Rattle.network.proofs.scan.angles_reply.Statement.{statement}
 use Rattle.network.proofs.scan.angles_reply.Tie as tie
