@@ -1,0 +1,234 @@
+//! The functions of `include/molsadriu.h`, under its names. All that is unsafe is here.
+
+use crate::lent::Lent;
+
+/// The header's MOLSADRIU_LISTING: bytes that hold the listing of any network file.
+pub const LISTING: usize = 6_560;
+
+#[repr(C)]
+#[derive(Clone, Copy, Debug, PartialEq, Eq)]
+pub struct Verdict {
+    pub number: u64,
+    pub place: u64,
+}
+
+#[link(name = "office", kind = "static")]
+extern "C" {
+    fn molsadriu_station_means(
+        position: *const i64,
+        position_length: usize,
+        object: *const i64,
+        object_length: usize,
+        face: *const i64,
+        face_length: usize,
+        reading: *const i64,
+        reading_length: usize,
+        direction: *mut i64,
+        direction_room: usize,
+        pairs: *mut i64,
+        pairs_room: usize,
+    ) -> Verdict;
+
+    fn molsadriu_coefficients(
+        directions: *const i64,
+        directions_length: usize,
+        q: *const i64,
+        q_length: usize,
+        letter: u8,
+        target: i64,
+        kind: *const i64,
+        kind_length: usize,
+        value: *const i64,
+        value_length: usize,
+        d: *const i64,
+        d_length: usize,
+        i: *const i64,
+        i_length: usize,
+        k: *const i64,
+        k_length: usize,
+        a: *mut i64,
+        a_room: usize,
+    ) -> Verdict;
+
+    fn molsadriu_misclosure(
+        directions: *const i64,
+        directions_length: usize,
+        q: *const i64,
+        q_length: usize,
+        letter: u8,
+        target: i64,
+        kind: *const i64,
+        kind_length: usize,
+        value: *const i64,
+        value_length: usize,
+        d: *const i64,
+        d_length: usize,
+        i: *const i64,
+        i_length: usize,
+        k: *const i64,
+        k_length: usize,
+        w: *mut i64,
+    ) -> Verdict;
+
+    fn molsadriu_adjust_table(
+        directions: *const i64,
+        directions_length: usize,
+        q: *const i64,
+        q_length: usize,
+        a: *const i64,
+        a_length: usize,
+        w: *const i64,
+        w_length: usize,
+        corrections: *mut i64,
+        corrections_room: usize,
+        printed: *mut i64,
+        printed_room: usize,
+        adjusted: *mut i64,
+        adjusted_room: usize,
+        correlates: *mut i64,
+        correlates_room: usize,
+        remainders: *mut i64,
+        remainders_room: usize,
+        misses: *mut i64,
+        misses_room: usize,
+    ) -> Verdict;
+
+    fn molsadriu_adjust_file(
+        file: *const u8,
+        file_length: usize,
+        out: *mut u8,
+        out_room: usize,
+    ) -> usize;
+
+    fn molsadriu_line(file: *const u8, file_length: usize, start: usize) -> usize;
+
+    fn molsadriu_line_status(file: *const u8, file_length: usize, start: usize) -> u64;
+}
+
+// Each call below is sound for one reason: a `Lent` owns its cells, its pointer goes with
+// its own length (null only with length 0), and a `&mut` shares no place with another.
+
+type Numbers = Lent<i64>;
+
+/// Lists in the header's order: position, object, face, reading; direction, pairs.
+pub fn station_means([p, o, f, r, direction, pairs]: &mut [Numbers; 6]) -> Verdict {
+    unsafe {
+        molsadriu_station_means(
+            p.pointer(),
+            p.length(),
+            o.pointer(),
+            o.length(),
+            f.pointer(),
+            f.length(),
+            r.pointer(),
+            r.length(),
+            direction.pointer(),
+            direction.length(),
+            pairs.pointer(),
+            pairs.length(),
+        )
+    }
+}
+
+/// Lists in the header's order: directions, q, kind, value, d, i, k; a.
+pub fn coefficients(
+    letter: u8,
+    target: i64,
+    [directions, q, kind, value, d, i, k, a]: &mut [Numbers; 8],
+) -> Verdict {
+    unsafe {
+        molsadriu_coefficients(
+            directions.pointer(),
+            directions.length(),
+            q.pointer(),
+            q.length(),
+            letter,
+            target,
+            kind.pointer(),
+            kind.length(),
+            value.pointer(),
+            value.length(),
+            d.pointer(),
+            d.length(),
+            i.pointer(),
+            i.length(),
+            k.pointer(),
+            k.length(),
+            a.pointer(),
+            a.length(),
+        )
+    }
+}
+
+/// Lists as for the coefficients; the last one holds w, and has just one place.
+pub fn misclosure(
+    letter: u8,
+    target: i64,
+    [directions, q, kind, value, d, i, k, w]: &mut [Numbers; 8],
+) -> Verdict {
+    assert_eq!(w.length(), 1);
+    unsafe {
+        molsadriu_misclosure(
+            directions.pointer(),
+            directions.length(),
+            q.pointer(),
+            q.length(),
+            letter,
+            target,
+            kind.pointer(),
+            kind.length(),
+            value.pointer(),
+            value.length(),
+            d.pointer(),
+            d.length(),
+            i.pointer(),
+            i.length(),
+            k.pointer(),
+            k.length(),
+            w.pointer(),
+        )
+    }
+}
+
+/// Lists in the header's order: directions, q, a, w; then V, u, adjusted, K, R, Q.
+pub fn adjust_table(
+    [directions, q, a, w, corrections, printed, adjusted, correlates, remainders, misses]: &mut [Numbers;
+             10],
+) -> Verdict {
+    unsafe {
+        molsadriu_adjust_table(
+            directions.pointer(),
+            directions.length(),
+            q.pointer(),
+            q.length(),
+            a.pointer(),
+            a.length(),
+            w.pointer(),
+            w.length(),
+            corrections.pointer(),
+            corrections.length(),
+            printed.pointer(),
+            printed.length(),
+            adjusted.pointer(),
+            adjusted.length(),
+            correlates.pointer(),
+            correlates.length(),
+            remainders.pointer(),
+            remainders.length(),
+            misses.pointer(),
+            misses.length(),
+        )
+    }
+}
+
+pub fn adjust_file(file: &mut Lent<u8>, out: &mut Lent<u8>) -> usize {
+    unsafe { molsadriu_adjust_file(file.pointer(), file.length(), out.pointer(), out.length()) }
+}
+
+pub fn line(file: &mut Lent<u8>, start: usize) -> usize {
+    unsafe { molsadriu_line(file.pointer(), file.length(), start) }
+}
+
+pub fn line_status(file: &mut Lent<u8>, start: usize) -> u64 {
+    unsafe { molsadriu_line_status(file.pointer(), file.length(), start) }
+}

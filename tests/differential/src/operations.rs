@@ -1,0 +1,489 @@
+//! Each operation of the header beside its second reading, and what cases are drawn for
+//! it beyond those of the generator: null pointers, letters, rooms, lists of any length.
+
+use std::fmt;
+
+use reference::adjustment::{self, AnswerLengths};
+use reference::condition::{self, ConditionKind, LentCondition};
+use reference::generate::{
+    line_case, network_case, station_case, table_case, terms_case, LineCase, Rng, StationCase,
+    TableCase, TermsCase,
+};
+use reference::network::{self, LineStatus};
+use reference::refusal::Refusal;
+use reference::station;
+
+use crate::compare::{Operation, Outcome, Reply};
+use crate::lent::{Lent, Mark};
+use crate::molsadriu::{self, Verdict, LISTING};
+
+pub struct StationMeans;
+pub struct Coefficients;
+pub struct Misclosure;
+pub struct AdjustTable;
+pub struct AdjustFile;
+pub struct Line;
+pub struct LineStatusAt;
+
+/// A drawn case, and whether its empty lists are lent as null pointers.
+#[derive(Debug)]
+pub struct Drawn<C> {
+    pub case: C,
+    pub null: bool,
+}
+
+impl<C> Drawn<C> {
+    fn new(case: C, rng: &mut Rng) -> Self {
+        let null = rng.chance(50);
+        Drawn { case, null }
+    }
+
+    fn holding(&self, values: &[i64]) -> Lent<i64> {
+        Lent::holding(values).or_null(self.null)
+    }
+
+    fn blank(&self, length: usize) -> Lent<i64> {
+        Lent::blank(length).or_null(self.null)
+    }
+}
+
+/// A list of any length and of any numbers, in one case of thirty in place of a drawn one.
+fn wild(rng: &mut Rng, most: usize) -> Vec<i64> {
+    let ends = [i64::MIN, i64::MAX, i64::MIN + 1, 0, 1, -1, 80, 70, 76, 82];
+    let length = rng.below(most + 1);
+    let number = |rng: &mut Rng| match rng.below(2) {
+        0 => rng.pick(&ends),
+        _ => rng.range(-3, 20),
+    };
+    (0..length).map(|_| number(rng)).collect()
+}
+
+fn is_wild(rng: &mut Rng) -> bool {
+    rng.below(30) == 0
+}
+
+fn of_verdict(verdict: Verdict, numbers: impl Into<Vec<Lent<i64>>>) -> Outcome {
+    Outcome {
+        said: [verdict.number, verdict.place],
+        numbers: numbers.into(),
+        bytes: Vec::new(),
+    }
+}
+
+/// The outcome by the reference: the lists as they were lent, and where the input is
+/// accepted the answers in the last of them.
+fn expected<T>(
+    reply: Result<T, Refusal>,
+    numbers: impl Into<Vec<Lent<i64>>>,
+    answers: impl Fn(&T) -> Vec<&[i64]>,
+) -> Outcome {
+    let mut numbers = numbers.into();
+    let verdict = match reply {
+        Ok(answer) => {
+            let answers = answers(&answer);
+            let first = numbers.len() - answers.len();
+            for (lent, answer) in numbers[first..].iter_mut().zip(answers) {
+                assert_eq!(lent.length(), answer.len());
+                lent.put(answer);
+            }
+            [0, 0]
+        }
+        Err(refusal) => [refusal.number, refusal.place].map(|x| u64::try_from(x).unwrap_or(!0)),
+    };
+    Outcome {
+        said: verdict,
+        numbers,
+        bytes: Vec::new(),
+    }
+}
+
+fn verdict_reply(outcome: &Outcome) -> Reply {
+    match outcome.said {
+        [0, _] => Reply::Accepted,
+        [number, _] => Reply::Refused(number),
+    }
+}
+
+fn station_lists(drawn: &Drawn<StationCase>) -> [Lent<i64>; 6] {
+    let case = &drawn.case;
+    [
+        drawn.holding(&case.position),
+        drawn.holding(&case.object),
+        drawn.holding(&case.face),
+        drawn.holding(&case.reading),
+        drawn.blank(case.lengths.directions),
+        drawn.blank(case.lengths.pairs),
+    ]
+}
+
+impl Operation for StationMeans {
+    type Case = Drawn<StationCase>;
+    const NAME: &'static str = "station means";
+
+    fn draw(rng: &mut Rng) -> Self::Case {
+        let mut case = station_case(rng);
+        if is_wild(rng) {
+            let most = rng.pick(&[2, 40, 520]);
+            let lists = [
+                &mut case.position,
+                &mut case.object,
+                &mut case.face,
+                &mut case.reading,
+            ];
+            for list in lists {
+                *list = wild(rng, most);
+            }
+        }
+        Drawn::new(case, rng)
+    }
+
+    fn library(drawn: &Self::Case) -> Outcome {
+        let mut lists = station_lists(drawn);
+        of_verdict(molsadriu::station_means(&mut lists), lists)
+    }
+
+    fn reference(drawn: &Self::Case) -> Outcome {
+        let case = &drawn.case;
+        let reply = station::station_means_i64(
+            &case.position,
+            &case.object,
+            &case.face,
+            &case.reading,
+            case.lengths,
+        );
+        expected(reply, station_lists(drawn), |means| {
+            vec![&means.directions, &means.pairs]
+        })
+    }
+
+    fn reply(outcome: &Outcome) -> Reply {
+        verdict_reply(outcome)
+    }
+}
+
+/// A condition's terms under a letter, which may be none.
+#[derive(Debug)]
+pub struct Lettered {
+    pub letter: u8,
+    pub terms: TermsCase,
+}
+
+impl Lettered {
+    fn draw(rng: &mut Rng) -> Self {
+        let mut terms = terms_case(rng);
+        if is_wild(rng) {
+            let most = rng.pick(&[2, 12, 70]);
+            let lists = [
+                &mut terms.directions,
+                &mut terms.q,
+                &mut terms.kinds,
+                &mut terms.values,
+                &mut terms.d,
+                &mut terms.i,
+                &mut terms.k,
+            ];
+            for list in lists {
+                *list = wild(rng, most);
+            }
+        }
+        let letter = match (rng.below(25), terms.kind) {
+            (0, _) => rng.range(0, 255) as u8,
+            (1, _) => rng.pick(b"asPFLRCDBT\0\xc1\xd3"),
+            (_, ConditionKind::Angle) => b'A',
+            (_, ConditionKind::Side) => b'S',
+        };
+        Lettered { letter, terms }
+    }
+
+    fn condition(&self) -> Result<LentCondition<'_>, Refusal> {
+        let kind = ConditionKind::from_letter(i64::from(self.letter))?;
+        Ok(LentCondition {
+            kind,
+            ..self.terms.condition()
+        })
+    }
+}
+
+/// The seven lists that are read, and the one for the answer.
+fn term_lists(drawn: &Drawn<Lettered>, answer: Lent<i64>) -> [Lent<i64>; 8] {
+    let terms = &drawn.case.terms;
+    [
+        drawn.holding(&terms.directions),
+        drawn.holding(&terms.q),
+        drawn.holding(&terms.kinds),
+        drawn.holding(&terms.values),
+        drawn.holding(&terms.d),
+        drawn.holding(&terms.i),
+        drawn.holding(&terms.k),
+        answer,
+    ]
+}
+
+impl Operation for Coefficients {
+    type Case = Drawn<Lettered>;
+    const NAME: &'static str = "coefficients";
+
+    fn draw(rng: &mut Rng) -> Self::Case {
+        Drawn::new(Lettered::draw(rng), rng)
+    }
+
+    fn library(drawn: &Self::Case) -> Outcome {
+        let Lettered { letter, terms } = &drawn.case;
+        let mut lists = term_lists(drawn, drawn.blank(terms.answer_length));
+        let verdict = molsadriu::coefficients(*letter, terms.target, &mut lists);
+        of_verdict(verdict, lists)
+    }
+
+    fn reference(drawn: &Self::Case) -> Outcome {
+        let terms = &drawn.case.terms;
+        let reply = drawn.case.condition().and_then(|condition| {
+            condition::coefficients(&terms.directions, &terms.q, &condition, terms.answer_length)
+        });
+        let lists = term_lists(drawn, drawn.blank(terms.answer_length));
+        expected(reply, lists, |a| vec![a])
+    }
+
+    fn reply(outcome: &Outcome) -> Reply {
+        verdict_reply(outcome)
+    }
+}
+
+impl Operation for Misclosure {
+    type Case = Drawn<Lettered>;
+    const NAME: &'static str = "misclosure";
+
+    fn draw(rng: &mut Rng) -> Self::Case {
+        Drawn::new(Lettered::draw(rng), rng)
+    }
+
+    fn library(drawn: &Self::Case) -> Outcome {
+        let Lettered { letter, terms } = &drawn.case;
+        let mut lists = term_lists(drawn, drawn.blank(1));
+        let verdict = molsadriu::misclosure(*letter, terms.target, &mut lists);
+        of_verdict(verdict, lists)
+    }
+
+    fn reference(drawn: &Self::Case) -> Outcome {
+        let terms = &drawn.case.terms;
+        let reply = drawn.case.condition().and_then(|condition| {
+            condition::misclosure(&terms.directions, &terms.q, &condition).map(|w| [w])
+        });
+        expected(reply, term_lists(drawn, drawn.blank(1)), |w| vec![w])
+    }
+
+    fn reply(outcome: &Outcome) -> Reply {
+        verdict_reply(outcome)
+    }
+}
+
+fn table_lists(drawn: &Drawn<TableCase>) -> [Lent<i64>; 10] {
+    let case = &drawn.case;
+    [
+        drawn.holding(&case.directions),
+        drawn.holding(&case.q),
+        drawn.holding(&case.a),
+        drawn.holding(&case.w),
+        drawn.blank(case.lengths.v),
+        drawn.blank(case.lengths.u),
+        drawn.blank(case.lengths.adjusted),
+        drawn.blank(case.lengths.k),
+        drawn.blank(case.lengths.r),
+        drawn.blank(case.lengths.q),
+    ]
+}
+
+impl Operation for AdjustTable {
+    type Case = Drawn<TableCase>;
+    const NAME: &'static str = "adjust table";
+
+    fn draw(rng: &mut Rng) -> Self::Case {
+        let mut case = table_case(rng);
+        if is_wild(rng) {
+            let (m, n) = (rng.count(0, 4), rng.count(0, 4));
+            case.lengths = AnswerLengths::fitting(m, n);
+            case.directions = wild(rng, m);
+            case.q = wild(rng, m);
+            case.a = wild(rng, m * n);
+            case.w = wild(rng, n);
+        }
+        Drawn::new(case, rng)
+    }
+
+    fn library(drawn: &Self::Case) -> Outcome {
+        let mut lists = table_lists(drawn);
+        of_verdict(molsadriu::adjust_table(&mut lists), lists)
+    }
+
+    fn reference(drawn: &Self::Case) -> Outcome {
+        let reply = adjustment::adjust(&drawn.case.table(), drawn.case.lengths);
+        expected(reply, table_lists(drawn), |all| {
+            vec![&all.v, &all.u, &all.adjusted, &all.k, &all.r, &all.q]
+        })
+    }
+
+    fn reply(outcome: &Outcome) -> Reply {
+        verdict_reply(outcome)
+    }
+}
+
+/// A network file, and the room lent for its listing.
+pub struct FileCase {
+    pub file: Vec<u8>,
+    pub room: usize,
+}
+
+impl fmt::Debug for FileCase {
+    fn fmt(&self, out: &mut fmt::Formatter) -> fmt::Result {
+        write!(out, "room {}, file {}", self.room, u8::literal(&self.file))
+    }
+}
+
+fn file_lists(drawn: &Drawn<FileCase>) -> [Lent<u8>; 2] {
+    let FileCase { file, room } = &drawn.case;
+    [
+        Lent::holding(file).or_null(drawn.null),
+        Lent::blank(*room).or_null(drawn.null),
+    ]
+}
+
+impl Operation for AdjustFile {
+    type Case = Drawn<FileCase>;
+    const NAME: &'static str = "adjust file";
+
+    fn draw(rng: &mut Rng) -> Self::Case {
+        let mut file = network_case(rng).file;
+        if is_wild(rng) {
+            let length = rng.below(60);
+            file = (0..length).map(|_| rng.range(0, 255) as u8).collect();
+        }
+        let room = match rng.below(40) {
+            0 => 0,
+            1 => LISTING - 1,
+            2 => rng.below(LISTING),
+            3 => LISTING + rng.count(1, 500),
+            _ => LISTING,
+        };
+        Drawn::new(FileCase { file, room }, rng)
+    }
+
+    fn library(drawn: &Self::Case) -> Outcome {
+        let [mut file, mut out] = file_lists(drawn);
+        let length = molsadriu::adjust_file(&mut file, &mut out);
+        Outcome {
+            said: [length as u64, 0],
+            numbers: Vec::new(),
+            bytes: vec![file, out],
+        }
+    }
+
+    fn reference(drawn: &Self::Case) -> Outcome {
+        let [file, mut out] = file_lists(drawn);
+        let listing = if drawn.case.room < LISTING {
+            Vec::new()
+        } else {
+            network::listing(&drawn.case.file)
+        };
+        out.put(&listing);
+        Outcome {
+            said: [listing.len() as u64, 0],
+            numbers: Vec::new(),
+            bytes: vec![file, out],
+        }
+    }
+
+    fn reply(outcome: &Outcome) -> Reply {
+        let [length, _] = outcome.said;
+        let listing = &outcome.bytes[1].list()[..length as usize];
+        let mut fields = listing.split(|&byte| byte == b'\t');
+        match (fields.next(), fields.next()) {
+            (Some(b"REFUSED"), Some(number)) => Reply::Refused(
+                number
+                    .iter()
+                    .fold(0, |sum, digit| 10 * sum + u64::from(digit - b'0')),
+            ),
+            (Some(b"ADJ"), _) => Reply::Accepted,
+            _ => Reply::Named("no room"),
+        }
+    }
+}
+
+/// Bytes of the generator for lines, or a whole network file, and a start.
+fn draw_line(rng: &mut Rng) -> Drawn<LineCase> {
+    let mut case = line_case(rng);
+    if rng.chance(10) {
+        case.file = network_case(rng).file;
+        case.start = rng.below(case.file.len() + 2);
+    }
+    Drawn::new(case, rng)
+}
+
+fn line_list(drawn: &Drawn<LineCase>) -> Lent<u8> {
+    Lent::holding(&drawn.case.file).or_null(drawn.null)
+}
+
+fn of_line(said: u64, file: Lent<u8>) -> Outcome {
+    Outcome {
+        said: [said, 0],
+        numbers: Vec::new(),
+        bytes: vec![file],
+    }
+}
+
+impl Operation for Line {
+    type Case = Drawn<LineCase>;
+    const NAME: &'static str = "line";
+
+    fn draw(rng: &mut Rng) -> Self::Case {
+        draw_line(rng)
+    }
+
+    fn library(drawn: &Self::Case) -> Outcome {
+        let mut file = line_list(drawn);
+        let length = molsadriu::line(&mut file, drawn.case.start);
+        of_line(length as u64, file)
+    }
+
+    fn reference(drawn: &Self::Case) -> Outcome {
+        let line = network::line(&drawn.case.file, drawn.case.start);
+        of_line(line.len() as u64, line_list(drawn))
+    }
+
+    fn reply(outcome: &Outcome) -> Reply {
+        Reply::Named(match outcome.said {
+            [0, _] => "empty",
+            _ => "some bytes",
+        })
+    }
+}
+
+impl Operation for LineStatusAt {
+    type Case = Drawn<LineCase>;
+    const NAME: &'static str = "line status";
+
+    fn draw(rng: &mut Rng) -> Self::Case {
+        draw_line(rng)
+    }
+
+    fn library(drawn: &Self::Case) -> Outcome {
+        let mut file = line_list(drawn);
+        let status = molsadriu::line_status(&mut file, drawn.case.start);
+        of_line(status, file)
+    }
+
+    fn reference(drawn: &Self::Case) -> Outcome {
+        let status = match network::line_status(&drawn.case.file, drawn.case.start) {
+            LineStatus::Line => 0,
+            LineStatus::NoneLeft => 1,
+            LineStatus::LfMissing => 2,
+        };
+        of_line(status, line_list(drawn))
+    }
+
+    fn reply(outcome: &Outcome) -> Reply {
+        Reply::Named(match outcome.said {
+            [0, _] => "line",
+            [1, _] => "none left",
+            _ => "LF missing",
+        })
+    }
+}
