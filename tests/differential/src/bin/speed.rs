@@ -1,8 +1,10 @@
 //! speed [CALLS [REPEATS]]: how long the library and `reference/` take for the largest
 //! net that the rules allow, in one process and in turn.
+//! speed net: that net's file, for timing the program itself.
 
 use std::env;
 use std::hint::black_box;
+use std::io::{self, Write};
 use std::process::ExitCode;
 use std::time::Instant;
 
@@ -23,15 +25,21 @@ fn main() -> ExitCode {
         Some(word) => word.parse().unwrap_or(0),
         None => otherwise,
     };
-    let (blocks, repeats) = (number(0, CALLS) / BLOCK, number(1, REPEATS));
-    if blocks == 0 || repeats == 0 {
-        eprintln!("use: speed [CALLS [REPEATS]], at least {BLOCK} and 1");
-        return ExitCode::from(2);
-    }
     let Some(net) = net::accepted(SEED) else {
         eprintln!("no net of this seed is accepted");
         return ExitCode::FAILURE;
     };
+    if words == ["net"] {
+        return match io::stdout().write_all(&net.file) {
+            Ok(()) => ExitCode::SUCCESS,
+            Err(_) => ExitCode::FAILURE,
+        };
+    }
+    let (blocks, repeats) = (number(0, CALLS) / BLOCK, number(1, REPEATS));
+    if blocks == 0 || repeats == 0 {
+        eprintln!("use: speed [CALLS [REPEATS]], at least {BLOCK} and 1; or speed net");
+        return ExitCode::from(2);
+    }
     let table = &net.table;
     let mut lists = [&table.directions, &table.q, &table.a, &table.w]
         .map(|list| Lent::holding(list))
