@@ -9,7 +9,6 @@ pub mod Scanning
 pub mod Unique
 pub mod Figures
 pub mod Composing
-pub mod Listings
 pub mod Figure3
 pub mod Walking
 pub mod Reading

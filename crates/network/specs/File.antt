@@ -43,5 +43,5 @@ listed file room = cond (ltb room 6560) [] (listingOf file)
 -- ---- what the operation promises of every file and every buffer
 pub record Lists (file before : List ℕ) (count : ℕ) (after : List ℕ) : Type 0 where
   pub bytes : Wrote before 0 (listed file (length before)) after count
-  -- demand 3 of every accepted file: of the table that its lines give, with V, R and Q as they are listed
+  -- demand 3 of every accepted file, of the table that its lines give: its u are V rounded, and its K lines have R and Q
   pub demand3 : fileReply file ≡ Accepted → let t = tableIn (netOf (linesOf file)) in Demand3 t (V-of t (K t)) (R-of t (K t)) (Q-of t (K t))
