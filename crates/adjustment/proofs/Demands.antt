@@ -12,6 +12,7 @@ use native.Mathlib.Omega.{arith}
 use lib.IntN.{ℤ, pos, negsuc, natAbs, _+ℤ_, _-ℤ_, _*ℤ_}
 use lib.Signed.{_≤ℤ_, _<ℤ_, ≤ℤ-refl}
 use Rattle.exact.specs.Sum.{sum}
+use Rattle.exact.specs.Nearest.{nearest}
 use Rattle.exact.proofs.Linear.{unknowns, linear, orders, one-sided, le-by, lt-by}
 use Rattle.exact.proofs.Identity.{letters, polynomials, ring-by}
 use Rattle.exact.proofs.Order.{le-trans, add-le}
@@ -129,34 +130,39 @@ module _ (t : Table) (k : ℕ → ℤ) (q-low : (i : ℕ) → i < t .m → pos 1
   g-pos : (i : ℕ) → i < t .m → pos 0 <ℤ g i
   g-pos i l = weights-pos (t .q i) (q-low i l) (q-high i l)
 
-  pub demand-3 : Demand3 t (V-of t k) (R-of t k) (Q-of t k)
-  unfolding V-of
+  pub demand-3 : Demand3 t (V-of t k) (u-of t k) (R-of t k) (Q-of t k)
+  unfolding V-of u-of Q-of
   demand-3 = record {
     met = λ j l. sym (remainder-forms t k j);
     close = close;
+    rounded = λ i l. refl;
+    missed = λ j l. refl;
     printed = printed-within;
     least = λ x c h same. squares.least (t .m) (t .n) (t .a) k (t .q) g x c (pos 2520) gq same g-pos;
     only = λ x c h same e. squares.only (t .m) (t .n) (t .a) k (t .q) g x c (pos 2520) gq same g-pos e;
   }
 
--- ---- demand 3 reads V below m, and R and Q below n
-module _ (t : Table) (v v' r r' Q Q' : ℕ → ℤ) (same-v : (i : ℕ) → i < t .m → v i ≡ v' i) (same-r : (j : ℕ) → j < t .n → r j ≡ r' j) (same-Q : (j : ℕ) → j < t .n → Q j ≡ Q' j) where
-  seen-ext : (j : ℕ) → seen t j v ≡ seen t j v'
-  seen-ext j = sum-ext (t .m) (λ i. t .a j i *ℤ v i) (λ i. t .a j i *ℤ v' i) (λ i l. ap (λ (z : ℤ). t .a j i *ℤ z) (same-v i l))
+-- ---- demand 3 reads V and u below m, and R and Q below n
+module _ (t : Table) where
+  seen-ext : (x x' : ℕ → ℤ) → ((i : ℕ) → i < t .m → x i ≡ x' i) → (j : ℕ) → seen t j x ≡ seen t j x'
+  seen-ext x x' same j = sum-ext (t .m) (λ i. t .a j i *ℤ x i) (λ i. t .a j i *ℤ x' i) (λ i l. ap (λ (z : ℤ). t .a j i *ℤ z) (same i l))
 
+module _ (t : Table) (v v' u u' r r' Q Q' : ℕ → ℤ) (same-v : (i : ℕ) → i < t .m → v i ≡ v' i) (same-u : (i : ℕ) → i < t .m → u i ≡ u' i) (same-r : (j : ℕ) → j < t .n → r j ≡ r' j) (same-Q : (j : ℕ) → j < t .n → Q j ≡ Q' j) where
   weighted-ext : weighted t v ≡ weighted t v'
   weighted-ext =
       sum-ext (t .m) (λ i. pos (2520 / natAbs (t .q i)) *ℤ (v i *ℤ v i)) (λ i. pos (2520 / natAbs (t .q i)) *ℤ (v' i *ℤ v' i))
       (λ i l. ap (λ (z : ℤ). pos (2520 / natAbs (t .q i)) *ℤ (z *ℤ z)) (same-v i l))
 
-  pub demand-ext : Demand3 t v r Q → Demand3 t v' r' Q'
+  pub demand-ext : Demand3 t v u r Q → Demand3 t v' u' r' Q'
   demand-ext d = record {
-    met = λ j l. ap (λ (z : ℤ). z +ℤ pos 10000000 *ℤ t .w j) (sym (seen-ext j)) ∙ d .met j l ∙ same-r j l;
+    met = λ j l. ap (λ (z : ℤ). z +ℤ pos 10000000 *ℤ t .w j) (sym (seen-ext t v v' same-v j)) ∙ d .met j l ∙ same-r j l;
     close = λ j l. rw (same-r j l) at (d .close j l);
+    rounded = λ i l. sym (same-u i l) ∙ d .rounded i l ∙ ap (λ (z : ℤ). nearest z (pos 100000)) (same-v i l);
+    missed = λ j l. ap (λ (z : ℤ). pos 100000 *ℤ z +ℤ pos 10000000 *ℤ t .w j) (sym (seen-ext t u u' same-u j)) ∙ d .missed j l ∙ same-Q j l;
     printed = λ j l. rw (same-Q j l) at (d .printed j l);
     least = λ x c h same. rw weighted-ext at (d .least x c h (back-to x c same));
     only = λ x c h same e i l. d .only x c h (back-to x c same) (e ∙ ap (λ (z : ℤ). c *ℤ c *ℤ z) (sym weighted-ext)) i l ∙ ap (λ (z : ℤ). c *ℤ z) (same-v i l);
   }
     where
       back-to : (x : ℕ → ℤ) (c : ℤ) → SameRemainders t v' x c → SameRemainders t v x c
-      back-to x c same j l = same j l ∙ ap (λ (z : ℤ). c *ℤ z) (sym (seen-ext j))
+      back-to x c same j l = same j l ∙ ap (λ (z : ℤ). c *ℤ z) (sym (seen-ext t v v' same-v j))

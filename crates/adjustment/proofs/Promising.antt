@@ -3,6 +3,7 @@
 --   refused-adjusts          a refusal that is the rule's reply, with the lists as they were lent, keeps the promise
 --   accepted-adjusts         so does an accepted table whose lists are the rules' answers: demand 3 holds of them
 --   accepted-demand3         demand 3 of every table that the rules accept
+--   refusal-leaves-lists     a refusal that keeps the promise leaves the six lent lists as they were
 --   only-reply               two replies that keep the promise are equal, and leave equal lists
 use mathlib.Core.Path.{_≡_, refl, sym, _∙_, ap}
 use mathlib.Core.Bool.{true, false}
@@ -23,7 +24,7 @@ use Rattle.reply.proofs.Checking.{none-refused, both-accepted, if-accepted}
 use Rattle.direction.specs.Ranges.{directionsReply}
 use Rattle.adjustment.specs.Table.{Table, at, tableOf}
 use Rattle.adjustment.specs.Solution.{K}
-use Rattle.adjustment.specs.Corrections.{V-of, R-of, Q-of}
+use Rattle.adjustment.specs.Corrections.{V-of, R-of, u-of, Q-of}
 use Rattle.adjustment.specs.Refusals.{countsAmiss, lengthsAmiss, conditionsReply, rowsReply, correlatesReply, remaindersReply, solutionReply, inputReply}
 use Rattle.adjustment.specs.Demand.{Demand3}
 use Rattle.adjustment.specs.Promise.{Answers, adjustReply, answersOf, Adjusts}
@@ -77,16 +78,17 @@ module _ (ds qs cs ws : List ℤ) (lent : Answers) where
     pub accepted-adjusts : adjustReply ds qs cs ws lent ≡ solutionReply t → (left : Answers) → left ≡ answersOf t (K t) (at ds) → Adjusts ds qs cs ws lent Accepted left
     accepted-adjusts f left g = record { answer = sym (f ∙ e); lists = g; demand3 = λ h. demand }
       where
-        demand : Demand3 t (at (left .corrections)) (at (left .remainders)) (at (left .misses))
+        demand : Demand3 t (at (left .corrections)) (at (left .printed)) (at (left .remainders)) (at (left .misses))
         demand =
-            demand-ext t (V-of t (K t)) (at (left .corrections)) (R-of t (K t)) (at (left .remainders)) (Q-of t (K t)) (at (left .misses))
+            demand-ext t (V-of t (K t)) (at (left .corrections)) (u-of t (K t)) (at (left .printed)) (R-of t (K t)) (at (left .remainders)) (Q-of t (K t)) (at (left .misses))
             (λ i l. sym (ap (λ (x : Answers). at (x .corrections) i) g ∙ tabulate-at (t .m) (V-of t (K t)) i (pos 0) l))
+            (λ i l. sym (ap (λ (x : Answers). at (x .printed) i) g ∙ tabulate-at (t .m) (u-of t (K t)) i (pos 0) l))
             (λ j l. sym (ap (λ (x : Answers). at (x .remainders) j) g ∙ tabulate-at (t .n) (R-of t (K t)) j (pos 0) l))
             (λ j l. sym (ap (λ (x : Answers). at (x .misses) j) g ∙ tabulate-at (t .n) (Q-of t (K t)) j (pos 0) l))
             (demand-3 t (K t) (s .q-least) (s .q-most) close)
 
   -- ---- demand 3, from the rules alone
-  pub accepted-demand3 : adjustReply ds qs cs ws lent ≡ Accepted → Demand3 t (V-of t (K t)) (R-of t (K t)) (Q-of t (K t))
+  pub accepted-demand3 : adjustReply ds qs cs ws lent ≡ Accepted → Demand3 t (V-of t (K t)) (u-of t (K t)) (R-of t (K t)) (Q-of t (K t))
   unfolding adjustReply inputReply
   accepted-demand3 e =
       let amiss = lengthsAmiss (length ds) (length ws) (length qs) (length cs) (length (lent .corrections)) (length (lent .printed)) (length (lent .adjusted)) (length (lent .correlates)) (length (lent .remainders)) (length (lent .misses)) in
@@ -97,6 +99,10 @@ module _ (ds qs cs ws : List ℤ) (lent : Answers) where
       let l = lengths-known (length ds) (length ws) (length qs) (length cs) _ _ _ _ _ _ (if-accepted amiss (Count 0) (lengths .0)) in
       let s = sound-table ds qs cs ws (counts-known (length ds) (length ws) (if-accepted (countsAmiss (length ds) (length ws)) (Count 0) (counts .0))) (l .of-q) (l .of-a) (table .0) (table .1) in
       demand-3 t (K t) (s .q-least) (s .q-most) (close s (input .1))
+
+  -- ---- a refusal leaves the lists alone
+  pub refusal-leaves-lists : (why : Refusal) (left : Answers) → Adjusts ds qs cs ws lent (Refused why) left → left ≡ lent
+  refusal-leaves-lists why left a = a .lists
 
   -- ---- and there is only one
   pub only-reply : (r r' : Reply) (left left' : Answers) → Adjusts ds qs cs ws lent r left → Adjusts ds qs cs ws lent r' left' → (r ≡ r') × (left ≡ left')

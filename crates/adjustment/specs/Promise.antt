@@ -46,4 +46,4 @@ answersOf t k direction = record {
 pub record Adjusts (ds qs cs ws : List ℤ) (lent : Answers) (reply : Reply) (left : Answers) : Type 0 where
   pub answer : reply ≡ adjustReply ds qs cs ws lent
   pub lists : left ≡ leaves reply (answersOf (tableOf qs cs ws) (K (tableOf qs cs ws)) (at ds)) lent
-  pub demand3 : reply ≡ Accepted → Demand3 (tableOf qs cs ws) (at (left .corrections)) (at (left .remainders)) (at (left .misses))
+  pub demand3 : reply ≡ Accepted → Demand3 (tableOf qs cs ws) (at (left .corrections)) (at (left .printed)) (at (left .remainders)) (at (left .misses))
