@@ -20,6 +20,7 @@ use Rattle.reply.specs.declared.Refusal.the-variants.{Count, Remainder}
 use Rattle.reply.specs.declared.Reply.{Reply}
 use Rattle.reply.specs.declared.Reply.the-variants.{Accepted, Refused}
 use Rattle.reply.specs.Checks.{refuseIf, _andThen_, leaves}
+use Rattle.reply.specs.Verdicts.{verdictOf}
 use Rattle.reply.proofs.Checking.{none-refused, both-accepted, if-accepted}
 use Rattle.direction.specs.Ranges.{directionsReply}
 use Rattle.adjustment.specs.Table.{Table, at, tableOf}
@@ -65,7 +66,7 @@ module _ (ds qs cs ws : List ℤ) (lent : Answers) where
 
   -- ---- the promise
   pub refused-adjusts : (why : Refusal) → adjustReply ds qs cs ws lent ≡ Refused why → Adjusts ds qs cs ws lent (Refused why) lent
-  refused-adjusts why e = record { answer = sym e; lists = refl; demand3 = λ f. let z : _≡_ {A = ℕ} 0 1 = cc in absurd (omega arith) }
+  refused-adjusts why e = record { answer = sym e; verdict = ap verdictOf (sym e); lists = refl; demand3 = λ f. let z : _≡_ {A = ℕ} 0 1 = cc in absurd (omega arith) }
 
   module _ (s : Sound qs cs ws) (e : solutionReply t ≡ Accepted) where
     close : (j : ℕ) → j < t .n → natAbs (R-of t (K t) j) ≤ 50000000
@@ -76,7 +77,7 @@ module _ (ds qs cs ws : List ℤ) (lent : Answers) where
         ltb-false 50000000 (natAbs (R-of t (K t) j)) (none-refused (t .n) (λ j. ltb 50000000 (natAbs (R-of t (K t) j))) (λ j. Remainder (j + 1)) (last .1) j l)
 
     pub accepted-adjusts : adjustReply ds qs cs ws lent ≡ solutionReply t → (left : Answers) → left ≡ answersOf t (K t) (at ds) → Adjusts ds qs cs ws lent Accepted left
-    accepted-adjusts f left g = record { answer = sym (f ∙ e); lists = g; demand3 = λ h. demand }
+    accepted-adjusts f left g = record { answer = sym (f ∙ e); verdict = ap verdictOf (sym (f ∙ e)); lists = g; demand3 = λ h. demand }
       where
         demand : Demand3 t (at (left .corrections)) (at (left .printed)) (at (left .remainders)) (at (left .misses))
         demand =

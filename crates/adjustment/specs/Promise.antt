@@ -8,6 +8,7 @@ use Rattle.exact.specs.Tabulate.{tabulate}
 use Rattle.reply.specs.declared.Reply.{Reply}
 use Rattle.reply.specs.declared.Reply.the-variants.{Accepted}
 use Rattle.reply.specs.Checks.{_andThen_, leaves}
+use Rattle.reply.specs.Verdicts.{verdictOf}
 use Rattle.adjustment.specs.Table.{Table, at, tableOf}
 use Rattle.adjustment.specs.Solution.{K}
 use Rattle.adjustment.specs.Corrections.{V-of, R-of, u-of, adjusted-of, Q-of}
@@ -45,5 +46,7 @@ answersOf t k direction = record {
 
 pub record Adjusts (ds qs cs ws : List ℤ) (lent : Answers) (reply : Reply) (left : Answers) : Type 0 where
   pub answer : reply ≡ adjustReply ds qs cs ws lent
+  -- in the rules' numbers: number and place
+  pub verdict : verdictOf reply ≡ verdictOf (adjustReply ds qs cs ws lent)
   pub lists : left ≡ leaves reply (answersOf (tableOf qs cs ws) (K (tableOf qs cs ws)) (at ds)) lent
   pub demand3 : reply ≡ Accepted → Demand3 (tableOf qs cs ws) (at (left .corrections)) (at (left .printed)) (at (left .remainders)) (at (left .misses))

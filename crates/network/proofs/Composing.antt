@@ -1,6 +1,7 @@
 -- Bytes written one part after another. Assumes nothing.
 --   sets-append                         a run of stores, and one after it, are one run
 --   wrote-length, rewrote, read-signed  the buffer keeps its length; the same bytes; a signed number is what the machine reads
+--   one-wrote                           the same bytes at the same place leave one buffer
 --   then                                what was written, and what was written after it, are written together
 --   digits-most, written-most           a number takes at most 20 digits, and a minus
 --   come, come-within, come-on          how far the writing has come
@@ -9,7 +10,7 @@
 --   lines-none, lines-on, lines-room    the lines so far, one more, and room for it
 --   adj-most, head-most, v-most, k-most  the ADJ line takes at most 48 bytes, a V line 68, a K line 90
 --   accepted-most, refused-most          an accepted listing, and a REFUSED line, take at most so many
-use mathlib.Core.Path.{_≡_, refl, _∙_, ap, subst}
+use mathlib.Core.Path.{_≡_, refl, sym, _∙_, ap, subst}
 use mathlib.Core.Bool.{Bool, true, false, cond}
 use mathlib.Core.List.{List, [], _∷_, _++_}
 use Prim.Native.Nat.{ℕ, zero, suc, _+_, _*_, _/_, _%_, _≤_, _<_}
@@ -42,6 +43,9 @@ wrote-length {a} {b} {at} {p} {xs} w = ap length (w .buffer) ∙ length-sets a a
 -- the same bytes
 pub rewrote : {a b : List ℕ} {at p : ℕ} {xs ys : List ℕ} → xs ≡ ys → Wrote a at xs b p → Wrote a at ys b p
 rewrote {a} {b} {at} {p} h w = subst (λ (zs : List ℕ). Wrote a at zs b p) h w
+
+pub one-wrote : {a b b' : List ℕ} {at p p' : ℕ} {xs : List ℕ} → Wrote a at xs b p → Wrote a at xs b' p' → (p ≡ p') × (b ≡ b')
+one-wrote w w' = (w .place ∙ sym (w' .place), w .buffer ∙ sym (w' .buffer))
 
 -- a signed number as the machine reads it
 pub read-signed : {a b : List ℕ} {at p : ℕ} (z : ℤ) → SFits w64 z → Wrote a at (signedField (toZ w64 (ofZ w64 z))) b p → Wrote a at (signedField z) b p

@@ -9,7 +9,7 @@ use Rattle.exact.specs.Nearest.{nearest}
 use Rattle.exact.specs.Same.{same}
 use Rattle.exact.specs.Sum.{sum}
 use Rattle.exact.specs.Tabulate.{tabulate}
-use Rattle.reply.specs.Checks.{inTurn}
+use Rattle.reply.specs.Checks.{inTurn, figureValue}
 use Rattle.direction.specs.Ranges.{directionsReply}
 use Rattle.condition.specs.Terms.{letterOf as kindOf, termFault, share, angle, part}
 use Rattle.condition.specs.Rules.{directionsMiscounted, termsMiscounted, termsCheck, checks}
@@ -26,9 +26,9 @@ use Rattle.network.specs.Numbers.{readDigits, unsignedOf, plus, minus, n
 use Rattle.network.specs.Decimal.{digits, digitsOf, written}
 use Rattle.network.specs.Records.{with, directionLine, anglesLine, sidesLine, conditionLine, angleLine, fixedLine, sideLine, lineOf, recordOf}
 use Rattle.network.specs.Scan.{suits, outOfTurn, oneTooMany, directionReply, anglesReply, sidesReply, termReply, lineReply, counted, endFault, endReply, scanned, scanReply}
-use Rattle.network.specs.Net.{before, netOf, refusedAs, figureReply, figureValue, zeros, lentOf, conditionReply, conditionsReply, rowOf, misclosureOf, rowsOf, misclosuresOf, tableIn, room, netReply, netAnswers, fileReply}
+use Rattle.network.specs.Net.{before, netOf, refusedAs, zeros, lentOf, conditionReply, conditionsReply, rowOf, misclosureOf, rowsOf, misclosuresOf, tableIn, room, netReply, netAnswers, fileReply}
 use Rattle.network.specs.Listing.{inOrder}
-use Rattle.network.specs.File.{listingFor, listingOf}
+use Rattle.network.specs.File.{answersListing, listingFor, listingOf}
 
 -- D 1 216000000 1|D 2 216003000 1|D 3 215997000 1|C A 648000000|P 0 1|P 0 2|F 216000000|C A 648000000|P 0 2|P 0 3|F 216000000|
 abbrev file : List ℕ
@@ -51,5 +51,5 @@ refusal =
     82 ∷ 69 ∷ 70 ∷ 85 ∷ 83 ∷ 69 ∷ 68 ∷ 9 ∷ 49 ∷ 9 ∷ 49 ∷ 10 ∷ []
 
 pub figure-3 : (listingOf file ≡ listing) × (listingOf broken ≡ refusal)
-unfolding floor modulo first nearest sum tabulate directionsReply kindOf share angle part directionsMiscounted termsMiscounted inTurn termsCheck checks coefficient coefficientsReply coefficientsList misclosure misclosureFigure N reduced D L M weakRow weak back K V-of R-of u-of adjusted-of Q-of countsAmiss differs lengthsAmiss coefficientFault misclosureFault tableReply rowsReply correlatesReply remaindersReply solutionReply inputReply adjustReply onFirst parted linesOf fieldsOf fieldAt letterOf readDigits unsignedOf plus minus numberOf digits digitsOf written with directionLine anglesLine sidesLine conditionLine angleLine fixedLine sideLine lineOf recordOf termFault same suits outOfTurn oneTooMany directionReply anglesReply sidesReply termReply lineReply counted endFault endReply scanned scanReply before netOf refusedAs figureReply figureValue zeros lentOf conditionReply conditionsReply rowOf misclosureOf rowsOf misclosuresOf tableIn room netReply netAnswers fileReply inOrder listingFor listingOf
+unfolding floor modulo first nearest sum tabulate directionsReply kindOf share angle part directionsMiscounted termsMiscounted inTurn termsCheck checks coefficient coefficientsReply coefficientsList misclosure misclosureFigure N reduced D L M weakRow weak back K V-of R-of u-of adjusted-of Q-of countsAmiss differs lengthsAmiss coefficientFault misclosureFault tableReply rowsReply correlatesReply remaindersReply solutionReply inputReply adjustReply onFirst parted linesOf fieldsOf fieldAt letterOf readDigits unsignedOf plus minus numberOf digits digitsOf written with directionLine anglesLine sidesLine conditionLine angleLine fixedLine sideLine lineOf recordOf termFault same suits outOfTurn oneTooMany directionReply anglesReply sidesReply termReply lineReply counted endFault endReply scanned scanReply before netOf refusedAs figureValue zeros lentOf conditionReply conditionsReply rowOf misclosureOf rowsOf misclosuresOf tableIn room netReply netAnswers fileReply inOrder answersListing listingFor listingOf
 figure-3 = (refl, refl)

@@ -19,7 +19,7 @@ use Rattle.exact.proofs.Searching.{all-failed, some-none}
 use Rattle.reply.specs.declared.Refusal.the-variants.{Coefficient, Misclosure}
 use Rattle.reply.specs.declared.Reply.{Reply}
 use Rattle.reply.specs.declared.Reply.the-variants.{Accepted, Refused}
-use Rattle.reply.specs.Checks.{refuseIf, _andThen_}
+use Rattle.reply.specs.Checks.{refuseIf, _andThen_, figureValue}
 use Rattle.reply.proofs.Checking.{both-accepted, if-accepted, refuse-none}
 use Rattle.condition.specs.Rules.{Lent, checks, coefficient, beyond, misclosure, coefficientsReply, coefficientsList, misclosureFigure}
 use Rattle.adjustment.specs.Table.{Table, tableOf}
@@ -27,7 +27,7 @@ use Rattle.adjustment.specs.Refusals.{countsAmiss, differs, lengthsAmiss, coeff
 use Rattle.adjustment.specs.Promise.{Answers, adjustReply}
 use Rattle.network.specs.Lines.{linesOf}
 use Rattle.network.specs.Scan.{none, scanReply}
-use Rattle.network.specs.Net.{Condition, Net, lentOf, room, zeros, figureValue, conditionReply, conditionsReply, rowOf, misclosureOf, rowsOf, misclosuresOf, tableIn, netOf, netFrom, netReply, fileReply}
+use Rattle.network.specs.Net.{Condition, Net, lentOf, room, zeros, conditionReply, conditionsReply, rowOf, misclosureOf, rowsOf, misclosuresOf, tableIn, netOf, netFrom, netReply, fileReply}
 use Rattle.network.proofs.Bounding.{Room, scan-bounds}
 use Rattle.network.proofs.Passing.{Passed, Checked, directions-pass, file-passed, scan-checks, four-and-five}
 use Rattle.network.proofs.Tabling.{misclosures-length}

@@ -22,12 +22,12 @@ use Rattle.reply.specs.declared.Reply.{Reply}
 use Rattle.reply.specs.declared.Reply.the-variants.{Accepted, Refused}
 use Rattle.reply.specs.declared.Figure.{Figure}
 use Rattle.reply.specs.declared.Figure.the-variants.{Value, Refused as NoFigure}
-use Rattle.reply.specs.Checks.{figureOf, leaves, _andThen_}
+use Rattle.reply.specs.Checks.{figureOf, figureReply, figureLeaves, figureValue, leaves, _andThen_}
 use Rattle.reply.proofs.Checking.{never, both-accepted}
 use Rattle.condition.specs.declared.Kind.{Kind}
 use Rattle.condition.specs.Rules.{coefficientsReply, coefficientsList, misclosureFigure}
 use Rattle.network.specs.Net.{Condition, Net, headed, before, netOf, netFrom}
-use Rattle.network.specs.Net.{refusedAs, figureReply, figureValue, zeros, lentOf, conditionReply, conditionsReply, rowOf, misclosureOf, rowsOf, misclosuresOf}
+use Rattle.network.specs.Net.{refusedAs, zeros, lentOf, conditionReply, conditionsReply, rowOf, misclosureOf, rowsOf, misclosuresOf}
 use Rattle.network.specs.Gathered.{headingOf, Fit}
 use Rattle.network.specs.declared.conditions.Heading.{Heading}
 use Rattle.network.specs.declared.conditions.Heading.the-variants.{Of, NoHeading}
@@ -44,28 +44,20 @@ module _ (directions q : List ℤ) (j : ℕ) (c : Condition) where
   module _ (accepted : coefficientsReply (lentOf directions q c) (length directions) ≡ Accepted) where
     pub closing-refused : (why : Refusal) → misclosureFigure (lentOf directions q c) ≡ NoFigure why
         → NoFigure (Misclosure j) ≡ figureOf (conditionReply directions q j c) (misclosureOf directions q c)
-    unfolding conditionReply refusedAs figureReply
+    unfolding conditionReply refusedAs
     closing-refused why e = rw (accepted, e)
 
     pub closing-accepted : (w : ℤ) → misclosureFigure (lentOf directions q c) ≡ Value w
         → Value w ≡ figureOf (conditionReply directions q j c) (misclosureOf directions q c)
-    unfolding conditionReply refusedAs figureReply misclosureOf figureValue
+    unfolding conditionReply refusedAs misclosureOf figureValue
     closing-accepted w e = rw (accepted, e)
 
 -- ---- what a figure says of the reply that it came with
-abbrev whyOf : Figure → Reply
-whyOf (Value w) = Accepted
-whyOf (NoFigure why) = Refused why
-
-abbrev valueOf : ℤ → Figure → ℤ
-valueOf other (Value w) = w
-valueOf other (NoFigure why) = other
-
-figure-reply : (r : Reply) (v : ℤ) → whyOf (figureOf r v) ≡ r
+figure-reply : (r : Reply) (v : ℤ) → figureReply (figureOf r v) ≡ r
 figure-reply Accepted v = refl
 figure-reply (Refused why) v = refl
 
-figure-value : (r : Reply) (v : ℤ) → valueOf v (figureOf r v) ≡ v
+figure-value : (r : Reply) (v : ℤ) → figureLeaves (figureOf r v) v ≡ v
 figure-value Accepted v = refl
 figure-value (Refused why) v = refl
 
@@ -184,7 +176,7 @@ module _ {file : List ℕ} {directions q a w : List ℤ} {start at n : ℕ} (f :
       pub form-refused : (why : Refusal) → figure ≡ NoFigure why → Refused why ≡ conditionsReply directions q 1 (netFrom file 0 .conditions)
       form-refused why z =
           let refused : conditionReply directions q (n + 1) c ≡ Refused why
-          = sym (figure-reply (conditionReply directions q (n + 1) c) (misclosureOf directions q c)) ∙ ap whyOf z in
+          = sym (figure-reply (conditionReply directions q (n + 1) c) (misclosureOf directions q c)) ∙ ap figureReply z in
           ap (λ (r : Reply). r andThen conditionsReply directions q (n + 1 + 1) rest) (sym refused) ∙ onward
 
       -- what stands in the row after it, and after the row is put back into its place
@@ -213,10 +205,10 @@ module _ {file : List ℕ} {directions q a w : List ℤ} {start at n : ℕ} (f :
 
         module _ (x : ℤ) (z : figure ≡ Value x) where
           accepted : conditionReply directions q (n + 1) c ≡ Accepted
-          accepted = sym (figure-reply (conditionReply directions q (n + 1) c) (misclosureOf directions q c)) ∙ ap whyOf z
+          accepted = sym (figure-reply (conditionReply directions q (n + 1) c) (misclosureOf directions q c)) ∙ ap figureReply z
 
           closed : misclosureOf directions q c ≡ x
-          closed = sym (figure-value (conditionReply directions q (n + 1) c) (misclosureOf directions q c)) ∙ ap (valueOf (misclosureOf directions q c)) z
+          closed = sym (figure-value (conditionReply directions q (n + 1) c) (misclosureOf directions q c)) ∙ ap (λ (f : Figure). figureLeaves f (misclosureOf directions q c)) z
 
           row-here : row ≡ rowOf directions q c
           row-here = h ∙ row-is directions q c (n + 1) accepted old l

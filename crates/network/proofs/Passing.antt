@@ -19,7 +19,7 @@ use Rattle.exact.specs.Same.{same}
 use Rattle.reply.specs.declared.Refusal.the-variants.{Malformed, Count, OutOfRange, Coefficient, Misclosure}
 use Rattle.reply.specs.declared.Reply.{Reply}
 use Rattle.reply.specs.declared.Reply.the-variants.{Accepted}
-use Rattle.reply.specs.Checks.{refuseIf, _andThen_, figureOf}
+use Rattle.reply.specs.Checks.{refuseIf, _andThen_, figureOf, figureReply}
 use Rattle.reply.proofs.Checking.{never, neither, both-accepted, if-accepted, refuse-none, turn-all}
 use Rattle.direction.specs.Ranges.{outOfRange, faultAt, directionsReply}
 use Rattle.condition.specs.declared.Kind.{Kind}
@@ -31,7 +31,7 @@ use Rattle.network.specs.Lines.{LF, linesOf}
 use Rattle.network.specs.Parts.{parted}
 use Rattle.network.specs.Records.{A, S, P, F, L, R, recordOf}
 use Rattle.network.specs.Scan.{none, suits as fits, outOfTurn, oneTooMany, directionReply, anglesReply, sidesReply, termReply, lineReply, counted, endFault, endReply, scanned, scanReply}
-use Rattle.network.specs.Net.{Condition, Net, noTerms, headed, withTerm, before, netOf, netFrom, lentOf, refusedAs, figureReply, conditionReply}
+use Rattle.network.specs.Net.{Condition, Net, noTerms, headed, withTerm, before, netOf, netFrom, lentOf, refusedAs, conditionReply}
 use Rattle.network.specs.declared.record.Record.{Record}
 use Rattle.network.specs.declared.record.Record.the-variants.{Direction, Angles, Sides, Term as TermLine, Unreadable}
 use Rattle.network.specs.declared.scan.Counts.{Counts}
@@ -312,8 +312,8 @@ module _ (ds q : List ℤ) (j : ℕ) (c : Condition) (e : checks (lentOf ds q c)
   four true = refl
   four false = refl
 
-  five : (b : Bool) (w : ℤ) → figureReply (Misclosure j) (figureOf (refuseIf b (Misclosure 1)) w) ≡ refuseIf b (Misclosure j)
-  unfolding figureReply
+  five : (b : Bool) (w : ℤ) → refusedAs (Misclosure j) (figureReply (figureOf (refuseIf b (Misclosure 1)) w)) ≡ refuseIf b (Misclosure j)
+  unfolding refusedAs
   five true w = refl
   five false w = refl
 

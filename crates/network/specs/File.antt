@@ -1,4 +1,4 @@
--- The listing of a file, byte for byte.
+-- What becomes of a file: the reply to it, and the listing of an accepted one, byte for byte.
 use mathlib.Core.Path.{_≡_}
 use mathlib.Core.Bool.{cond}
 use mathlib.Core.List.{List, []}
@@ -6,42 +6,66 @@ use Prim.Native.Nat.{ℕ}
 use lib.IntN.{ℤ}
 use lib.Dec.{ltb}
 use lib.ListN.{length}
+use lib.Seq.{sets}
+use Rattle.reply.specs.declared.Refusal.the-variants.{Count}
 use Rattle.reply.specs.declared.Reply.{Reply}
 use Rattle.reply.specs.declared.Reply.the-variants.{Accepted, Refused}
+use Rattle.reply.specs.declared.Verdict.{Verdict}
 use Rattle.reply.specs.Numbers.{numberOf, placeOf}
+use Rattle.reply.specs.Checks.{refuseIf, _andThen_, leaves}
+use Rattle.reply.specs.Verdicts.{verdictOf}
 use Rattle.adjustment.specs.Table.{at, tableOf}
 use Rattle.adjustment.specs.Solution.{K}
-use Rattle.adjustment.specs.Corrections.{V-of, R-of, Q-of}
+use Rattle.adjustment.specs.Corrections.{V-of, R-of, u-of, Q-of}
 use Rattle.adjustment.specs.Demand.{Demand3}
-use Rattle.adjustment.specs.Promise.{Answers, adjustReply, answersOf}
+use Rattle.adjustment.specs.Promise.{Answers, answersOf}
+use Rattle.network.specs.declared.Listed.{Listed}
 use Rattle.network.specs.Lines.{linesOf}
 use Rattle.network.specs.Listing.{refusedLine, acceptedListing, Wrote}
-use Rattle.network.specs.Net.{Net, room, netOf, tableIn, netReply, netAnswers, fileReply}
+use Rattle.network.specs.Net.{Net, netOf, tableIn, netAnswers, fileReply}
 
+-- the listing of an accepted adjustment, from its answers
+unfoldable pub answersListing : Answers → List ℕ
+answersListing a = acceptedListing (length (a .printed)) (length (a .correlates)) (a .printed) (a .adjusted) (a .correlates) (a .remainders) (a .misses)
+
+-- of an accepted condition table
+unfoldable pub tableListing : (directions q a w : List ℤ) → List ℕ
+tableListing ds q a w = answersListing (answersOf (tableOf q a w) (K (tableOf q a w)) (at ds))
+
+-- of an accepted net
+unfoldable pub netListing : Net → List ℕ
+netListing net = answersListing (netAnswers net)
+
+-- ---- the operation on a file: where the reply is to accept, the listing stands at the start of the lent buffer, and its length is answered;
+-- "a refusal returns number and place only; all lent lists stay as they were"
+pub record ListedBy (rule : Reply) (listing before : List ℕ) (listed : Listed) (after : List ℕ) : Type 0 where
+  pub answer : listed .reply ≡ rule
+  pub length-is : listed .length ≡ leaves (listed .reply) (length listing) 0
+  pub buffer : after ≡ leaves (listed .reply) (sets before 0 listing) before
+
+-- a buffer of fewer than 6,560 bytes could not hold the longest listing: a length that disagrees, 2 at 0, before all else
+unfoldable pub adjustFileReply : (file : List ℕ) (room : ℕ) → Reply
+adjustFileReply file room = refuseIf (ltb room 6560) (Count 0) andThen fileReply file
+
+pub record AdjustsFile (file before : List ℕ) (listed : Listed) (after : List ℕ) : Type 0 where
+  pub lists : ListedBy (adjustFileReply file (length before)) (netListing (netOf (linesOf file))) before listed after
+  -- in the rules' numbers: number and place
+  pub verdict : verdictOf (listed .reply) ≡ verdictOf (adjustFileReply file (length before))
+  -- demand 3 of every accepted file, of the table that its lines give: its V lines have u, and its K lines R and Q
+  pub demand3 : listed .reply ≡ Accepted → let t = tableIn (netOf (linesOf file)) in Demand3 t (V-of t (K t)) (u-of t (K t)) (R-of t (K t)) (Q-of t (K t))
+
+-- ---- "A refusal prints one line: REFUSED, number, place." None, where the lent buffer has fewer than 52 bytes
+unfoldable pub refusedLineIn : Verdict → (room : ℕ) → List ℕ
+refusedLineIn v room = cond (ltb room 52) [] (refusedLine (v .number) (v .place))
+
+-- ---- for programs: the listing of any file, an accepted one's or the line of its refusal
 unfoldable pub listingFor : Reply → Answers → List ℕ
-listingFor Accepted a =
-    acceptedListing (length (a .printed)) (length (a .correlates)) (a .printed) (a .adjusted) (a .correlates) (a .remainders) (a .misses)
+listingFor Accepted a = answersListing a
 listingFor (Refused why) a = refusedLine (numberOf why) (placeOf why)
 
--- of a condition table
-unfoldable pub tableListing : (directions q a w : List ℤ) → List ℕ
-tableListing ds q a w =
-    listingFor (adjustReply ds q a w (room (length ds) (length w))) (answersOf (tableOf q a w) (K (tableOf q a w)) (at ds))
-
--- of a net
-unfoldable pub netListing : Net → List ℕ
-netListing net = listingFor (netReply net) (netAnswers net)
-
--- of a file
 unfoldable pub listingOf : List ℕ → List ℕ
 listingOf file = listingFor (fileReply file) (netAnswers (netOf (linesOf file)))
 
--- what goes into a lent buffer of so many bytes: the listing; nothing, where the buffer could not hold the longest one
-unfoldable pub listed : List ℕ → ℕ → List ℕ
-listed file room = cond (ltb room 6560) [] (listingOf file)
-
--- ---- what the operation promises of every file and every buffer
-pub record Lists (file before : List ℕ) (count : ℕ) (after : List ℕ) : Type 0 where
-  pub bytes : Wrote before 0 (listed file (length before)) after count
-  -- demand 3 of every accepted file, of the table that its lines give: its u are V rounded, and its K lines have R and Q
-  pub demand3 : fileReply file ≡ Accepted → let t = tableIn (netOf (linesOf file)) in Demand3 t (V-of t (K t)) (R-of t (K t)) (Q-of t (K t))
+-- what goes into a lent buffer of so many bytes: nothing, where it could not hold the longest listing
+unfoldable pub listingIn : (file : List ℕ) (room : ℕ) → List ℕ
+listingIn file room = cond (ltb room 6560) [] (listingOf file)

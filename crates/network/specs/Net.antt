@@ -8,9 +8,7 @@ use Rattle.reply.specs.declared.Refusal.{Refusal}
 use Rattle.reply.specs.declared.Refusal.the-variants.{Coefficient, Misclosure}
 use Rattle.reply.specs.declared.Reply.{Reply}
 use Rattle.reply.specs.declared.Reply.the-variants.{Accepted, Refused}
-use Rattle.reply.specs.declared.Figure.{Figure}
-use Rattle.reply.specs.declared.Figure.the-variants.{Value, Refused as NoFigure}
-use Rattle.reply.specs.Checks.{_andThen_}
+use Rattle.reply.specs.Checks.{_andThen_, figureReply, figureValue}
 use Rattle.condition.specs.declared.Kind.{Kind}
 use Rattle.condition.specs.declared.Kind.the-variants.{Angle, Side}
 use Rattle.condition.specs.Rules.{Lent, lent, coefficientsReply, coefficientsList, misclosureFigure}
@@ -74,14 +72,6 @@ unfoldable pub refusedAs : Refusal → Reply → Reply
 refusedAs why Accepted = Accepted
 refusedAs why (Refused other) = Refused why
 
-unfoldable pub figureReply : Refusal → Figure → Reply
-figureReply why (Value w) = Accepted
-figureReply why (NoFigure other) = Refused why
-
-unfoldable pub figureValue : Figure → ℤ
-figureValue (Value w) = w
-figureValue (NoFigure other) = pos 0
-
 unfoldable pub zeros : ℕ → List ℤ
 zeros n = tabulate n (λ i. pos 0)
 
@@ -92,7 +82,7 @@ module _ (directions q : List ℤ) where
   -- condition j
   unfoldable pub conditionReply : ℕ → Condition → Reply
   conditionReply j c =
-      refusedAs (Coefficient j) (coefficientsReply (lentOf c) (length directions)) andThen figureReply (Misclosure j) (misclosureFigure (lentOf c))
+      refusedAs (Coefficient j) (coefficientsReply (lentOf c) (length directions)) andThen refusedAs (Misclosure j) (figureReply (misclosureFigure (lentOf c)))
 
   -- from condition j on
   unfoldable pub conditionsReply : ℕ → List Condition → Reply

@@ -2,10 +2,8 @@
 ghost use mathlib.Core.List.{[], _∷_};
 ghost use Prim.Native.Nat.{_+_, _*_, _≤_};
 ghost use lib.ListN.{length};
-ghost use Rattle.reply.specs.Numbers.{numberOf, placeOf};
 ghost use Rattle.network.specs.Listing.{signedField, countField, lineHead, adjLine, vLine, kLine, refusedLine, vLines, kLines, acceptedListing, Wrote};
 use crate::decimal;
-use reply::Refusal;
 
 const TAB: u8 = 9;
 
@@ -90,7 +88,7 @@ fn put_adj(out: &mut [u8], at: usize, m: u64, n: u64) -> usize
 }
 
 // REFUSED, number, place.
-fn put_refused(out: &mut [u8], at: usize, number: u64, place: u64) -> usize
+pub fn put_refused(out: &mut [u8], at: usize, number: u64, place: u64) -> usize
     requires { ⌜ at + 52 ≤ length (now out) ⌝ }
     ensures { λ r. ⌜ Wrote (now (out .entry)) at (refusedLine number place) (now (out .exit)) r ⌝ }
 {
@@ -100,14 +98,6 @@ fn put_refused(out: &mut [u8], at: usize, number: u64, place: u64) -> usize
     let first = put_count(out, head, number);
     let second = put_count(out, first, place);
     put_byte(out, second, LF)
-}
-
-// The REFUSED line of a refusal, from the start of the buffer.
-pub fn put_refusal(out: &mut [u8], why: Refusal) -> usize
-    requires { ⌜ 52 ≤ length (now out) ⌝ }
-    ensures { λ r. ⌜ Wrote (now (out .entry)) 0 (refusedLine (numberOf why) (placeOf why)) (now (out .exit)) r ⌝ }
-{
-    put_refused(out, 0, reply::number(why), reply::place(why))
 }
 
 // The V lines of m directions.

@@ -2,12 +2,14 @@
 ghost use mathlib.Core.Path.{_≡_};
 ghost use Prim.Native.Nat.{_≤_};
 ghost use lib.ListN.{length};
-ghost use Rattle.network.specs.Listing.{Wrote};
-ghost use Rattle.network.specs.File.{tableListing};
+ghost use Rattle.adjustment.specs.Promise.{adjustReply};
+ghost use Rattle.network.specs.Net.{room};
+ghost use Rattle.network.specs.File.{tableListing, ListedBy};
+use crate::Listed;
 use crate::listing;
 use reply::Reply;
 
-// The listing of a lent condition table, or its refusal, from the start of the buffer; the six answer lists are lent too. Answers how many bytes it has.
+// The listing of a lent condition table that is accepted, from the start of the buffer; the six answer lists are lent too.
 fn list_table(
     directions: &[i64],
     q: &[i64],
@@ -20,25 +22,34 @@ fn list_table(
     r: &mut [i64],
     misses: &mut [i64],
     out: &mut [u8],
-) -> usize
+) -> Listed
     requires { ⌜ (length (now directions) ≤ 64) × (length (now w) ≤ 24) × (6560 ≤ length (now out)) × (length (now q) ≡ length (now directions)) ⌝ }
     requires { ⌜ (length (now v) ≡ length (now directions)) × (length (now u) ≡ length (now directions)) × (length (now adjusted) ≡ length (now directions)) ⌝ }
     requires { ⌜ (length (now k) ≡ length (now w)) × (length (now r) ≡ length (now w)) × (length (now misses) ≡ length (now w)) ⌝ }
-    ensures { λ bytes. ⌜ Wrote (now (out .entry)) 0
-        (tableListing (now (directions .entry)) (now (q .entry)) (now (a .entry)) (now (w .entry))) (now (out .exit)) bytes ⌝ }
+    ensures { λ l. ⌜ ListedBy
+        (adjustReply (now (directions .entry)) (now (q .entry)) (now (a .entry)) (now (w .entry)) (room (length (now (directions .entry))) (length (now (w .entry)))))
+        (tableListing (now (directions .entry)) (now (q .entry)) (now (a .entry)) (now (w .entry))) (now (out .entry)) l (now (out .exit)) ⌝ }
 {
     let reply = adjustment::adjust(directions, q, a, w, v, u, adjusted, k, r, misses);
     if let Reply::Refused(why) = reply {
-        return listing::put_refusal(out, why);
+        return Listed {
+            reply: Reply::Refused(why),
+            length: 0,
+        };
     }
-    listing::put_accepted(out, directions.len(), w.len(), u, adjusted, k, r, misses)
+    let length = listing::put_accepted(out, directions.len(), w.len(), u, adjusted, k, r, misses);
+    Listed {
+        reply: Reply::Accepted,
+        length,
+    }
 }
 
 // The same, with answer lists of its own.
-pub fn solve(directions: &[i64], q: &[i64], a: &[i64], w: &[i64], out: &mut [u8]) -> usize
+pub fn solve(directions: &[i64], q: &[i64], a: &[i64], w: &[i64], out: &mut [u8]) -> Listed
     requires { ⌜ (length (now directions) ≤ 64) × (length (now w) ≤ 24) × (6560 ≤ length (now out)) × (length (now q) ≡ length (now directions)) ⌝ }
-    ensures { λ bytes. ⌜ Wrote (now (out .entry)) 0
-        (tableListing (now (directions .entry)) (now (q .entry)) (now (a .entry)) (now (w .entry))) (now (out .exit)) bytes ⌝ }
+    ensures { λ l. ⌜ ListedBy
+        (adjustReply (now (directions .entry)) (now (q .entry)) (now (a .entry)) (now (w .entry)) (room (length (now (directions .entry))) (length (now (w .entry)))))
+        (tableListing (now (directions .entry)) (now (q .entry)) (now (a .entry)) (now (w .entry))) (now (out .entry)) l (now (out .exit)) ⌝ }
 {
     let m = directions.len();
     let n = w.len();

@@ -8,31 +8,23 @@ use denote.Ref.{now}
 use lib.ListN.{length}
 use lib.Seq.{length-take-le}
 use Rattle.reply.specs.declared.Reply.the-variants.{Accepted}
-use Rattle.reply.specs.Numbers.{numberOf, placeOf}
 use Rattle.network.specs.Scan.{none, scanReply}
 use Rattle.network.specs.Net.{netFrom}
-use Rattle.network.proofs.Composing.{refused-most}
 use Rattle.network.proofs.Bounding.{Room, scan-bounds}
-use Rattle.network.proofs.Filing.{lists-nothing, lists-refused, lists-net}
+use Rattle.network.proofs.Filing.{too-short, scan-refused, file-net}
 use Rattle.network.proofs.adjust.Statement.{statement}
 use Rattle.network.proofs.adjust.Tie as tie
 
 returns : tie.Need-returns
 returns c =
     let a = c .before .before .before .args in
-    (lists-nothing (now (a .file)) (now (a .out)) (c .if1 .taken), omega arith)
+    too-short (now (a .file)) (now (a .out)) (c .if1 .taken)
 
 scan-requires : tie.Need-scan-requires
 scan-requires c κs = search needs
 
 enum-known-scanned : tie.Need-enum-known-scanned
 enum-known-scanned c = search needs
-
-put-refusal-requires : tie.Need-put-refusal-requires
-put-refusal-requires c κs = search needs
-
-same-length : tie.Need-same-length
-same-length c = search needs
 
 -- ---- a buffer that has room, and what the scan has said
 module _ (c : tie.After-scan) where
@@ -50,10 +42,8 @@ module _ (c : tie.After-scan) where
 
 returns-2 : tie.Need-returns-2
 returns-2 c =
-    let p = c .before .before in let r = p .before .before .before in let e = r .before .before in let why = r .scanned .given .0 .0 in (
-      lists-refused (file e) (out e) (roomy e) why (sym (e .scan .ensures) ∙ r .scanned .given .1) (p .put-refusal .ensures),
-      omega (arith, roomy e, p .put-refusal .ensures .place, refused-most (numberOf why) (placeOf why)),
-    )
+    let r = c .before in let e = r .before .before in
+    scan-refused (file e) (out e) (roomy e) (r .scanned .given .0 .0) (sym (e .scan .ensures) ∙ r .scanned .given .1)
 
 enum-told : tie.Need-enum-told
 enum-told c = search needs
@@ -98,13 +88,13 @@ list-net-requires c κs =
       ((omega (arith, m, e .0 .0), g ∙ sym m), ((omega (arith, bounds t .n), bounds t .fit), (refl, refl, roomy (scanned t)))),
     )
 
-same-length-2 : tie.Need-same-length-2
-same-length-2 c = search needs
+same-length : tie.Need-same-length
+same-length c = search needs
 
 returns-3 : tie.Need-returns-3
 returns-3 c =
     let p = c .before .before .before .before in let t = p .before .before .before .before .before .before .before .before .before in let e = scanned t in
-    (lists-net (file e) (out e) (roomy e) (accepted t) (p .list-net .ensures .0), omega (arith, roomy e, p .list-net .ensures .1))
+    file-net (file e) (out e) (roomy e) (accepted t) (p .list-net .ensures)
 
 pub adjust-spec : {M : Type 1} → statement M
 adjust-spec =
@@ -113,8 +103,6 @@ adjust-spec =
     returns
     scan-requires
     enum-known-scanned
-    put-refusal-requires
-    same-length
     returns-2
     enum-told
     read-requires
@@ -125,5 +113,5 @@ adjust-spec =
     slice-aggregate-list-net-3
     slice-aggregate-list-net-4
     list-net-requires
-    same-length-2
+    same-length
     returns-3)

@@ -1,5 +1,5 @@
 -- `network::list_net` meets its contract. Assumes nothing.
-use mathlib.Core.Path.{_≡_, sym, _∙_, ap₂}
+use mathlib.Core.Path.{_≡_, sym, _∙_}
 use mathlib.Core.List.{List}
 use Prim.Native.Nat.{ℕ, _*_, _≤_}
 use native.Mathlib.Nat.{mul-le-mul}
@@ -10,11 +10,8 @@ use lib.IntN.{ℤ}
 use lib.ListN.{length, take}
 use lib.Seq.{length-take-le}
 use Rattle.reply.specs.declared.Reply.the-variants.{Accepted}
-use Rattle.reply.specs.Numbers.{numberOf, placeOf}
 use Rattle.network.specs.Net.{Net, netFrom}
-use Rattle.network.specs.File.{tableListing}
-use Rattle.network.proofs.Composing.{rewrote, refused-most}
-use Rattle.network.proofs.Tabling.{net-refused, net-accepted, table-most}
+use Rattle.network.proofs.Tabling.{listed-refused, relisted, net-refused, net-accepted, net-listing}
 use Rattle.network.proofs.list_net.Statement.{statement}
 use Rattle.network.proofs.list_net.Tie as tie
 
@@ -38,24 +35,16 @@ module _ (c : tie.After-form-all) where
 enum-known-reply : tie.Need-enum-known-reply
 enum-known-reply c = search needs
 
-put-refusal-requires : tie.Need-put-refusal-requires
-put-refusal-requires c κs = search needs
-
 same-length : tie.Need-same-length
 same-length c = search needs
 
 same-length-2 : tie.Need-same-length-2
 same-length-2 c = search needs
 
-same-length-3 : tie.Need-same-length-3
-same-length-3 c = search needs
-
 returns : tie.Need-returns
 returns c =
-    let p = c .before .before in let r = p .before .before .before in let f = r .before .before .before .before in let s = start f in
-    let wrote = rewrote (net-refused (net f) (ds f) (q f) (s .pre .0 .0) (s .pre .0 .1) _ (sym (f .form-all .ensures .0) ∙ r .reply .given .1)) (p .put-refusal .ensures) in
-    let why = r .reply .given .0 .0 in
-    (wrote, omega (arith, p .put-refusal .ensures .place, refused-most (numberOf why) (placeOf why)))
+    let r = c .before in let f = r .before .before .before .before in let s = start f in
+    listed-refused _ (net-refused (net f) (ds f) (q f) (s .pre .0 .0) (s .pre .0 .1) _ (sym (f .form-all .ensures .0) ∙ r .reply .given .1))
 
 enum-told : tie.Need-enum-told
 enum-told c = search needs
@@ -112,22 +101,23 @@ solve-requires c κs =
     let t = c .before .before .before in let s = start (formed t) in
     (s .pre .1 .0 .0, few-closings t, s .pre .1 .1 .1 .2, s .pre .1 .0 .1)
 
+same-length-3 : tie.Need-same-length-3
+same-length-3 c = search needs
+
 same-length-4 : tie.Need-same-length-4
 same-length-4 c = search needs
 
 same-length-5 : tie.Need-same-length-5
 same-length-5 c = search needs
 
-same-length-6 : tie.Need-same-length-6
-same-length-6 c = search needs
-
 returns-2 : tie.Need-returns-2
 returns-2 c =
     let p = c .before .before in let t = p .before .before .before .before in let f = formed t in let s = start f in
-    let table = ap₂ (tableListing (ds f) (q f)) (f .form-all .ensures .1 .1 .0 (accepted t)) (f .form-all .ensures .1 .1 .1 (accepted t)) in
-    let wrote = rewrote (table ∙ net-accepted (net f) (ds f) (q f) (s .pre .0 .0) (s .pre .0 .1) (sym (f .form-all .ensures .0) ∙ accepted t)) (p .solve .ensures) in
-    let most = table-most (ds f) (q f) (take (n t * length (ds f)) (rows t)) (take (n t) (closings t)) (s .pre .1 .0 .0) (s .pre .1 .0 .1) (few-closings t) in
-    (wrote, omega (arith, p .solve .ensures .place, most))
+    let rows-are = f .form-all .ensures .1 .1 .0 (accepted t) in let closings-are = f .form-all .ensures .1 .1 .1 (accepted t) in
+    relisted
+    (net-accepted (net f) (ds f) (q f) (s .pre .0 .0) (s .pre .0 .1) _ _ rows-are closings-are (sym (f .form-all .ensures .0) ∙ accepted t))
+    (net-listing (net f) (ds f) (q f) (s .pre .0 .0) (s .pre .0 .1) _ _ rows-are closings-are)
+    (p .solve .ensures)
 
 pub list-net-spec : {M : Type 1} → statement M
 list-net-spec =
@@ -135,10 +125,8 @@ list-net-spec =
     (tie.spec
     form-all-requires
     enum-known-reply
-    put-refusal-requires
     same-length
     same-length-2
-    same-length-3
     returns
     enum-told
     mul-solve
@@ -147,7 +135,7 @@ list-net-spec =
     slice-reshare-prefix-solve-2
     slice-aggregate-solve-2
     solve-requires
+    same-length-3
     same-length-4
     same-length-5
-    same-length-6
     returns-2)

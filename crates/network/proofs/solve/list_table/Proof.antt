@@ -1,10 +1,11 @@
 -- `network::solve::list_table` meets its contract. Assumes nothing.
+use mathlib.Core.Path.{_∙_}
 use borrow.Author.Needs.{needs}
 use denote.Ref.{now}
 use lib.ListN.{length}
 use Rattle.adjustment.specs.Promise.{lists}
 use Rattle.network.proofs.Composing.{rewrote}
-use Rattle.network.proofs.Tabling.{Lent, table-refused, table-accepted}
+use Rattle.network.proofs.Tabling.{Lent, listed-refused, listed-accepted, answered, table-accepted}
 use Rattle.network.proofs.solve.list_table.Statement.{statement}
 use Rattle.network.proofs.solve.list_table.Tie as tie
 
@@ -25,9 +26,6 @@ module _ (c : tie.After-adjust) where
 enum-known-reply : tie.Need-enum-known-reply
 enum-known-reply c = search needs
 
-put-refusal-requires : tie.Need-put-refusal-requires
-put-refusal-requires c κs = search needs
-
 same-length : tie.Need-same-length
 same-length c = search needs
 
@@ -46,21 +44,19 @@ same-length-5 c = search needs
 same-length-6 : tie.Need-same-length-6
 same-length-6 c = search needs
 
-same-length-7 : tie.Need-same-length-7
-same-length-7 c = search needs
-
 returns : tie.Need-returns
 returns c =
-    let p = c .before .before in let r = p .before .before .before in let a = r .before .before .before .before .before .before .before .before in let s = start a in
-    rewrote
-    (table-refused (now (s .args .directions)) (now (s .args .q)) (now (s .args .a)) (now (s .args .w)) (lent-lists a) (a .adjust .ensures) _ (r .reply .given .1))
-    (p .put-refusal .ensures)
+    let r = c .before in let a = r .before .before .before .before .before .before .before .before in let s = start a in
+    listed-refused _ (answered (now (s .args .directions)) (now (s .args .q)) (now (s .args .a)) (now (s .args .w)) (lent-lists a) (a .adjust .ensures) ∙ r .reply .given .1)
 
 enum-told : tie.Need-enum-told
 enum-told c = search needs
 
 put-accepted-requires : tie.Need-put-accepted-requires
 put-accepted-requires c κs = search needs
+
+same-length-7 : tie.Need-same-length-7
+same-length-7 c = search needs
 
 same-length-8 : tie.Need-same-length-8
 same-length-8 c = search needs
@@ -80,15 +76,12 @@ same-length-12 c = search needs
 same-length-13 : tie.Need-same-length-13
 same-length-13 c = search needs
 
-same-length-14 : tie.Need-same-length-14
-same-length-14 c = search needs
-
 returns-2 : tie.Need-returns-2
 returns-2 c =
     let p = c .before .before in let t = p .before .before .before .before .before .before .before in let a = t .before .before .before .before .before .before .before .before in let s = start a in
-    rewrote
-    (table-accepted (now (s .args .directions)) (now (s .args .q)) (now (s .args .a)) (now (s .args .w)) (lent-lists a) (a .adjust .ensures) (s .pre .0 .3) (t .enum-told .given .1))
-    (p .put-accepted .ensures)
+    let e = t .enum-told .given .1 in
+    listed-accepted (answered (now (s .args .directions)) (now (s .args .q)) (now (s .args .a)) (now (s .args .w)) (lent-lists a) (a .adjust .ensures) ∙ e)
+    (rewrote (table-accepted (now (s .args .directions)) (now (s .args .q)) (now (s .args .a)) (now (s .args .w)) (lent-lists a) (a .adjust .ensures) (s .pre .0 .3) e) (p .put-accepted .ensures))
 
 pub list-table-spec : {M : Type 1} → statement M
 list-table-spec =
@@ -96,22 +89,20 @@ list-table-spec =
     (tie.spec
     adjust-requires
     enum-known-reply
-    put-refusal-requires
     same-length
     same-length-2
     same-length-3
     same-length-4
     same-length-5
     same-length-6
-    same-length-7
     returns
     enum-told
     put-accepted-requires
+    same-length-7
     same-length-8
     same-length-9
     same-length-10
     same-length-11
     same-length-12
     same-length-13
-    same-length-14
     returns-2)
