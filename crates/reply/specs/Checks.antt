@@ -1,8 +1,11 @@
--- A fixed order of checks: each speaks only where all before it accept.
+-- A fixed order of checks: each speaks only where all before it accept. Then what an answer is and leaves, once all are made.
+--   refuseIf, refuseFirst, _andThen_, inTurn      the checks and their order
+--   leaves                                        a lent list afterwards
+--   figureOf                                      the answer that is one number; figureReply, figureLeaves, figureValue take it apart
 use mathlib.Core.Bool.{Bool, true, false}
 use Prim.Native.Nat.{ℕ, zero, suc}
 use lib.Dec.{ltb}
-use lib.IntN.{ℤ}
+use lib.IntN.{ℤ, pos}
 use Rattle.exact.specs.First.{first}
 use Rattle.reply.specs.declared.Refusal.{Refusal}
 use Rattle.reply.specs.declared.Reply.{Reply}
@@ -39,3 +42,17 @@ leaves (Refused why) answer before = before
 abbrev pub figureOf : Reply → ℤ → Figure
 figureOf Accepted v = Value v
 figureOf (Refused why) v = NoFigure why
+
+-- that answer as the reply to a caller who lends the place for one number
+abbrev pub figureReply : Figure → Reply
+figureReply (Value v) = Accepted
+figureReply (NoFigure why) = Refused why
+
+-- what then stands there: after a refusal, what stood there before
+abbrev pub figureLeaves : Figure → ℤ → ℤ
+figureLeaves (Value v) before = v
+figureLeaves (NoFigure why) before = before
+
+-- that number, where a place that held 0 was lent
+unfoldable pub figureValue : Figure → ℤ
+figureValue figure = figureLeaves figure (pos 0)

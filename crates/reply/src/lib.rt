@@ -1,7 +1,8 @@
-// The replies: why an input is refused, and what an operation answers. The rules' numbers and places stand in one definition each
-// (specs/Numbers.antt), and `number` and `place` give them.
+// The replies: why an input is refused, what an operation answers, and what a caller is told of it in the rules' numbers. Number and place stand in
+// one definition each (specs/Numbers.antt), which `number` and `place` give; `refuse` and `tell` give both as a verdict (specs/Verdicts.antt).
 ghost use mathlib.Core.Path.{_≡_};
 ghost use Rattle.reply.specs.Numbers.{numberOf, placeOf};
+ghost use Rattle.reply.specs.Verdicts.{refused, verdictOf};
 
 // Why an input is refused. Lines, ordinals, directions, rows and conditions count from 1; 0 is a place seen only at the end or from the length.
 pub enum Refusal {
@@ -45,6 +46,13 @@ pub enum Reply {
 pub enum Figure {
     Value(i64),
     Refused(Refusal),
+}
+
+// What a caller is told: 0 and 0 where the input is accepted, else the rules' number and place of the refusal.
+#[repr(C)]
+pub struct Verdict {
+    pub number: u64,
+    pub place: u64,
 }
 
 // The rules' number of a refusal.
@@ -97,5 +105,27 @@ pub fn place(r: Refusal) -> u64
         Refusal::Initial { position } => 100 * (position as u64) + 1,
         Refusal::FacesApart { position, object } => 100 * (position as u64) + object as u64,
         Refusal::Spread { position, object } => 100 * (position as u64) + object as u64,
+    }
+}
+
+// The verdict on a refusal.
+pub fn refuse(why: Refusal) -> Verdict
+    ensures { λ v. ⌜ v ≡ refused why ⌝ }
+{
+    let number = number(why);
+    let place = place(why);
+    Verdict { number, place }
+}
+
+// The verdict on a reply.
+pub fn tell(reply: Reply) -> Verdict
+    ensures { λ v. ⌜ v ≡ verdictOf reply ⌝ }
+{
+    match reply {
+        Reply::Accepted => Verdict {
+            number: 0,
+            place: 0,
+        },
+        Reply::Refused(why) => refuse(why),
     }
 }
