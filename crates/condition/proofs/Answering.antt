@@ -3,7 +3,8 @@
 --   all-right                           the reply where nothing is at fault
 --   kept, filled                        what the list holds after a refusal, and after acceptance
 --   coefficients-kept, misclosure-kept  the answers of the rules keep the promises
-use mathlib.Core.Path.{_≡_, ap}
+--   refusal-leaves-list                 and a refusal that keeps the promise leaves the lent list as it was
+use mathlib.Core.Path.{_≡_, sym, _∙_, ap}
 use mathlib.Core.Bool.{true, false}
 use mathlib.Core.List.{List}
 use Prim.Native.Nat.{ℕ, _+_}
@@ -54,3 +55,7 @@ coefficients-kept e f = record { answer = e; verdict = ap verdictOf e; list = f 
 
 pub misclosure-kept : {l : Lent} {figure : Figure} → figure ≡ misclosureFigure l → Misclosed l figure
 misclosure-kept e = record { answer = e; verdict = ap (λ (f : Figure). verdictOf (figureReply f)) e; value = ap figureValue e }
+
+-- "A refusal returns number and place only; all lent lists stay as they were."
+pub refusal-leaves-list : (l : Lent) (before : List ℤ) (why : Refusal) (after : List ℤ) → Coefficients l before (Refused why) after → after ≡ before
+refusal-leaves-list l before why after x = x .list ∙ kept l before why (sym (x .answer))
