@@ -1,10 +1,10 @@
 -- Laws of what a term adds to the coefficients. Assumes nothing.
---   tally-none, only-more               a tally to which nothing was added; one number of a list raised by x
---   only-size, share-size, tally-size   sizes: a number at one place, what a term adds to one direction, and what n terms add
---   only-sum, turned-sum                a number added at one place alone; an angle's two parts cancel
---   share-sum                           over all directions, number 0 counted in, a term adds nothing
---   coefficients-sum                    and so do the coefficients of a whole condition
---   sound-among                         a term that is sound among m directions is sound among more
+--   tally-none, placed-more               a tally to which nothing was added; one number of a list raised by x
+--   placed-size, share-size, tally-size   sizes: a number at one place, what a term adds to one direction, and what n terms add
+--   placed-sum, turned-sum                a number added at one place alone; an angle's two parts cancel
+--   share-sum                             over all directions, number 0 counted in, a term adds nothing
+--   coefficients-sum                      and so do the coefficients of a whole condition
+--   sound-among                           a term that is sound among m directions is sound among more
 use mathlib.Core.Path.{_≡_, refl, sym, _∙_, subst}
 use mathlib.Core.Bool.{Bool, true, false, cond}
 use mathlib.Core.List.{List}
@@ -22,7 +22,7 @@ use Rattle.reply.specs.declared.Reply.the-variants.{Accepted}
 use Rattle.condition.specs.declared.term.Letter.{Letter}
 use Rattle.condition.specs.declared.term.Letter.the-variants.{P, F, L, R, Unknown}
 use Rattle.condition.specs.declared.term.Term.{Term}
-use Rattle.condition.specs.Terms.{only, turned, shareOf, share}
+use Rattle.condition.specs.Terms.{placed, turned, shareOf, share}
 use Rattle.condition.specs.Rules.{Lent, term, checks, coefficient}
 use Rattle.condition.specs.Sound.{Number, Ends, SideTerm, SoundOf, Sound, AllSound}
 use Rattle.condition.proofs.Accepting.{accepted}
@@ -34,9 +34,9 @@ tally-none (suc m) zero = refl
 tally-none (suc m) (suc n) = tally-none m n
 
 -- one number raised
-pub only-more : (xs : List ℤ) (h : ℕ) (x : ℤ) → h < length xs → (n : ℕ) →
-    getD (set xs h (getD xs h (pos 0) +ℤ x)) n (pos 0) ≡ getD xs n (pos 0) +ℤ only h x n
-only-more xs h x l n = by-test (eqb h n) refl
+pub placed-more : (xs : List ℤ) (h : ℕ) (x : ℤ) → h < length xs → (n : ℕ) →
+    getD (set xs h (getD xs h (pos 0) +ℤ x)) n (pos 0) ≡ getD xs n (pos 0) +ℤ placed h x n
+placed-more xs h x l n = by-test (eqb h n) refl
   where
     by-test : (b : Bool) → eqb h n ≡ b → getD (set xs h (getD xs h (pos 0) +ℤ x)) n (pos 0) ≡ getD xs n (pos 0) +ℤ cond b x (pos 0)
     by-test true e =
@@ -46,8 +46,8 @@ only-more xs h x l n = by-test (eqb h n) refl
         getD-set-other xs h n (getD xs h (pos 0) +ℤ x) (pos 0) (λ f. eqb-false h n e (sym f)) ∙ sym (+ℤ-idr (getD xs n (pos 0)))
 
 -- ---- sizes
-pub only-size : (b h : ℕ) (x : ℤ) → natAbs x ≤ b → (n : ℕ) → natAbs (only h x n) ≤ b
-only-size b h x l n = by-test (eqb h n)
+pub placed-size : (b h : ℕ) (x : ℤ) → natAbs x ≤ b → (n : ℕ) → natAbs (placed h x n) ≤ b
+placed-size b h x l n = by-test (eqb h n)
   where
     by-test : (t : Bool) → natAbs (cond t x (pos 0)) ≤ b
     by-test true = l
@@ -56,9 +56,9 @@ only-size b h x l n = by-test (eqb h n)
 module _ (t : Term) where
   turned-size : (x : ℤ) → natAbs x ≤ 2000 → (n : ℕ) → natAbs (turned x t n) ≤ 4000
   turned-size x l n =
-      let i-part = only-size 2000 (natAbs (t .i)) (negℤ x) (omega (arith, abs-neg x)) n in
-      let k-part = only-size 2000 (natAbs (t .k)) x l n in
-      omega (arith, abs-add (only (natAbs (t .i)) (negℤ x) n) (only (natAbs (t .k)) x n))
+      let i-part = placed-size 2000 (natAbs (t .i)) (negℤ x) (omega (arith, abs-neg x)) n in
+      let k-part = placed-size 2000 (natAbs (t .k)) x l n in
+      omega (arith, abs-add (placed (natAbs (t .i)) (negℤ x) n) (placed (natAbs (t .k)) x n))
 
   of-kind : (letter : Letter) (m : ℕ) → SoundOf letter m t → (n : ℕ) → natAbs (shareOf letter t n) ≤ 4000
   of-kind P m s n = turned-size (pos 100) (omega arith) n
@@ -75,16 +75,16 @@ pub tally-size : (m n : ℕ) (term : ℕ → Term) → n ≤ 12 → AllSound m n
 tally-size m n term few s h = omega (arith, sum-abs n 4000 (λ j. share (term j) h) (λ j l. share-size (term j) m (s j l) h))
 
 -- ---- sums over the direction numbers 0 to m
-pub only-sum : (h : ℕ) (x : ℤ) (n : ℕ) → h < n → sum n (only h x) ≡ x
-only-sum h x n l =
-    sum-only n h (only h x) l (λ i k e t. cond (ne-eqb h i (λ d. e (sym d)) t) x (pos 0))
+pub placed-sum : (h : ℕ) (x : ℤ) (n : ℕ) → h < n → sum n (placed h x) ≡ x
+placed-sum h x n l =
+    sum-only n h (placed h x) l (λ i k e t. cond (ne-eqb h i (λ d. e (sym d)) t) x (pos 0))
     ∙ (λ t. cond (eq-eqb h h refl t) x (pos 0))
 
 module _ (m : ℕ) (t : Term) where
   pub turned-sum : (x : ℤ) → Ends m t → sum (suc m) (turned x t) ≡ pos 0
   turned-sum x e =
-      sum-add (suc m) (only (natAbs (t .i)) (negℤ x)) (only (natAbs (t .k)) x)
-      ∙ (λ d. only-sum (natAbs (t .i)) (negℤ x) (suc m) (omega (arith, e .i .high)) d +ℤ only-sum (natAbs (t .k)) x (suc m) (omega (arith, e .k .high)) d)
+      sum-add (suc m) (placed (natAbs (t .i)) (negℤ x)) (placed (natAbs (t .k)) x)
+      ∙ (λ d. placed-sum (natAbs (t .i)) (negℤ x) (suc m) (omega (arith, e .i .high)) d +ℤ placed-sum (natAbs (t .k)) x (suc m) (omega (arith, e .k .high)) d)
       ∙ +ℤ-invl x
 
   none-of-kind : (letter : Letter) → SoundOf letter m t → sum (suc m) (shareOf letter t) ≡ pos 0

@@ -1,3 +1,4 @@
 pub mod Terms
 pub mod Rules
+pub mod Promise
 pub mod Sound

@@ -66,12 +66,12 @@ termFault m letter value d i k = fault m (record { letter = letterOf (pos letter
 
 -- ---- what it adds to the coefficient of direction number h
 -- x at the number n, and nothing elsewhere
-abbrev pub only : ℕ → ℤ → ℕ → ℤ
-only n x h = cond (eqb n h) x (pos 0)
+abbrev pub placed : ℕ → ℤ → ℕ → ℤ
+placed n x h = cond (eqb n h) x (pos 0)
 
 -- an angle from i to k with the factor x: "-x to i and +x to k"
 abbrev pub turned : ℤ → Term → ℕ → ℤ
-turned x t h = only (natAbs (t .i)) (negℤ x) h +ℤ only (natAbs (t .k)) x h
+turned x t h = placed (natAbs (t .i)) (negℤ x) h +ℤ placed (natAbs (t .k)) x h
 
 -- An angle "adds -100 to the coefficient of i and +100 to that of k". A side term "on the left [..] adds -d to i and +d to k; on the right the reverse"
 abbrev pub shareOf : Letter → Term → ℕ → ℤ

@@ -1,7 +1,7 @@
 // One condition's lent terms: its coefficients and its misclosure. Both operations make the same checks, in checks.rt.
 ghost use mathlib.Core.Path.{_≡_};
-ghost use lib.ListN.{length};
-ghost use Rattle.condition.specs.Rules.{lent, targetFault, coefficientsReply, coefficientsList, misclosureFigure};
+ghost use Rattle.condition.specs.Rules.{lent, targetFault};
+ghost use Rattle.condition.specs.Promise.{Coefficients, Misclosed};
 ghost use Rattle.condition.specs.Terms.{termFault};
 use crate::term::Term;
 use reply::Figure;
@@ -33,14 +33,10 @@ pub fn coefficients(
     k: &[i64],
     a: &mut [i64],
 ) -> Reply
-    ensures reply { λ r. ⌜ r ≡ coefficientsReply
+    ensures { λ r. ⌜ Coefficients
         (lent (now (directions .entry)) (now (q .entry)) kind target
         (now (kinds .entry)) (now (values .entry)) (now (d .entry)) (now (i .entry)) (now (k .entry)))
-        (length (now (a .entry))) ⌝ }
-    ensures list { λ r. ⌜ now (a .exit) ≡ coefficientsList
-        (lent (now (directions .entry)) (now (q .entry)) kind target
-        (now (kinds .entry)) (now (values .entry)) (now (d .entry)) (now (i .entry)) (now (k .entry)))
-        (now (a .entry)) ⌝ }
+        (now (a .entry)) r (now (a .exit)) ⌝ }
 {
     if a.len() != directions.len() {
         return Reply::Refused(Refusal::Count(0));
@@ -97,9 +93,9 @@ pub fn misclosure(
     i: &[i64],
     k: &[i64],
 ) -> Figure
-    ensures { λ r. ⌜ r ≡ misclosureFigure
+    ensures { λ r. ⌜ Misclosed
         (lent (now (directions .entry)) (now (q .entry)) kind target
-        (now (kinds .entry)) (now (values .entry)) (now (d .entry)) (now (i .entry)) (now (k .entry))) ⌝ }
+        (now (kinds .entry)) (now (values .entry)) (now (d .entry)) (now (i .entry)) (now (k .entry))) r ⌝ }
 {
     let checked = checks::all(directions, q, kind, target, kinds, values, d, i, k);
     match checked {

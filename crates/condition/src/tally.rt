@@ -7,7 +7,7 @@ ghost use lib.ListN.{length, getD};
 ghost use Rattle.exact.specs.First.{some-below};
 ghost use Rattle.exact.specs.Sum.{sum};
 ghost use Rattle.exact.specs.Tabulate.{tabulate};
-ghost use Rattle.condition.specs.Terms.{only, turned, share};
+ghost use Rattle.condition.specs.Terms.{placed, turned, share};
 ghost use Rattle.condition.specs.Rules.{termAt};
 ghost use Rattle.condition.specs.Sound.{Ends, Sound, Fields, AllSound};
 ghost use Rattle.exact.specs.Within.{Within};
@@ -19,7 +19,7 @@ use crate::term::Term;
 fn added(mut tally: [i64; 65], h: usize, x: i64) -> [i64; 65]
     requires place { ⌜ h < 65 ⌝ }
     requires small { ⌜ (Within 50000 tally) × (natAbs x ≤ 2000) ⌝ }
-    ensures { λ r. ⌜ ((n : ℕ) → getD r n (pos 0) ≡ getD tally n (pos 0) +ℤ only h x n) ⌝ }
+    ensures { λ r. ⌜ ((n : ℕ) → getD r n (pos 0) ≡ getD tally n (pos 0) +ℤ placed h x n) ⌝ }
 {
     tally[h] = tally[h] + x;
     tally

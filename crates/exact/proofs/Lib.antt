@@ -1,3 +1,4 @@
+pub mod Unique
 pub mod Ring
 pub mod Linear
 pub mod Identity

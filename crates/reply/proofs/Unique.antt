@@ -3,9 +3,10 @@
 --   one-refused, one-told              of `refuse` and `tell`
 --   no-refusal-is-0                    no refusal has the number 0
 --   only-accepted-is-0                 a verdict's number is 0 where the input is accepted, and nowhere else
-use mathlib.Core.Path.{_≡_, refl, sym, _∙_}
+use mathlib.Core.Path.{_≡_, refl}
 use Prim.Native.Nat.{ℕ}
 use native.Mathlib.Omega.{arith}
+use Rattle.exact.proofs.Unique.{only}
 use Rattle.reply.specs.declared.Refusal.{Refusal}
 use Rattle.reply.specs.declared.Refusal.the-variants.{Malformed, Count, OutOfRange, Coefficient, Misclosure, WeakRow, Correlate, Remainder, Sightings, Field, Faces, Initial, FacesApart, Spread}
 use Rattle.reply.specs.declared.Reply.{Reply}
@@ -15,16 +16,16 @@ use Rattle.reply.specs.Numbers.{numberOf, placeOf}
 use Rattle.reply.specs.Verdicts.{refused, verdictOf}
 
 pub one-number : (why : Refusal) (n n′ : ℕ) → n ≡ numberOf why → n′ ≡ numberOf why → n ≡ n′
-one-number why n n′ x y = x ∙ sym y
+one-number why n n′ x y = only x y
 
 pub one-place : (why : Refusal) (n n′ : ℕ) → n ≡ placeOf why → n′ ≡ placeOf why → n ≡ n′
-one-place why n n′ x y = x ∙ sym y
+one-place why n n′ x y = only x y
 
 pub one-refused : (why : Refusal) (v v′ : Verdict) → v ≡ refused why → v′ ≡ refused why → v ≡ v′
-one-refused why v v′ x y = x ∙ sym y
+one-refused why v v′ x y = only x y
 
 pub one-told : (r : Reply) (v v′ : Verdict) → v ≡ verdictOf r → v′ ≡ verdictOf r → v ≡ v′
-one-told r v v′ x y = x ∙ sym y
+one-told r v v′ x y = only x y
 
 pub no-refusal-is-0 : (why : Refusal) → numberOf why ≡ 0 → ⊥
 no-refusal-is-0 (Malformed line) e = omega (arith, e)

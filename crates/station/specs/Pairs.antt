@@ -42,6 +42,8 @@ pub record Entered (b : Book) (m : ℕ) : Type 0 where
 pub record JoinedRightly (b : Book) : Type 0 where
   -- every pair that enters a direction is made of one left and one right sighting of the list with the same position and the same object
   pub made : (i j : ℕ) → i < 16 → j < 16 → seen (counts b) i j ≡ true → Joined b i j
+  -- and every such pair enters, so that `seen` is a test as `counted` below asks for
+  pub is-seen : (i j : ℕ) → i < 16 → j < 16 → Joined b i j → seen (counts b) i j ≡ true
   -- each sighting enters a pair,
   pub enters : (m : ℕ) → m < sightings b → Entered b m
   -- and no sighting enters two: not as the left of both, nor as the right of both, nor as the left of one and the right of another

@@ -6,6 +6,7 @@ use Prim.Native.Nat.{ℕ, _+_, _/_, _%_}
 use lib.IntN.{ℤ}
 use lib.ListN.{length}
 use Rattle.reply.specs.Checks.{refuseIf, refuseFirst, _andThen_, leaves}
+use Rattle.reply.specs.Verdicts.{verdictOf}
 use Rattle.reply.specs.declared.Refusal.{Refusal}
 use Rattle.reply.specs.declared.Refusal.the-variants.{Sightings, Field, Faces, Initial, FacesApart, Spread}
 use Rattle.reply.specs.declared.Reply.{Reply}
@@ -55,5 +56,7 @@ replyOf b directions pairs = lengthsReply b directions pairs andThen fieldsReply
 -- "a refusal returns number and place only; all lent lists stay as they were"
 pub record Answers (b : Book) (d p : List ℤ) (reply : Reply) (directionsNow pairsNow : List ℤ) : Type 0 where
   pub replied : reply ≡ replyOf b (length d) (length p)
+  -- in the rules' numbers: number and place
+  pub verdict : verdictOf reply ≡ verdictOf (replyOf b (length d) (length p))
   pub directionsAre : directionsNow ≡ leaves reply (directions (counts b) (readings b)) d
   pub pairsAre : pairsNow ≡ leaves reply (pairCounts (counts b)) p

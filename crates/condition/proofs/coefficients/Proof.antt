@@ -12,10 +12,11 @@ use Rattle.exact.specs.Tabulate.{tabulate}
 use Rattle.reply.specs.declared.Refusal.{Refusal}
 use Rattle.reply.specs.declared.Refusal.the-variants.{Count, Coefficient}
 use Rattle.reply.specs.declared.Reply.the-variants.{Accepted, Refused}
-use Rattle.condition.specs.Rules.{Lent, lent, term, checks, coefficient, beyond, coefficientsReply, coefficientsList}
+use Rattle.condition.specs.Rules.{Lent, lent, term, checks, coefficient, beyond, coefficientsReply}
+use Rattle.condition.specs.Promise.{Coefficients}
 use Rattle.condition.proofs.Accepting.{Accepts, accepted}
 use Rattle.condition.proofs.Shares.{sound-among}
-use Rattle.condition.proofs.Answering.{no-room, not-checked, too-large, all-right, kept, filled}
+use Rattle.condition.proofs.Answering.{no-room, not-checked, too-large, all-right, kept, filled, coefficients-kept}
 use Rattle.condition.proofs.coefficients.Statement.{statement}
 use Rattle.condition.proofs.coefficients.Tie as tie
 
@@ -47,8 +48,8 @@ test c = c .beyond .ensures ∙ (λ d. some-below (length (l (s (c .before)) .di
 -- ---- the answers
 -- a refusal: its reply, and the list as it was
 refusal : (s : tie.Start) (why : Refusal) → let b = s .args .a .now in
-    coefficientsReply (l s) (length b) ≡ Refused why → (Refused why ≡ coefficientsReply (l s) (length b)) × (b ≡ coefficientsList (l s) b)
-refusal s why e = (sym e, sym (kept (l s) (s .args .a .now) why e))
+    coefficientsReply (l s) (length b) ≡ Refused why → Coefficients (l s) b (Refused why) b
+refusal s why e = coefficients-kept (sym e) (sym (kept (l s) (s .args .a .now) why e))
 
 returns : tie.Need-returns
 returns c = let s = c .before in refusal s (Count 0) (no-room (l s) (length (s .args .a .now)) (c .if1 .taken))
@@ -93,12 +94,11 @@ returns-4 : tie.Need-returns-4
 returns-4 c =
     let u = c .before .before .before in let o = u .before .before in let e = o .before in let s = s o in
     let b = s .args .a .now in let same = e .before .before .before .if1 .left in
-    let r = all-right (l s) (length b) same (passed e) (sym (test (u .before)) ∙ u .if2 .left) in (
-      sym r,
-      c .before .hand-over .ensures
-          ∙ (λ d. tabulate (same d) (λ h. tally-is o (h + 1) d))
-          ∙ sym (filled (l s) b r),
-    )
+    let r = all-right (l s) (length b) same (passed e) (sym (test (u .before)) ∙ u .if2 .left) in
+    coefficients-kept (sym r)
+    (c .before .hand-over .ensures
+    ∙ (λ d. tabulate (same d) (λ h. tally-is o (h + 1) d))
+    ∙ sym (filled (l s) b r))
 
 pub coefficients-spec : {M : Type 1} → statement M
 coefficients-spec =

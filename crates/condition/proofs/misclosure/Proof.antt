@@ -17,6 +17,7 @@ use Rattle.condition.specs.Terms.{part}
 use Rattle.condition.specs.Rules.{Lent, lent, term, checks, wOf, misclosure, judged, misclosureFigure}
 use Rattle.condition.proofs.Accepting.{Accepts, accepted}
 use Rattle.condition.proofs.Parts.{total-size}
+use Rattle.condition.proofs.Answering.{misclosure-kept}
 use Rattle.condition.proofs.misclosure.Statement.{statement}
 use Rattle.condition.proofs.misclosure.Tie as tie
 
@@ -64,7 +65,7 @@ enum-known-checked c = search needs
 
 returns : tie.Need-returns
 unfolding misclosureFigure
-returns c = rw (sym (checked (c .before .before .before)) ∙ c .before .checked .given .1)
+returns c = misclosure-kept (rw (sym (checked (c .before .before .before)) ∙ c .before .checked .given .1))
 
 total-requires : tie.Need-total-requires
 total-requires c κs =
@@ -113,12 +114,12 @@ judged-requires-2 c κs = search needs
 returns-2 : tie.Need-returns-2
 returns-2 c =
     let e = c .before in
-    c .judged .ensures ∙ answer (t e) Angle _ (e .enum-told2 .given .1) (angle-w e)
+    misclosure-kept (c .judged .ensures ∙ answer (t e) Angle _ (e .enum-told2 .given .1) (angle-w e))
 
 returns-3 : tie.Need-returns-3
 returns-3 c =
     let e = c .before in
-    c .judged2 .ensures ∙ answer (e .before .before) Side _ (e .enum-told3 .given .1) (side-w e)
+    misclosure-kept (c .judged2 .ensures ∙ answer (e .before .before) Side _ (e .enum-told3 .given .1) (side-w e))
 
 pub misclosure-spec : {M : Type 1} → statement M
 misclosure-spec =

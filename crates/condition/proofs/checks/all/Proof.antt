@@ -36,7 +36,7 @@ module _ (c : tie.Else2) where
   counts = counted (l s) counts-right
 
 directions-right : (c : tie.After-enum-told) → let l = l (s (c .before .before .before)) in directionsReply (l .directions) (l .q) ≡ Accepted
-directions-right c = sym (c .before .before .check .ensures) ∙ c .enum-told .given .1
+directions-right c = sym (c .before .before .check .ensures .answer) ∙ c .enum-told .given .1
 
 target-test : (c : tie.After-target-check) → let l = l (s (c .before .before .before .before)) in c .target-check .result ≡ targetCheck (l .kind) (l .target)
 target-test c = let f = s (c .before .before .before .before) .fits .target in c .target-check .ensures ∙ simp toZ-ofZ
@@ -72,7 +72,7 @@ returns-3 : tie.Need-returns-3
 unfolding checks
 returns-3 c =
     let e = c .before .before .before in
-    rw (counts-right (e .before), sym (e .check .ensures) ∙ c .before .of-directions .given .1)
+    rw (counts-right (e .before), sym (e .check .ensures .answer) ∙ c .before .of-directions .given .1)
 
 target-check-requires : tie.Need-target-check-requires
 target-check-requires c κs = search needs

@@ -8,7 +8,7 @@ use lib.ListN.{length, getD, set}
 use mir.Syntax.{w64}
 use mir.Val.{SFits, toZ, ofZ}
 use Rattle.exact.proofs.Bound.{bounds, bounded, fits-in, fits-within, read}
-use Rattle.condition.proofs.Shares.{only-more}
+use Rattle.condition.proofs.Shares.{placed-more}
 use Rattle.condition.proofs.tally.added.Statement.{statement}
 use Rattle.condition.proofs.tally.added.Tie as tie
 
@@ -47,7 +47,7 @@ array-set-from-tally c = search needs
 returns : tie.Need-returns
 returns c n =
     let s = c .before in let a = s .args in
-    ap (λ (v : ℤ). getD (set (a .t1) (a .h) v) n (pos 0)) (new-is s) ∙ only-more (a .t1) (a .h) (a .x) (omega (arith, long s, s .pre .0)) n
+    ap (λ (v : ℤ). getD (set (a .t1) (a .h) v) n (pos 0)) (new-is s) ∙ placed-more (a .t1) (a .h) (a .x) (omega (arith, long s, s .pre .0)) n
 
 pub added-spec : {M : Type 1} → statement M
 added-spec =

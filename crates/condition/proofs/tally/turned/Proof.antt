@@ -9,9 +9,9 @@ use mir.Val.{toZ, ofZ}
 use Rattle.exact.specs.Within.{Within}
 use Rattle.exact.proofs.Bound.{abs-add, read}
 use Rattle.condition.specs.declared.term.Term.{Term}
-use Rattle.condition.specs.Terms.{only}
+use Rattle.condition.specs.Terms.{placed}
 use Rattle.condition.proofs.Testing.{negated-small, negated-fits, negated-read, number-read, number-cast}
-use Rattle.condition.proofs.Shares.{only-size}
+use Rattle.condition.proofs.Shares.{placed-size}
 use Rattle.condition.proofs.tally.turned.Statement.{statement}
 use Rattle.condition.proofs.tally.turned.Tie as tie
 
@@ -49,13 +49,13 @@ module _ (c : tie.After-added) where
   abbrev s : tie.Start
   s = c .before .before .before
 
-  less-is : (n : ℕ) → getD (c .added .result) n (pos 0) ≡ getD (s .args .tally) n (pos 0) +ℤ only (natAbs (t s .i)) (negℤ (x s)) n
-  less-is n = c .added .ensures n ∙ (λ d. getD (s .args .tally) n (pos 0) +ℤ only (natAbs (i-read s d)) (negated-read (x s) (x-small s) tt d) n)
+  less-is : (n : ℕ) → getD (c .added .result) n (pos 0) ≡ getD (s .args .tally) n (pos 0) +ℤ placed (natAbs (t s .i)) (negℤ (x s)) n
+  less-is n = c .added .ensures n ∙ (λ d. getD (s .args .tally) n (pos 0) +ℤ placed (natAbs (i-read s d)) (negated-read (x s) (x-small s) tt d) n)
 
   less-small : Within 50000 (c .added .result)
   less-small n =
-      let a = only (natAbs (t s .i)) (negℤ (x s)) n in let b = getD (s .args .tally) n (pos 0) in
-      rw (less-is n) (omega (arith, abs-add b a, s .pre .1 .0 n, only-size 2000 (natAbs (t s .i)) (negℤ (x s)) (negated-small (x s) (x-small s)) n))
+      let a = placed (natAbs (t s .i)) (negℤ (x s)) n in let b = getD (s .args .tally) n (pos 0) in
+      rw (less-is n) (omega (arith, abs-add b a, s .pre .1 .0 n, placed-size 2000 (natAbs (t s .i)) (negℤ (x s)) (negated-small (x s) (x-small s)) n))
 
 cast-added-2 : tie.Need-cast-added-2
 cast-added-2 c = number-cast 64 (t (s c) .k) (s c .pre .0 .k) (omega arith)
@@ -68,7 +68,7 @@ returns : tie.Need-returns
 returns c n =
     let e = c .before in let s = s e in
     c .added2 .ensures n
-    ∙ rw (k-read s, read (s .fits .x), less-is e n) (+ℤ-assoc (getD (s .args .tally) n (pos 0)) (only (natAbs (t s .i)) (negℤ (x s)) n) (only (natAbs (t s .k)) (x s) n))
+    ∙ rw (k-read s, read (s .fits .x), less-is e n) (+ℤ-assoc (getD (s .args .tally) n (pos 0)) (placed (natAbs (t s .i)) (negℤ (x s)) n) (placed (natAbs (t s .k)) (x s) n))
 
 pub turned-spec : {M : Type 1} → statement M
 turned-spec =
