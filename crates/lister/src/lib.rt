@@ -66,7 +66,7 @@ fn read_whole(fd: i32, buf: &mut [u8]) -> Input
 // Writes the listing of a file. Answers whether all of it was written.
 fn write_listing(file: &[u8]) -> bool {
     let mut out = [0u8; network::LISTING];
-    let n = network::adjust(file, &mut out);
+    let n = network::list(file, &mut out);
     io::write_all(STDOUT_FILENO, &out[..n])
 }
 

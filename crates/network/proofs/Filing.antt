@@ -27,8 +27,7 @@ use Rattle.reply.specs.declared.Verdict.{Verdict}
 use Rattle.reply.specs.Numbers.{numberOf, placeOf}
 use Rattle.reply.proofs.Checking.{both-accepted}
 use Rattle.adjustment.specs.Solution.{K}
-use Rattle.adjustment.specs.Corrections.{V-of, R-of, u-of, Q-of}
-use Rattle.adjustment.specs.Demand.{Demand3}
+use Rattle.adjustment.specs.Corrections.{u-of}
 use Rattle.adjustment.specs.Promise.{adjustReply}
 use Rattle.adjustment.proofs.Promising.{accepted-demand3}
 use Rattle.network.specs.declared.Listed.{Listed}
@@ -36,7 +35,7 @@ use Rattle.network.specs.Lines.{linesOf}
 use Rattle.network.specs.Scan.{none, scanReply}
 use Rattle.network.specs.Listing.{refusedLine, Wrote}
 use Rattle.network.specs.Net.{Net, netOf, netFrom, conditionsReply, rowsOf, misclosuresOf, tableIn, room, netReply, netAnswers, fileReply}
-use Rattle.network.specs.File.{answersListing, netListing, ListedBy, adjustFileReply, AdjustsFile, refusedLineIn, listingFor, listingOf, listingIn}
+use Rattle.network.specs.File.{netListing, fileListing, FileDemand3, ListedBy, adjustFileReply, AdjustsFile, refusedLineIn, listingFor, listingOf, listingIn}
 use Rattle.network.proofs.Composing.{rewrote, one-wrote, refused-most}
 use Rattle.network.proofs.Bounding.{scan-bounds}
 use Rattle.network.proofs.Passing.{file-passed}
@@ -47,7 +46,7 @@ module _ (file : List ℕ) where
   net = netOf (linesOf file)
 
   -- ---- demand 3
-  pub file-demand3 : fileReply file ≡ Accepted → let t = tableIn net in Demand3 t (V-of t (K t)) (u-of t (K t)) (R-of t (K t)) (Q-of t (K t))
+  pub file-demand3 : fileReply file ≡ Accepted → FileDemand3 file
   unfolding fileReply netReply tableIn
   file-demand3 e =
       let rows = rowsOf (net .directions) (net .q) (net .conditions) in
@@ -58,7 +57,7 @@ module _ (file : List ℕ) where
       (both-accepted (conditionsReply (net .directions) (net .q) 1 (net .conditions)) (adjustReply (net .directions) (net .q) rows closings lent) solved .1)
 
   -- ---- the longest listing
-  pub file-most : fileReply file ≡ Accepted → length (netListing net) ≤ 6560
+  pub file-most : fileReply file ≡ Accepted → length (fileListing file) ≤ 6560
   unfolding fileReply netListing netAnswers netFrom tableIn
   file-most e =
       let scanned = both-accepted (scanReply file) (netReply net) e .0 in let r = scan-bounds file scanned in let p = file-passed file scanned in
@@ -77,7 +76,7 @@ module _ (file : List ℕ) where
 
   -- ---- `adjust`
   module _ (before : List ℕ) where
-    kept : {listed : Listed} {after : List ℕ} → ListedBy (adjustFileReply file (length before)) (netListing net) before listed after → AdjustsFile file before listed after
+    kept : {listed : Listed} {after : List ℕ} → ListedBy (adjustFileReply file (length before)) (fileListing file) before listed after → AdjustsFile file before listed after
     unfolding adjustFileReply
     kept {listed} l = record {
       lists = l;
@@ -145,8 +144,8 @@ module _ (file : List ℕ) where
     pub one-answer : (r r' : Listed) (after after' : List ℕ) → AdjustsFile file before r after → AdjustsFile file before r' after' → (r ≡ r') × (after ≡ after')
     one-answer r r' after after' a b =
         let e : r .reply ≡ r' .reply = a .lists .answer ∙ sym (b .lists .answer) in
-        let f : r .length ≡ r' .length = a .lists .length-is ∙ ap (λ (x : Reply). leaves x (length (netListing net)) 0) e ∙ sym (b .lists .length-is) in
-        ((λ i. record { reply = e i; length = f i }), a .lists .buffer ∙ ap (λ (x : Reply). leaves x (sets before 0 (netListing net)) before) e ∙ sym (b .lists .buffer))
+        let f : r .length ≡ r' .length = a .lists .length-is ∙ ap (λ (x : Reply). leaves x (length (fileListing file)) 0) e ∙ sym (b .lists .length-is) in
+        ((λ i. record { reply = e i; length = f i }), a .lists .buffer ∙ ap (λ (x : Reply). leaves x (sets before 0 (fileListing file)) before) e ∙ sym (b .lists .buffer))
 
     pub one-listing : (r r' : ℕ) (after after' : List ℕ) → Wrote before 0 (listingIn file (length before)) after r → Wrote before 0 (listingIn file (length before)) after' r' → (r ≡ r') × (after ≡ after')
     one-listing r r' after after' a b = one-wrote a b

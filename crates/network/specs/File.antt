@@ -36,6 +36,14 @@ tableListing ds q a w = answersListing (answersOf (tableOf q a w) (K (tableOf q 
 unfoldable pub netListing : Net → List ℕ
 netListing net = answersListing (netAnswers net)
 
+-- of an accepted file
+abbrev pub fileListing : List ℕ → List ℕ
+fileListing file = netListing (netOf (linesOf file))
+
+-- demand 3 of a file, of the table that its lines give: its V lines have u, and its K lines R and Q
+abbrev pub FileDemand3 : List ℕ → Type 0
+FileDemand3 file = let t = tableIn (netOf (linesOf file)) in Demand3 t (V-of t (K t)) (u-of t (K t)) (R-of t (K t)) (Q-of t (K t))
+
 -- ---- the operation on a file: where the reply is to accept, the listing stands at the start of the lent buffer, and its length is answered;
 -- "a refusal returns number and place only; all lent lists stay as they were"
 pub record ListedBy (rule : Reply) (listing before : List ℕ) (listed : Listed) (after : List ℕ) : Type 0 where
@@ -48,11 +56,11 @@ unfoldable pub adjustFileReply : (file : List ℕ) (room : ℕ) → Reply
 adjustFileReply file room = refuseIf (ltb room 6560) (Count 0) andThen fileReply file
 
 pub record AdjustsFile (file before : List ℕ) (listed : Listed) (after : List ℕ) : Type 0 where
-  pub lists : ListedBy (adjustFileReply file (length before)) (netListing (netOf (linesOf file))) before listed after
+  pub lists : ListedBy (adjustFileReply file (length before)) (fileListing file) before listed after
   -- in the rules' numbers: number and place
   pub verdict : verdictOf (listed .reply) ≡ verdictOf (adjustFileReply file (length before))
-  -- demand 3 of every accepted file, of the table that its lines give: its V lines have u, and its K lines R and Q
-  pub demand3 : listed .reply ≡ Accepted → let t = tableIn (netOf (linesOf file)) in Demand3 t (V-of t (K t)) (u-of t (K t)) (R-of t (K t)) (Q-of t (K t))
+  -- and of every accepted file demand 3
+  pub demand3 : listed .reply ≡ Accepted → FileDemand3 file
 
 -- ---- "A refusal prints one line: REFUSED, number, place." None, where the lent buffer has fewer than 52 bytes
 unfoldable pub refusedLineIn : Verdict → (room : ℕ) → List ℕ

@@ -1,4 +1,3 @@
-pub mod Verdicts
 pub mod Promises
 pub mod Terms
 pub mod Statuses

@@ -6,9 +6,9 @@ use lib.Dec.{eqb}
 use lib.IntN.{ℤ}
 use Rattle.reply.specs.declared.Refusal.the-variants.{Malformed}
 use Rattle.reply.specs.declared.Reply.{Reply}
-use Rattle.reply.specs.declared.Reply.the-variants.{Accepted, Refused}
+use Rattle.reply.specs.declared.Reply.the-variants.{Refused}
 use Rattle.reply.specs.declared.Figure.{Figure}
-use Rattle.reply.specs.declared.Figure.the-variants.{Value, Refused as NoFigure}
+use Rattle.reply.specs.declared.Figure.the-variants.{Refused as NoFigure}
 use Rattle.condition.specs.declared.Kind.{Kind}
 use Rattle.condition.specs.declared.Kind.the-variants.{Angle, Side}
 use Rattle.condition.specs.Rules.{Lent, lent, coefficientsReply, coefficientsList, misclosureFigure}
@@ -35,12 +35,3 @@ coefficientsListUnder Unknown l before = before
 abbrev pub misclosureUnder : Heading → (Kind → Lent) → Figure
 misclosureUnder (Named kind) l = misclosureFigure (l kind)
 misclosureUnder Unknown l = NoFigure (Malformed 0)
-
--- a figure as the reply to a caller who lends the place for one number, and what then stands there: after a refusal, what stood there before
-abbrev pub figureReply : Figure → Reply
-figureReply (Value w) = Accepted
-figureReply (NoFigure why) = Refused why
-
-abbrev pub figureLeaves : Figure → ℤ → ℤ
-figureLeaves (Value w) before = w
-figureLeaves (NoFigure why) before = before

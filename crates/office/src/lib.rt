@@ -6,50 +6,22 @@ ghost use lib.ListN.{length, take, drop};
 ghost use Rattle.station.specs.Sightings.{book};
 ghost use Rattle.adjustment.specs.Promise.{lists};
 ghost use Rattle.network.specs.Lines.{lineAt, statusAt};
-ghost use Rattle.network.specs.File.{Lists};
-ghost use Rattle.office.specs.Verdicts.{refused, verdictOf};
-ghost use Rattle.office.specs.Promises.{Means, Table};
-ghost use Rattle.office.specs.Terms.{headingOf, termsOf, coefficientsReplyUnder, coefficientsListUnder, misclosureUnder, figureReply, figureLeaves};
+ghost use Rattle.network.specs.Listing.{Wrote};
+ghost use Rattle.network.specs.File.{refusedLineIn, listingIn};
+ghost use Rattle.office.specs.Promises.{Means, Coefficients, Misclosed, Table, File};
+ghost use Rattle.office.specs.Terms.{headingOf, termsOf};
 ghost use Rattle.office.specs.Statuses.{statusNumber};
 use condition::Kind;
 use network::line::LineStatus;
 use reply::Figure;
 use reply::Refusal;
 use reply::Reply;
-
-// What a caller is told: 0 and 0 where the input is accepted, else the rules' number and place of the refusal.
-#[repr(C)]
-pub struct Verdict {
-    pub number: u64,
-    pub place: u64,
-}
+use reply::Verdict;
 
 // The kind of condition that a letter names.
 enum Heading {
     Named(Kind),
     Unknown,
-}
-
-// The verdict on a refusal.
-fn refuse(why: Refusal) -> Verdict
-    ensures { λ v. ⌜ v ≡ refused why ⌝ }
-{
-    let number = reply::number(why);
-    let place = reply::place(why);
-    Verdict { number, place }
-}
-
-// The verdict on a reply.
-fn tell(reply: Reply) -> Verdict
-    ensures { λ v. ⌜ v ≡ verdictOf reply ⌝ }
-{
-    match reply {
-        Reply::Accepted => Verdict {
-            number: 0,
-            place: 0,
-        },
-        Reply::Refused(why) => refuse(why),
-    }
 }
 
 // A is an angle condition, S a side condition.
@@ -79,7 +51,7 @@ pub extern "C" fn molsadriu_station_means(
         (now (direction .entry)) (now (pairs .entry)) v (now (direction .exit)) (now (pairs .exit)) ⌝ }
 {
     let reply = station::means(position, object, face, reading, direction, pairs);
-    tell(reply)
+    reply::tell(reply)
 }
 
 // The coefficients of one condition, into a lent list of as many numbers as there are directions.
@@ -96,21 +68,17 @@ pub extern "C" fn molsadriu_coefficients(
     k: &[i64],
     a: &mut [i64],
 ) -> Verdict
-    ensures verdict { λ v. ⌜ v ≡ verdictOf (coefficientsReplyUnder (headingOf letter)
+    ensures { λ v. ⌜ Coefficients (headingOf letter)
         (termsOf (now (directions .entry)) (now (q .entry)) target
         (now (kinds .entry)) (now (values .entry)) (now (d .entry)) (now (i .entry)) (now (k .entry)))
-        (length (now (a .entry)))) ⌝ }
-    ensures list { λ v. ⌜ now (a .exit) ≡ coefficientsListUnder (headingOf letter)
-        (termsOf (now (directions .entry)) (now (q .entry)) target
-        (now (kinds .entry)) (now (values .entry)) (now (d .entry)) (now (i .entry)) (now (k .entry)))
-        (now (a .entry)) ⌝ }
+        (now (a .entry)) v (now (a .exit)) ⌝ }
 {
     let heading = kind_named(letter);
     let Heading::Named(kind) = heading else {
-        return refuse(Refusal::Malformed(0));
+        return reply::refuse(Refusal::Malformed(0));
     };
     let reply = condition::coefficients(directions, q, kind, target, kinds, values, d, i, k, a);
-    tell(reply)
+    reply::tell(reply)
 }
 
 // The misclosure of the same condition, into one lent number.
@@ -127,25 +95,22 @@ pub extern "C" fn molsadriu_misclosure(
     k: &[i64],
     w: &mut i64,
 ) -> Verdict
-    ensures verdict { λ v. ⌜ v ≡ verdictOf (figureReply (misclosureUnder (headingOf letter)
+    ensures { λ v. ⌜ Misclosed (headingOf letter)
         (termsOf (now (directions .entry)) (now (q .entry)) target
-        (now (kinds .entry)) (now (values .entry)) (now (d .entry)) (now (i .entry)) (now (k .entry))))) ⌝ }
-    ensures value { λ v. ⌜ now (w .exit) ≡ figureLeaves (misclosureUnder (headingOf letter)
-        (termsOf (now (directions .entry)) (now (q .entry)) target
-        (now (kinds .entry)) (now (values .entry)) (now (d .entry)) (now (i .entry)) (now (k .entry))))
-        (now (w .entry)) ⌝ }
+        (now (kinds .entry)) (now (values .entry)) (now (d .entry)) (now (i .entry)) (now (k .entry)))
+        (now (w .entry)) v (now (w .exit)) ⌝ }
 {
     let heading = kind_named(letter);
     let Heading::Named(kind) = heading else {
-        return refuse(Refusal::Malformed(0));
+        return reply::refuse(Refusal::Malformed(0));
     };
     let figure = condition::misclosure(directions, q, kind, target, kinds, values, d, i, k);
     match figure {
         Figure::Value(value) => {
             *w = value;
-            tell(Reply::Accepted)
+            reply::tell(Reply::Accepted)
         }
-        Figure::Refused(why) => refuse(why),
+        Figure::Refused(why) => reply::refuse(why),
     }
 }
 
@@ -180,16 +145,39 @@ pub extern "C" fn molsadriu_adjust_table(
         remainders,
         misses,
     );
-    tell(reply)
+    reply::tell(reply)
 }
 
-// Adjusts a network file: its listing, into a lent buffer of at least 6,560 bytes, and how many bytes it has.
+// Adjusts a network file: the listing of an accepted one, into a lent buffer of at least 6,560 bytes, and its length, into one lent number.
 #[no_mangle]
-pub extern "C" fn molsadriu_adjust_file(file: &[u8], out: &mut [u8]) -> usize
-    ensures listing { λ r. ⌜ Lists (now (file .entry)) (now (out .entry)) r (now (out .exit)) ⌝ }
-    ensures room { λ r. ⌜ r ≤ length (now (out .entry)) ⌝ }
+pub extern "C" fn molsadriu_adjust_file(file: &[u8], out: &mut [u8], length: &mut usize) -> Verdict
+    ensures { λ v. ⌜ File (now (file .entry)) (now (out .entry)) (now (length .entry)) v (now (out .exit)) (now (length .exit)) ⌝ }
 {
-    network::adjust(file, out)
+    let listed = network::adjust(file, out);
+    let reply = listed.reply;
+    if let Reply::Refused(why) = reply {
+        return reply::refuse(why);
+    }
+    *length = listed.length;
+    reply::tell(Reply::Accepted)
+}
+
+// The REFUSED line of a refusal's number and place, into a lent buffer of at least 52 bytes, and how many bytes it has.
+#[no_mangle]
+pub extern "C" fn molsadriu_refused_line(number: u64, place: u64, out: &mut [u8]) -> usize
+    ensures line { λ r. ⌜ Wrote (now (out .entry)) 0 (refusedLineIn (record { number = number; place = place }) (length (now (out .entry)))) (now (out .exit)) r ⌝ }
+    ensures within { λ r. ⌜ r ≤ length (now (out .entry)) ⌝ }
+{
+    network::refused_line(Verdict { number, place }, out)
+}
+
+// The listing of any network file, accepted or refused, into a lent buffer of at least 6,560 bytes, and how many bytes it has.
+#[no_mangle]
+pub extern "C" fn molsadriu_list_file(file: &[u8], out: &mut [u8]) -> usize
+    ensures listing { λ r. ⌜ Wrote (now (out .entry)) 0 (listingIn (now (file .entry)) (length (now (out .entry)))) (now (out .exit)) r ⌝ }
+    ensures within { λ r. ⌜ r ≤ length (now (out .entry)) ⌝ }
+{
+    network::list(file, out)
 }
 
 // The length of the line that starts at `start`, without its LF. Its bytes are the file's own, from there on.

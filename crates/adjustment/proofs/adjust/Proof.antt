@@ -84,7 +84,7 @@ returns-3 : tie.Need-returns-3
 returns-3 c =
     let k = c .before .before .before in let e = k .before in let s = start e in
     refused-adjusts (ds s) (q s) (a s) (w s) (lent s) _
-    (by-directions (ds s) (q s) (a s) (w s) (lent s) (counts-right (e .before .before)) (lengths-right e) (sym (k .check .ensures) ∙ c .before .by-direction .given .1))
+    (by-directions (ds s) (q s) (a s) (w s) (lent s) (counts-right (e .before .before)) (lengths-right e) (sym (k .check .ensures .answer) ∙ c .before .by-direction .given .1))
 
 enum-told : tie.Need-enum-told
 enum-told c = search needs
@@ -95,7 +95,7 @@ module _ (c : tie.After-enum-told) where
   else2 = c .before .before .before
 
   directions-right : directionsReply (ds (start else2)) (q (start else2)) ≡ Accepted
-  directions-right = sym (c .before .before .check .ensures) ∙ c .enum-told .given .1
+  directions-right = sym (c .before .before .check .ensures .answer) ∙ c .enum-told .given .1
 
 check-conditions-requires : tie.Need-check-conditions-requires
 check-conditions-requires c κs =

@@ -5,11 +5,11 @@ use borrow.Author.Needs.{needs}
 use Rattle.lister.proofs.write_listing.Statement.{statement}
 use Rattle.lister.proofs.write_listing.Tie as tie
 
-slice-aggregate-adjust : tie.Need-slice-aggregate-adjust
-slice-aggregate-adjust c = search needs
+slice-aggregate-list : tie.Need-slice-aggregate-list
+slice-aggregate-list c = search needs
 
-adjust-requires : tie.Need-adjust-requires
-adjust-requires c κs = search needs
+list-requires : tie.Need-list-requires
+list-requires c κs = search needs
 
 array-share-prefix-out : tie.Need-array-share-prefix-out
 array-share-prefix-out c = search needs
@@ -24,4 +24,4 @@ returns : tie.Need-returns
 returns c = search needs
 
 pub write-listing-spec : {M : Type 1} → statement M
-write-listing-spec = tie.close (tie.spec slice-aggregate-adjust adjust-requires array-share-prefix-out slice-aggregate-write-all write-all-requires returns)
+write-listing-spec = tie.close (tie.spec slice-aggregate-list list-requires array-share-prefix-out slice-aggregate-write-all write-all-requires returns)

@@ -45,7 +45,7 @@ returns-2 c =
     let k = c .before .before in let n = k .before .before .before in let s = n .before .before .before in
     let f = s .fits .target in
     coefficients-named _ _ (l s) _ (sym (n .before .before .kind-named .ensures) ∙ n .heading .given .1) _ _ _ (c .tell .ensures)
-    (k .coefficients .ensures .0 ∙ simp toZ-ofZ) (k .coefficients .ensures .1 ∙ simp toZ-ofZ)
+    (simp toZ-ofZ at (k .coefficients .ensures))
 
 pub molsadriu-coefficients-spec : {M : Type 1} → statement M
 molsadriu-coefficients-spec =

@@ -57,14 +57,14 @@ returns-2 c =
     let g = c .before .before in let k = g .before .before in let n = k .before .before in let s = n .before .before .before in
     let f = s .fits .target in
     misclosure-value _ _ (l s) _ (sym (n .before .before .kind-named .ensures) ∙ n .heading .given .1) (g .figure .given .0 .0) _ _ (c .tell .ensures) (value-read (c .before))
-    (sym (k .misclosure .ensures ∙ simp toZ-ofZ) ∙ g .figure .given .1)
+    (sym (k .misclosure .ensures .answer ∙ simp toZ-ofZ) ∙ g .figure .given .1)
 
 returns-3 : tie.Need-returns-3
 returns-3 c =
     let g = c .before .before in let k = g .before .before in let n = k .before .before in let s = n .before .before .before in
     let f = s .fits .target in
     misclosure-refused _ _ (l s) _ (sym (n .before .before .kind-named .ensures) ∙ n .heading .given .1) _ _ (c .refuse2 .ensures)
-    (sym (k .misclosure .ensures ∙ simp toZ-ofZ) ∙ g .figure2 .given .1)
+    (sym (k .misclosure .ensures .answer ∙ simp toZ-ofZ) ∙ g .figure2 .given .1)
 
 pub molsadriu-misclosure-spec : {M : Type 1} → statement M
 molsadriu-misclosure-spec =

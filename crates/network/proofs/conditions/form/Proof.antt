@@ -69,11 +69,11 @@ module _ (e : tie.After-coefficients) where
   unfolding lentOf
   row-reply =
       let f = start .fits .target in
-      sym (e .coefficients .ensures .0 ∙ rw (start .pre .1) (simp toZ-ofZ))
+      sym (e .coefficients .ensures .answer ∙ rw (start .pre .1) (simp toZ-ofZ))
 
   row-list : e .coefficients .last .1 .1 .1 .1 .1 .1 .1 .1 .1 .0 ≡ coefficientsList (lentOf directions q asked) (now (start .args .row))
   unfolding lentOf
-  row-list = let f = start .fits .target in e .coefficients .ensures .1 ∙ simp toZ-ofZ
+  row-list = let f = start .fits .target in e .coefficients .ensures .list ∙ simp toZ-ofZ
 
 -- and what the one on the misclosure has said
 module _ (g : tie.After-misclosure) where
@@ -85,7 +85,7 @@ module _ (g : tie.After-misclosure) where
 
   figure : misclosureFigure (lentOf (directions formed) (q formed) (asked formed)) ≡ g .misclosure .result
   unfolding lentOf
-  figure = let f = start formed .fits .target in sym (g .misclosure .ensures ∙ simp toZ-ofZ)
+  figure = let f = start formed .fits .target in sym (g .misclosure .ensures .answer ∙ simp toZ-ofZ)
 
 enum-told : tie.Need-enum-told
 enum-told c = search needs
