@@ -32,8 +32,8 @@
 extern "C" {
 #endif
 
-/* The version of this header. Each change of the rules that changes a number of the table of refusals, a limit, a unit or a function's
- * parameters raises it by one. The archive holds no version: header and archive go together, from one state of the project. */
+/* The version of this header. Each request that changes a number of the table of refusals, a limit, a unit or a function's parameters
+ * raises it by one. The archive holds no version: header and archive go together, from one state of the project. */
 #define MOLSADRIU_VERSION 1
 
 /* The archive is made for computers whose lengths have 64 bits; a compiler for another one stops here. */
@@ -149,7 +149,7 @@ molsadriu_verdict molsadriu_adjust_table(
  *                              second under A, of the sixth decimal of a logarithm under S
  * The listing of a file that is refused is one line:
  *   REFUSED  number  place     as in the verdict
- * A number is decimal digits with no zero before them, and a minus in front where it is below 0. */
+ * Numbers are decimal, with no plus and no leading zero, and a minus in front where they are below 0. */
 
 /* Adjusts a network file. In: the bytes of the file. Out, where it is accepted: its listing in the first bytes of `out`, of which those
  * after it stay as they were, and how many bytes it has, in the one number at `length`, which must not be null.
@@ -172,7 +172,7 @@ size_t molsadriu_list_file(const uint8_t *file, size_t file_length, uint8_t *out
 
 /* The line reader. The line at `start` is the caller's own bytes: it begins at file + start, and what comes back is its length, without
  * its LF. Any start is allowed; a start within a line gives the rest of it. The length is 0 where molsadriu_line_status does not say
- * MOLSADRIU_LINE, and also at an empty line. After a line, and only then, the next one starts at start + length + 1. */
+ * MOLSADRIU_LINE, and also at an empty line. Where it says MOLSADRIU_LINE, and only there, the next line starts at start + length + 1. */
 size_t molsadriu_line(const uint8_t *file, size_t file_length, size_t start);
 
 /* What stands at `start`, one of these three: */
