@@ -4,17 +4,18 @@
  * memcpy, memmove and memset at most.
  *
  * LISTS. A list is lent as two arguments, a pointer to its first number and how many numbers it has. An empty list may be a null
- * pointer and 0. Every list has its own length, and no length is trusted: lengths that disagree with each other or with the rules are
- * refused before anything is read.
+ * pointer and 0. Every list has its own length. A length is refused, before any list is read, where it disagrees with the length of
+ * another list of the same call, with the counts that the rules allow, or with the room that the answer needs.
  *
  * WHO OWNS WHAT. Everything stays the caller's. Nothing is kept after the call, nothing is allocated, and there is no state between
- * calls, so that calls from several threads at once are sound as long as no list lent for an answer is shared. What comes in through
- * a pointer to const is only read. A list lent for an answer is written whole where the input is accepted; where it is refused it stays
- * as it was. docs/COSTS.md says how much stack a call takes.
+ * calls, so that calls from several threads at once are sound as long as nothing lent for an answer is shared. What comes in through
+ * a pointer to const is only read. A list lent for an answer is written whole where the input is accepted, a buffer in its first bytes;
+ * where the verdict refuses, all that was lent stays as it was. docs/COSTS.md says how much stack a call takes.
  *
- * WHAT CANNOT BE SEEN, and is up to the caller: that a list has as many numbers as its length says (a null pointer with a length above
- * 0 has not), that its pointer is aligned for its type, and that a list lent for an answer shares no place with any other list of the
- * same call. Lists that are only read may overlap.
+ * WHAT CANNOT BE SEEN, and is up to the caller: that a list has as many numbers as its length says, where that length agrees with the
+ * others (a null pointer with a length above 0 has not), that a pointer to one number, `w` or `length`, is not null, that each pointer is
+ * aligned for its type, and that what is lent for an answer shares no place with anything else lent in the same call. Lists that are
+ * only read may overlap.
  *
  * UNITS. Directions, readings and printed corrections u are in 0.001 second, coefficients a in hundredths, misclosures w in
  * thousandths of the condition's unit, correlates K in millionths, corrections V in 10^-8 second, remainders R and Q in 10^-10 of the
@@ -31,6 +32,10 @@
 extern "C" {
 #endif
 
+/* The version of this header. Each request that changes a number of the table of refusals, a limit, a unit or a function's parameters
+ * raises it by one. The archive holds no version: header and archive go together, from one state of the project. */
+#define MOLSADRIU_VERSION 1
+
 /* The archive is made for computers whose lengths have 64 bits; a compiler for another one stops here. */
 typedef char molsadriu_lengths_have_64_bits[sizeof(size_t) == 8 ? 1 : -1];
 
@@ -42,6 +47,7 @@ typedef char molsadriu_lengths_have_64_bits[sizeof(size_t) == 8 ? 1 : -1];
 #define MOLSADRIU_TERMS 12          /* most terms of a condition */
 #define MOLSADRIU_FILE 65535        /* most bytes of a network file */
 #define MOLSADRIU_LISTING 6560      /* bytes that hold the listing of any network file */
+#define MOLSADRIU_REFUSED_LINE 52   /* bytes that hold any REFUSED line */
 
 /* What a caller is told: number 0 and place 0 where the input is accepted, else the number and the place of the refusal.
  *
@@ -73,7 +79,7 @@ typedef struct molsadriu_verdict {
 /* Station means. In: one list for each field of the sightings, all of one length, 1 to 512, in any order of arrival: position (1 to
  * 16), object (1 to 16; 1 is the initial), face (0 left, 1 right) and reading (0 to C - 1). Out, in two lists of exactly 16: the
  * direction of each object from the initial, and the number of pairs it comes from; 0 and 0 for an object never seen.
- * Comes back: the verdict, 21 to 26 where it refuses. */
+ * Comes back: the verdict, 21 to 26 where it refuses; an answer list of another length than 16 is 21 at 0. */
 molsadriu_verdict molsadriu_station_means(
     const int64_t *position, size_t position_length,
     const int64_t *object, size_t object_length,
@@ -91,7 +97,8 @@ molsadriu_verdict molsadriu_station_means(
  *   i, k    direction numbers, 0 to m; 0 is the fixed initial; not read of F
  * i and k differ, but for a fixed length, an L or R with i = k = 0 and d = 0.
  * Out: the coefficients of directions 1 to m, in a list of exactly m.
- * Comes back: the verdict, 1 to 4 where it refuses; a letter other than A and S is 1 at 0 before all else, 4 has place 1. */
+ * Comes back: the verdict, 1 to 4 where it refuses; a letter other than A and S is 1 at 0 before all else, an answer list of another
+ * length than m is 2 at 0, 4 has place 1. */
 molsadriu_verdict molsadriu_coefficients(
     const int64_t *directions, size_t directions_length,
     const int64_t *q, size_t q_length,
@@ -103,8 +110,8 @@ molsadriu_verdict molsadriu_coefficients(
     const int64_t *k, size_t k_length,
     int64_t *a, size_t a_room);
 
-/* The misclosure of the same condition. In: as above. Out: w, in the one number at w, which stays as it was where the input is
- * refused. Comes back: the verdict, 1, 2, 3 or 5 (at 1) where it refuses. */
+/* The misclosure of the same condition. In: as above. Out: w, in the one number at w, which must not be null; it has no length that
+ * could be wrong. Comes back: the verdict, 1, 2, 3 or 5 (at 1) where it refuses. */
 molsadriu_verdict molsadriu_misclosure(
     const int64_t *directions, size_t directions_length,
     const int64_t *q, size_t q_length,
@@ -120,7 +127,7 @@ molsadriu_verdict molsadriu_misclosure(
  * row after row; w, the n misclosures (-1,000,000 to 1,000,000); n from 1 to 24 and not above m.
  * Out, in three lists of exactly m: the corrections V, the printed corrections u, and the adjusted directions; and in three lists of
  * exactly n: the correlates K, the remainders R, and the printed remainders Q.
- * Comes back: the verdict, 2 to 8 where it refuses. */
+ * Comes back: the verdict, 2 to 8 where it refuses; an answer list of another length is 2 at 0. */
 molsadriu_verdict molsadriu_adjust_table(
     const int64_t *directions, size_t directions_length,
     const int64_t *q, size_t q_length,
@@ -133,15 +140,39 @@ molsadriu_verdict molsadriu_adjust_table(
     int64_t *remainders, size_t remainders_room,
     int64_t *misses, size_t misses_room);
 
-/* Adjusts a network file. In: the bytes of the file. Out: its listing, or its one REFUSED line (number and place, parted by tabs), in
- * the first bytes of `out`, which must have room for MOLSADRIU_LISTING; the bytes after it stay as they were.
- * Comes back: how many bytes the listing has, never more than the room; 0 where the room is too small, and then `out` is as it was.
- * A file of more than 65,535 bytes is refused by its length, and not read. */
-size_t molsadriu_adjust_file(const uint8_t *file, size_t file_length, uint8_t *out, size_t out_room);
+/* THE LISTING of a network file that is accepted is lines of text, in this order. Tabs part the fields, and each line is ended by LF.
+ *   ADJ  m  n                  one line: how many directions, how many conditions
+ *   V    number  u  adjusted   for each direction, 1 to m: its number, its printed correction u and its adjusted direction (0 to C - 1),
+ *                              both in 0.001 second
+ *   K    condition  K  R  Q    for each condition, 1 to n: its number, its correlate K in millionths, and what is left of it, by the
+ *                              unrounded corrections (R) and by the printed ones (Q), both in 10^-10 of the condition's unit: of a
+ *                              second under A, of the sixth decimal of a logarithm under S
+ * The listing of a file that is refused is one line:
+ *   REFUSED  number  place     as in the verdict
+ * Numbers are decimal, with no plus and no leading zero, and a minus in front where they are below 0. */
+
+/* Adjusts a network file. In: the bytes of the file. Out, where it is accepted: its listing in the first bytes of `out`, of which those
+ * after it stay as they were, and how many bytes it has, in the one number at `length`, which must not be null.
+ * Comes back: the verdict, 1 to 8 where it refuses, and then `out` and the number at `length` stay as they were. A room below
+ * MOLSADRIU_LISTING is 2 at 0 before all else. A file of more than 65,535 bytes is 2 at 0, and is not read. */
+molsadriu_verdict molsadriu_adjust_file(
+    const uint8_t *file, size_t file_length,
+    uint8_t *out, size_t out_room,
+    size_t *length);
+
+/* The REFUSED line of a verdict. In: its number and place; any two numbers are written. Out: the line, in the first bytes of `out`; those
+ * after it stay as they were. Comes back: how many bytes it has; 0 where the room is below MOLSADRIU_REFUSED_LINE, and then `out` stays
+ * as it was. */
+size_t molsadriu_refused_line(uint64_t number, uint64_t place, uint8_t *out, size_t out_room);
+
+/* The two above in one, for programs that only pass the listing on. In: the bytes of a network file. Out: its listing, or its REFUSED
+ * line, in the first bytes of `out`; those after it stay as they were. Comes back: how many bytes it has; 0 where the room is below
+ * MOLSADRIU_LISTING, and then `out` stays as it was. */
+size_t molsadriu_list_file(const uint8_t *file, size_t file_length, uint8_t *out, size_t out_room);
 
 /* The line reader. The line at `start` is the caller's own bytes: it begins at file + start, and what comes back is its length, without
  * its LF. Any start is allowed; a start within a line gives the rest of it. The length is 0 where molsadriu_line_status does not say
- * MOLSADRIU_LINE, and also at an empty line. The next line starts at start + length + 1. */
+ * MOLSADRIU_LINE, and also at an empty line. Where it says MOLSADRIU_LINE, and only there, the next line starts at start + length + 1. */
 size_t molsadriu_line(const uint8_t *file, size_t file_length, size_t start);
 
 /* What stands at `start`, one of these three: */

@@ -1,4 +1,5 @@
-/* Adjusts a network file and prints its listing; then adjusts one small condition table that is lent as lists. */
+/* Adjusts a network file and prints its listing; then adjusts one small condition table that is lent as lists. Status 1 where one of
+ * them is refused. */
 #include <inttypes.h>
 #include <stdio.h>
 
@@ -22,8 +23,14 @@ static int adjust_file(const char *name)
         fprintf(stderr, "%s: not read\n", name);
         return 1;
     }
-    fwrite(listing, 1, molsadriu_adjust_file(file, length, listing, sizeof listing), stdout);
-    return 0;
+    size_t listed;
+    molsadriu_verdict verdict = molsadriu_adjust_file(file, length, listing, sizeof listing, &listed);
+    if (verdict.number != 0) {
+        /* a refusal has left `listing` and `listed` as they were */
+        listed = molsadriu_refused_line(verdict.number, verdict.place, listing, sizeof listing);
+    }
+    fwrite(listing, 1, listed, stdout);
+    return verdict.number != 0;
 }
 
 /* Three directions and one condition between them. */

@@ -1,4 +1,5 @@
-//! Adjusts a network file and prints its listing; then adjusts one small condition table that is lent as lists.
+//! Adjusts a network file and prints its listing; then adjusts one small condition table that is lent as lists. Status 1 where one of
+//! them is refused.
 use std::io::Write;
 use std::process::ExitCode;
 
@@ -15,7 +16,14 @@ mod molsadriu {
 
     #[link(name = "office", kind = "static")]
     extern "C" {
-        fn molsadriu_adjust_file(file: *const u8, file_length: usize, out: *mut u8, out_room: usize) -> usize;
+        fn molsadriu_adjust_file(
+            file: *const u8,
+            file_length: usize,
+            out: *mut u8,
+            out_room: usize,
+            length: *mut usize,
+        ) -> Verdict;
+        fn molsadriu_refused_line(number: u64, place: u64, out: *mut u8, out_room: usize) -> usize;
         fn molsadriu_adjust_table(
             directions: *const i64,
             directions_length: usize,
@@ -40,11 +48,24 @@ mod molsadriu {
         ) -> Verdict;
     }
 
-    /// The listing of a network file.
-    pub fn adjust_file<'a>(file: &[u8], out: &'a mut [u8]) -> &'a [u8] {
+    /// How many bytes of `out` are the listing of a network file, or the verdict that refuses it.
+    pub fn adjust_file(file: &[u8], out: &mut [u8]) -> Result<usize, Verdict> {
+        let mut length = 0;
         // Sound: each pointer goes with its own slice's length, and a `&mut` shares nothing with another slice.
-        let length = unsafe { molsadriu_adjust_file(file.as_ptr(), file.len(), out.as_mut_ptr(), out.len()) };
-        &out[..length]
+        let verdict = unsafe {
+            molsadriu_adjust_file(file.as_ptr(), file.len(), out.as_mut_ptr(), out.len(), &mut length)
+        };
+        if verdict.number == 0 {
+            Ok(length)
+        } else {
+            Err(verdict)
+        }
+    }
+
+    /// How many bytes of `out` are the verdict's REFUSED line.
+    pub fn refused_line(verdict: &Verdict, out: &mut [u8]) -> usize {
+        // Sound, as above.
+        unsafe { molsadriu_refused_line(verdict.number, verdict.place, out.as_mut_ptr(), out.len()) }
     }
 
     /// What a table is lent to be adjusted into: V, u and adjusted directions, m of each; K, R and Q, n of each.
@@ -116,8 +137,15 @@ fn main() -> ExitCode {
     // One byte more than a file may have is enough to have it refused as too long.
     file.truncate(molsadriu::FILE + 1);
     let mut listing = [0; molsadriu::LISTING];
-    if let Err(why) = std::io::stdout().write_all(molsadriu::adjust_file(&file, &mut listing)) {
+    let (length, refused) = match molsadriu::adjust_file(&file, &mut listing) {
+        Ok(length) => (length, false),
+        Err(verdict) => (molsadriu::refused_line(&verdict, &mut listing), true),
+    };
+    if let Err(why) = std::io::stdout().write_all(&listing[..length]) {
         eprintln!("the listing was not written: {why}");
+        return ExitCode::FAILURE;
+    }
+    if refused {
         return ExitCode::FAILURE;
     }
 

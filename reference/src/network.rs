@@ -1,5 +1,7 @@
 //! The network file: its lines, its numbers, its checks, and the listing it ends in.
 
+use std::fmt::Display;
+
 use crate::adjustment::{Adjustment, Net, MOST_CONDITIONS};
 use crate::condition::{
     direction_allowed, sum_coefficients, sum_misclosure, target_allowed, ConditionKind, Side, Term,
@@ -9,6 +11,8 @@ use crate::refusal::{place, Refusal, COUNT, MALFORMED, RANGE};
 
 /// The longest file that is read.
 pub const MOST_BYTES: usize = 65_535;
+/// The least room that is lent for a listing: it holds the longest one.
+pub const LISTING_ROOM: usize = 6_560;
 
 const MOST_DIGITS: usize = 11;
 
@@ -65,11 +69,25 @@ pub fn read_number(field: &[u8]) -> Option<i64> {
 
 /// The listing of a network file: the adjustment, or the one line of a refusal.
 pub fn listing(file: &[u8]) -> Vec<u8> {
-    let text = match adjust_network(file) {
-        Ok(adjustment) => adjustment_text(&adjustment),
-        Err(refusal) => format!("REFUSED\t{}\t{}\n", refusal.number, refusal.place),
-    };
-    text.into_bytes()
+    match adjust_file(file, LISTING_ROOM) {
+        Ok(listing) => listing,
+        Err(refusal) => refused_line(refusal.number, refusal.place),
+    }
+}
+
+/// The one line of a refusal.
+pub fn refused_line(number: impl Display, place: impl Display) -> Vec<u8> {
+    format!("REFUSED\t{number}\t{place}\n").into_bytes()
+}
+
+/// The listing of a network file that is accepted, by a caller who lends so much room.
+/// Too little of it is a length that disagrees, and is seen first.
+pub fn adjust_file(file: &[u8], room: usize) -> Result<Vec<u8>, Refusal> {
+    if room < LISTING_ROOM {
+        return Err(Refusal::at_zero(COUNT));
+    }
+    let adjustment = adjust_network(file)?;
+    Ok(adjustment_text(&adjustment).into_bytes())
 }
 
 /// The adjustment of a network file.

@@ -257,36 +257,135 @@ static const char net[] = "D\t1\t216000000\t1\nD\t2\t216003000\t1\nD\t3\t2159970
                           "C\tA\t648000000\nP\t0\t2\nP\t0\t3\nF\t216000000\n";
 static const char listing[] = "ADJ\t3\t2\nV\t1\t-2000\t215998000\nV\t2\t-1000\t216002000\nV\t3\t1000\t215998000\n"
                               "K\t1\t-2000000\t0\t0\nK\t2\t1000000\t0\t0\n";
-static const char too_long[] = "REFUSED\t2\t0\n";
-
-/* The listing of a file in a block of exactly its length, in a buffer of `room` bytes; whether it is these bytes, and nothing else is changed. */
-static int lists(const uint8_t *file, size_t length, size_t room, const char *expected)
+/* A buffer in a block of exactly its room, or of one byte where it has none; full of a byte that no listing has. */
+static uint8_t *buffer(size_t room)
 {
-    uint8_t *out = malloc(room + 1);
+    uint8_t *out = malloc(room != 0 ? room : 1);
     if (out == NULL) exit(2);
-    memset(out, '#', room + 1);
-    size_t n = molsadriu_adjust_file(file, length, out, room);
-    int right = n == strlen(expected) && memcmp(out, expected, n) == 0;
-    for (size_t j = n; j < room + 1; j++) right = right && out[j] == '#';
+    memset(out, '#', room);
+    return out;
+}
+
+/* Whether a buffer begins with these bytes, and has nothing else changed. */
+static int holds(const uint8_t *out, size_t room, const char *expected, size_t length)
+{
+    if (length > room || memcmp(out, expected, length) != 0) return 0;
+    for (size_t j = length; j < room; j++)
+        if (out[j] != '#') return 0;
+    return 1;
+}
+
+/* The REFUSED line of two numbers, as C itself writes it. */
+static size_t refusal(char line[64], uint64_t number, uint64_t place)
+{
+    return (size_t)snprintf(line, 64, "REFUSED\t%" PRIu64 "\t%" PRIu64 "\n", number, place);
+}
+
+static int writes(uint64_t number, uint64_t place, size_t room)
+{
+    char line[64];
+    size_t length = room < MOLSADRIU_REFUSED_LINE ? 0 : refusal(line, number, place);
+    uint8_t *out = buffer(room);
+    size_t n = molsadriu_refused_line(number, place, out, room);
+    int right = n == length && holds(out, room, line, length);
     free(out);
     return right;
 }
 
+static void refused_lines(void)
+{
+    const uint64_t numbers[8] = {0, 1, 9, 10, 26, 1616, INT64_MAX, UINT64_MAX};
+    for (size_t j = 0; j < 8; j++)
+        for (size_t k = 0; k < 8; k++) {
+            CHECK(writes(numbers[j], numbers[k], MOLSADRIU_REFUSED_LINE));
+            CHECK(writes(numbers[j], numbers[k], MOLSADRIU_LISTING));
+        }
+    for (size_t room = 0; room < MOLSADRIU_REFUSED_LINE; room++) CHECK(writes(2, 0, room));
+    CHECK(molsadriu_refused_line(2, 0, NULL, 0) == 0);
+}
+
+/* An accepted file leaves its listing and the listing's length, and nothing else is changed. */
+static int adjusts(const uint8_t *file, size_t length, size_t room, const char *expected)
+{
+    uint8_t *out = buffer(room);
+    size_t n = 4711;
+    int right = is(molsadriu_adjust_file(file, length, out, room, &n), 0, 0) && n == strlen(expected) && holds(out, room, expected, n);
+    free(out);
+    return right;
+}
+
+/* A refused one leaves the buffer and the length as they were. */
+static int refuses(const uint8_t *file, size_t length, size_t room, uint64_t number, uint64_t place)
+{
+    uint8_t *out = buffer(room);
+    size_t n = 4711;
+    int right = is(molsadriu_adjust_file(file, length, out, room, &n), number, place) && n == 4711 && holds(out, room, "", 0);
+    free(out);
+    return right;
+}
+
+/* The listing of either, and nothing else is changed. */
+static int lists(const uint8_t *file, size_t length, size_t room, const char *expected)
+{
+    uint8_t *out = buffer(room);
+    size_t n = molsadriu_list_file(file, length, out, room);
+    int right = n == strlen(expected) && holds(out, room, expected, n);
+    free(out);
+    return right;
+}
+
+/* A refused file, in a block of exactly its length, by both operations. */
+static void refused_file(const char *text, uint64_t number, uint64_t place)
+{
+    const size_t length = strlen(text);
+    char line[64];
+    uint8_t *file = buffer(length);
+    memcpy(file, text, length);
+    refusal(line, number, place);
+    CHECK(refuses(file, length, MOLSADRIU_LISTING, number, place));
+    CHECK(refuses(file, length, MOLSADRIU_LISTING - 1, 2, 0));
+    CHECK(lists(file, length, MOLSADRIU_LISTING, line));
+    CHECK(lists(file, length, MOLSADRIU_LISTING - 1, ""));
+    free(file);
+}
+
 static void network(void)
 {
+    static const char too_long[] = "REFUSED\t2\t0\n";
     const size_t length = sizeof net - 1;
-    uint8_t *file = malloc(length);
-    if (file == NULL) exit(2);
+    uint8_t *file = buffer(length);
     memcpy(file, net, length);
     const size_t small[4] = {0, 1, 100, MOLSADRIU_LISTING - 1};
-    for (size_t j = 0; j < 4; j++) CHECK(lists(file, length, small[j], ""));
-    CHECK(molsadriu_adjust_file(file, length, NULL, 0) == 0);
-    CHECK(lists(file, length, MOLSADRIU_LISTING, listing));
-    CHECK(lists(file, length, 4 * MOLSADRIU_LISTING, listing));
-    CHECK(lists(NULL, 0, MOLSADRIU_LISTING, too_long));
-    CHECK(lists(file, MOLSADRIU_FILE + 1, MOLSADRIU_LISTING, too_long));
-    CHECK(lists(file, SIZE_MAX, MOLSADRIU_LISTING, too_long));
+    for (size_t j = 0; j < 4; j++) {
+        CHECK(refuses(file, length, small[j], 2, 0));
+        CHECK(lists(file, length, small[j], ""));
+    }
+    size_t n = 4711;
+    CHECK(is(molsadriu_adjust_file(file, length, NULL, 0, &n), 2, 0) && n == 4711);
+    CHECK(molsadriu_list_file(file, length, NULL, 0) == 0);
+    const size_t enough[2] = {MOLSADRIU_LISTING, 4 * MOLSADRIU_LISTING};
+    for (size_t j = 0; j < 2; j++) {
+        CHECK(adjusts(file, length, enough[j], listing));
+        CHECK(lists(file, length, enough[j], listing));
+    }
+    /* a length that the rules do not allow is seen before the file is read */
+    const size_t amiss[3] = {0, MOLSADRIU_FILE + 1, SIZE_MAX};
+    for (size_t j = 0; j < 3; j++) {
+        CHECK(refuses(j == 0 ? NULL : file, amiss[j], MOLSADRIU_LISTING, 2, 0));
+        CHECK(lists(j == 0 ? NULL : file, amiss[j], MOLSADRIU_LISTING, too_long));
+    }
     free(file);
+    /* every number of the table that a file can have */
+    refused_file("D\t1\t0\t1\nX\n", 1, 2);
+    refused_file("D\t1\t0\t1\nD\t3\t0\t1\n", 2, 2);
+    refused_file("D\t1\t0\t1\n", 2, 0);
+    refused_file("D\t1\t0\t1\nD\t2\t0\t11\n", 3, 2);
+    refused_file("D\t1\t0\t1\nC\tS\nL\t0\t2000\t0\t1\nL\t0\t1\t0\t1\n", 4, 1);
+    refused_file("D\t1\t0\t1\nC\tA\t1000001\nP\t1\t0\n", 5, 1);
+    refused_file("D\t1\t0\t1\nC\tS\nL\t0\t9\t0\t1\n", 6, 1);
+    refused_file("D\t1\t0\t1\nC\tS\nL\t11\t10\t0\t1\n", 7, 1);
+    refused_file("D\t1\t0\t10\nD\t2\t0\t10\nD\t3\t0\t10\nD\t4\t0\t10\nC\tS\n"
+                 "L\t2\t2000\t0\t1\nL\t0\t2000\t0\t2\nL\t0\t2000\t0\t3\nL\t0\t2000\t0\t4\n", 8, 1);
 }
 
 int main(void)
@@ -295,6 +394,7 @@ int main(void)
     terms();
     table();
     lines();
+    refused_lines();
     network();
     printf("%u checks, %u failed\n", checks, failures);
     return failures != 0;

@@ -54,6 +54,19 @@ fn refusal_2_counts_of_lent_lists() {
 }
 
 #[test]
+fn refusal_2_room_for_a_listing() {
+    let net = FIGURE_3.replace(' ', "\t");
+    let file = net.as_bytes();
+    assert_eq!(network::adjust_file(file, 6_559), refused(2, 0));
+    assert_eq!(network::adjust_file(b"X\n", 6_559), refused(2, 0));
+    assert_eq!(network::adjust_file(b"X\n", 6_560), refused(1, 1));
+    assert_eq!(
+        network::adjust_file(file, 6_560),
+        Ok(network::listing(file))
+    );
+}
+
+#[test]
 fn refusal_3_ranges_in_files() {
     assert_eq!(reply("D 1 1296000000 1\n"), "REFUSED 3 1");
     assert_eq!(reply("D 1 0 11\n"), "REFUSED 3 1");

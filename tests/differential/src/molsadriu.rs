@@ -5,6 +5,9 @@ use crate::lent::Lent;
 /// The header's MOLSADRIU_LISTING: bytes that hold the listing of any network file.
 pub const LISTING: usize = 6_560;
 
+/// The header's MOLSADRIU_REFUSED_LINE: bytes that hold any REFUSED line.
+pub const REFUSED_LINE: usize = 52;
+
 #[repr(C)]
 #[derive(Clone, Copy, Debug, PartialEq, Eq)]
 pub struct Verdict {
@@ -94,6 +97,16 @@ extern "C" {
     ) -> Verdict;
 
     fn molsadriu_adjust_file(
+        file: *const u8,
+        file_length: usize,
+        out: *mut u8,
+        out_room: usize,
+        length: *mut usize,
+    ) -> Verdict;
+
+    fn molsadriu_refused_line(number: u64, place: u64, out: *mut u8, out_room: usize) -> usize;
+
+    fn molsadriu_list_file(
         file: *const u8,
         file_length: usize,
         out: *mut u8,
@@ -221,8 +234,27 @@ pub fn adjust_table(
     }
 }
 
-pub fn adjust_file(file: &mut Lent<u8>, out: &mut Lent<u8>) -> usize {
-    unsafe { molsadriu_adjust_file(file.pointer(), file.length(), out.pointer(), out.length()) }
+/// The last list holds the listing's length, and has just one place, of 64 bits as a
+/// `usize` has.
+pub fn adjust_file(file: &mut Lent<u8>, out: &mut Lent<u8>, length: &mut Numbers) -> Verdict {
+    assert_eq!(length.length(), 1);
+    unsafe {
+        molsadriu_adjust_file(
+            file.pointer(),
+            file.length(),
+            out.pointer(),
+            out.length(),
+            length.pointer().cast(),
+        )
+    }
+}
+
+pub fn refused_line(number: u64, place: u64, out: &mut Lent<u8>) -> usize {
+    unsafe { molsadriu_refused_line(number, place, out.pointer(), out.length()) }
+}
+
+pub fn list_file(file: &mut Lent<u8>, out: &mut Lent<u8>) -> usize {
+    unsafe { molsadriu_list_file(file.pointer(), file.length(), out.pointer(), out.length()) }
 }
 
 pub fn line(file: &mut Lent<u8>, start: usize) -> usize {

@@ -1,4 +1,4 @@
-//! The net of the speed figures: 64 directions and 24 conditions of 12 terms each, the
+//! The nets of the speed figures: 64 directions and 24 conditions of 12 terms each, the
 //! most that the rules allow, as a file and as a condition table.
 
 use reference::adjustment::{self, AnswerLengths};

@@ -15,13 +15,15 @@ use reference::station;
 
 use crate::compare::{Operation, Outcome, Reply};
 use crate::lent::{Lent, Mark};
-use crate::molsadriu::{self, Verdict, LISTING};
+use crate::molsadriu::{self, Verdict, LISTING, REFUSED_LINE};
 
 pub struct StationMeans;
 pub struct Coefficients;
 pub struct Misclosure;
 pub struct AdjustTable;
 pub struct AdjustFile;
+pub struct RefusedLine;
+pub struct ListFile;
 pub struct Line;
 pub struct LineStatusAt;
 
@@ -346,49 +348,152 @@ fn file_lists(drawn: &Drawn<FileCase>) -> [Lent<u8>; 2] {
     ]
 }
 
+fn draw_file(rng: &mut Rng) -> Drawn<FileCase> {
+    let mut file = network_case(rng).file;
+    if is_wild(rng) {
+        let length = rng.below(60);
+        file = (0..length).map(|_| rng.range(0, 255) as u8).collect();
+    }
+    let room = draw_room(rng, LISTING);
+    Drawn::new(FileCase { file, room }, rng)
+}
+
+/// Room for an answer that asks `least`: seldom less, seldom more.
+fn draw_room(rng: &mut Rng, least: usize) -> usize {
+    match rng.below(40) {
+        0 => 0,
+        1 => least - 1,
+        2 => rng.below(least),
+        3 => least + rng.count(1, 500),
+        _ => least,
+    }
+}
+
 impl Operation for AdjustFile {
     type Case = Drawn<FileCase>;
     const NAME: &'static str = "adjust file";
 
     fn draw(rng: &mut Rng) -> Self::Case {
-        let mut file = network_case(rng).file;
-        if is_wild(rng) {
-            let length = rng.below(60);
-            file = (0..length).map(|_| rng.range(0, 255) as u8).collect();
-        }
-        let room = match rng.below(40) {
-            0 => 0,
-            1 => LISTING - 1,
-            2 => rng.below(LISTING),
-            3 => LISTING + rng.count(1, 500),
-            _ => LISTING,
-        };
-        Drawn::new(FileCase { file, room }, rng)
+        draw_file(rng)
     }
 
     fn library(drawn: &Self::Case) -> Outcome {
         let [mut file, mut out] = file_lists(drawn);
-        let length = molsadriu::adjust_file(&mut file, &mut out);
+        let mut length = Lent::blank(1);
+        let verdict = molsadriu::adjust_file(&mut file, &mut out, &mut length);
         Outcome {
-            said: [length as u64, 0],
-            numbers: Vec::new(),
             bytes: vec![file, out],
+            ..of_verdict(verdict, [length])
         }
     }
 
     fn reference(drawn: &Self::Case) -> Outcome {
         let [file, mut out] = file_lists(drawn);
-        let listing = if drawn.case.room < LISTING {
-            Vec::new()
-        } else {
-            network::listing(&drawn.case.file)
-        };
-        out.put(&listing);
+        let reply = network::adjust_file(&drawn.case.file, drawn.case.room);
+        let reply = reply.map(|listing| {
+            out.put(&listing);
+            [listing.len() as i64]
+        });
         Outcome {
-            said: [listing.len() as u64, 0],
-            numbers: Vec::new(),
             bytes: vec![file, out],
+            ..expected(reply, [Lent::blank(1)], |length| vec![length])
         }
+    }
+
+    fn reply(outcome: &Outcome) -> Reply {
+        verdict_reply(outcome)
+    }
+}
+
+/// A verdict's two numbers, whatever they are, and the room lent for its line.
+#[derive(Debug)]
+pub struct RefusedCase {
+    pub verdict: Verdict,
+    pub room: usize,
+}
+
+/// Numbers of few digits and of many, most of them at an end of their count of digits.
+fn draw_count(rng: &mut Rng) -> u64 {
+    let power = 10_u64.pow(rng.below(20) as u32);
+    match rng.below(4) {
+        0 => rng.next_u64(),
+        1 => rng.range(0, 1_700) as u64,
+        2 => power,
+        _ => rng.pick(&[0, u64::MAX, power - 1]),
+    }
+}
+
+fn of_bytes(said: u64, bytes: Vec<Lent<u8>>) -> Outcome {
+    Outcome {
+        said: [said, 0],
+        numbers: Vec::new(),
+        bytes,
+    }
+}
+
+/// The outcome by the reference of an operation that answers in the first bytes of the
+/// last buffer, and says how many they are: none, where it has less than `least` room.
+fn written(answer: &[u8], least: usize, mut bytes: Vec<Lent<u8>>) -> Outcome {
+    let enough = bytes.last_mut().filter(|out| out.length() >= least);
+    let length = enough.map_or(0, |out| {
+        out.put(answer);
+        answer.len()
+    });
+    of_bytes(length as u64, bytes)
+}
+
+impl Operation for RefusedLine {
+    type Case = Drawn<RefusedCase>;
+    const NAME: &'static str = "refused line";
+
+    fn draw(rng: &mut Rng) -> Self::Case {
+        let verdict = Verdict {
+            number: draw_count(rng),
+            place: draw_count(rng),
+        };
+        let room = draw_room(rng, REFUSED_LINE);
+        Drawn::new(RefusedCase { verdict, room }, rng)
+    }
+
+    fn library(drawn: &Self::Case) -> Outcome {
+        let RefusedCase { verdict, room } = drawn.case;
+        let mut out = Lent::blank(room).or_null(drawn.null);
+        let length = molsadriu::refused_line(verdict.number, verdict.place, &mut out);
+        of_bytes(length as u64, vec![out])
+    }
+
+    fn reference(drawn: &Self::Case) -> Outcome {
+        let RefusedCase { verdict, room } = drawn.case;
+        let line = network::refused_line(verdict.number, verdict.place);
+        let out = Lent::blank(room).or_null(drawn.null);
+        written(&line, REFUSED_LINE, vec![out])
+    }
+
+    fn reply(outcome: &Outcome) -> Reply {
+        Reply::Named(match outcome.said {
+            [0, _] => "no room",
+            _ => "line",
+        })
+    }
+}
+
+impl Operation for ListFile {
+    type Case = Drawn<FileCase>;
+    const NAME: &'static str = "list file";
+
+    fn draw(rng: &mut Rng) -> Self::Case {
+        draw_file(rng)
+    }
+
+    fn library(drawn: &Self::Case) -> Outcome {
+        let [mut file, mut out] = file_lists(drawn);
+        let length = molsadriu::list_file(&mut file, &mut out);
+        of_bytes(length as u64, vec![file, out])
+    }
+
+    fn reference(drawn: &Self::Case) -> Outcome {
+        let listing = network::listing(&drawn.case.file);
+        written(&listing, LISTING, file_lists(drawn).into())
     }
 
     fn reply(outcome: &Outcome) -> Reply {
@@ -422,11 +527,7 @@ fn line_list(drawn: &Drawn<LineCase>) -> Lent<u8> {
 }
 
 fn of_line(said: u64, file: Lent<u8>) -> Outcome {
-    Outcome {
-        said: [said, 0],
-        numbers: Vec::new(),
-        bytes: vec![file],
-    }
+    of_bytes(said, vec![file])
 }
 
 impl Operation for Line {

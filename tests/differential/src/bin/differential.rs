@@ -7,7 +7,8 @@ use std::process::ExitCode;
 
 use differential::compare::{run, show, Operation, Tally};
 use differential::operations::{
-    AdjustFile, AdjustTable, Coefficients, Line, LineStatusAt, Misclosure, StationMeans,
+    AdjustFile, AdjustTable, Coefficients, Line, LineStatusAt, ListFile, Misclosure, RefusedLine,
+    StationMeans,
 };
 
 const CASES: u64 = 100_000;
@@ -41,6 +42,8 @@ fn reply(words: &[&str]) -> Option<bool> {
         row::<Misclosure>(),
         row::<AdjustTable>(),
         row::<AdjustFile>(),
+        row::<RefusedLine>(),
+        row::<ListFile>(),
         row::<Line>(),
         row::<LineStatusAt>(),
     ];

@@ -1,6 +1,6 @@
-//! speed [CALLS [REPEATS]]: how long the library and `reference/` take for the largest
-//! net that the rules allow, in one process and in turn.
-//! speed net: that net's file, for timing the program itself.
+//! speed [CALLS [REPEATS]]: how long the library and `reference/` take for nets as large
+//! as the rules allow, in one process and in turn.
+//! speed net [NUMBER]: the file of one of these nets, 1 to 16, for timing the program.
 
 use std::env;
 use std::hint::black_box;
@@ -9,15 +9,25 @@ use std::process::ExitCode;
 use std::time::Instant;
 
 use differential::lent::Lent;
-use differential::molsadriu::{self, LISTING};
-use differential::net;
+use differential::molsadriu::{self, Verdict, LISTING};
+use differential::net::{self, Net};
 use reference::{adjustment, network};
 
+/// Nets in rotation. One net over and over would flatter: the processor learns its
+/// branches.
+const NETS: usize = 16;
+/// Net 1 is drawn from this seed, and each of the others from the next.
+const SEED: u64 = 138;
 const CALLS: usize = 10_000;
 const REPEATS: usize = 5;
-/// Calls between two looks at the clock; the two sides take turns in such blocks.
-const BLOCK: usize = 100;
-const SEED: u64 = 138;
+/// Calls between two looks at the clock, some rounds of all nets; the two sides take
+/// turns in such blocks.
+const BLOCK: usize = 5 * NETS;
+
+const ACCEPTED: Verdict = Verdict {
+    number: 0,
+    place: 0,
+};
 
 fn main() -> ExitCode {
     let words: Vec<String> = env::args().skip(1).collect();
@@ -25,87 +35,151 @@ fn main() -> ExitCode {
         Some(word) => word.parse().unwrap_or(0),
         None => otherwise,
     };
-    let Some(net) = net::accepted(SEED) else {
-        eprintln!("no net of this seed is accepted");
+    let nets: Option<Vec<Net>> = (SEED..).take(NETS).map(net::accepted).collect();
+    let Some(nets) = nets else {
+        eprintln!("a seed has no net that is accepted");
         return ExitCode::FAILURE;
     };
-    if words == ["net"] {
-        return match io::stdout().write_all(&net.file) {
-            Ok(()) => ExitCode::SUCCESS,
-            Err(_) => ExitCode::FAILURE,
-        };
+    if words.first().is_some_and(|word| word == "net") {
+        return write_net(nets.get(number(1, 1).wrapping_sub(1)));
     }
     let (blocks, repeats) = (number(0, CALLS) / BLOCK, number(1, REPEATS));
     if blocks == 0 || repeats == 0 {
-        eprintln!("use: speed [CALLS [REPEATS]], at least {BLOCK} and 1; or speed net");
-        return ExitCode::from(2);
+        return usage();
     }
-    let table = &net.table;
-    let mut lists = [&table.directions, &table.q, &table.a, &table.w]
-        .map(|list| Lent::holding(list))
-        .to_vec();
-    lists.extend([64, 64, 64, 24, 24, 24].map(Lent::blank));
-    let Ok(mut lists) = <[Lent<i64>; 10]>::try_from(lists) else {
-        return ExitCode::FAILURE;
-    };
-    let mut file = Lent::holding(&net.file);
-    let mut out = Lent::blank(LISTING);
+    let mut tables: Vec<Table> = nets.iter().map(Table::of).collect();
+    let mut files: Vec<File> = nets.iter().map(File::of).collect();
 
     // Both sides are timed on the same work only if they agree on it.
-    let verdict = molsadriu::adjust_table(&mut lists);
-    let adjusted = adjustment::adjust(&table.table(), table.lengths);
-    let same_table = adjusted.is_ok_and(|all| {
-        let answers = [&all.v, &all.u, &all.adjusted, &all.k, &all.r, &all.q];
-        let mut pairs = lists[4..].iter().zip(answers);
-        verdict.number == 0 && pairs.all(|(lent, answer)| lent.list() == &answer[..])
-    });
-    let length = molsadriu::adjust_file(&mut file, &mut out);
-    let listing = network::listing(&net.file);
-    if !same_table || out.list()[..length] != listing[..] || !listing.starts_with(b"ADJ\t64\t24\n")
-    {
-        eprintln!("the two sides do not agree on the net");
+    let mut lent = tables.iter_mut().zip(&mut files).zip(&nets);
+    if !lent.all(|((table, file), net)| table.agrees(net) && file.agrees(net)) {
+        eprintln!("the two sides do not agree on a net");
         return ExitCode::FAILURE;
     }
 
     println!(
-        "a net of 64 directions and 24 conditions of 12 terms; times per call in microseconds"
+        "{NETS} nets of 64 directions and 24 conditions of 12 terms in rotation; times per call in microseconds"
     );
     report(
         "condition table",
         blocks,
         repeats,
-        || {
-            black_box(molsadriu::adjust_table(black_box(&mut lists)));
+        |net| {
+            black_box(black_box(&mut tables[net]).adjust());
         },
-        || {
-            let table = black_box(table);
+        |net| {
+            let table = black_box(&nets[net].table);
             let _ = black_box(adjustment::adjust(&table.table(), table.lengths));
         },
     );
+    let bytes: usize = nets.iter().map(|net| net.file.len()).sum();
     report(
-        &format!("network file of {} bytes", net.file.len()),
+        &format!("network file of {} bytes in the mean", bytes / NETS),
         blocks,
         repeats,
-        || {
-            black_box(molsadriu::adjust_file(
-                black_box(&mut file),
-                black_box(&mut out),
-            ));
+        |net| {
+            black_box(black_box(&mut files[net]).adjust());
         },
-        || {
-            black_box(network::listing(black_box(&net.file)));
+        |net| {
+            let _ = black_box(network::adjust_file(black_box(&nets[net].file), LISTING));
         },
     );
     ExitCode::SUCCESS
 }
 
-/// Times both sides in turn, and writes totals, least and median, and their ratios.
+fn usage() -> ExitCode {
+    eprintln!(
+        "use: speed [CALLS [REPEATS]], at least {BLOCK} and 1; or speed net [NUMBER], 1 to {NETS}"
+    );
+    ExitCode::from(2)
+}
+
+fn write_net(net: Option<&Net>) -> ExitCode {
+    match net.map(|net| io::stdout().write_all(&net.file)) {
+        Some(Ok(())) => ExitCode::SUCCESS,
+        Some(Err(_)) => ExitCode::FAILURE,
+        None => usage(),
+    }
+}
+
+/// A net's table as it is lent to the library, with its answer lists.
+struct Table {
+    lists: [Lent<i64>; 10],
+}
+
+impl Table {
+    fn of(net: &Net) -> Self {
+        let table = &net.table;
+        let (m, n) = (Lent::blank(table.q.len()), Lent::blank(table.w.len()));
+        Table {
+            lists: [
+                Lent::holding(&table.directions),
+                Lent::holding(&table.q),
+                Lent::holding(&table.a),
+                Lent::holding(&table.w),
+                m.clone(),
+                m.clone(),
+                m,
+                n.clone(),
+                n.clone(),
+                n,
+            ],
+        }
+    }
+
+    fn adjust(&mut self) -> Verdict {
+        molsadriu::adjust_table(&mut self.lists)
+    }
+
+    /// Whether both sides accept the net and give the same answers.
+    fn agrees(&mut self, net: &Net) -> bool {
+        let verdict = self.adjust();
+        adjustment::adjust(&net.table.table(), net.table.lengths).is_ok_and(|all| {
+            let answers = [&all.v, &all.u, &all.adjusted, &all.k, &all.r, &all.q];
+            let mut pairs = self.lists[4..].iter().zip(answers);
+            verdict == ACCEPTED && pairs.all(|(lent, answer)| lent.list() == &answer[..])
+        })
+    }
+}
+
+/// A net's file as it is lent to the library, with what its listing goes into.
+struct File {
+    bytes: Lent<u8>,
+    out: Lent<u8>,
+    length: Lent<i64>,
+}
+
+impl File {
+    fn of(net: &Net) -> Self {
+        File {
+            bytes: Lent::holding(&net.file),
+            out: Lent::blank(LISTING),
+            length: Lent::blank(1),
+        }
+    }
+
+    fn adjust(&mut self) -> Verdict {
+        molsadriu::adjust_file(&mut self.bytes, &mut self.out, &mut self.length)
+    }
+
+    fn agrees(&mut self, net: &Net) -> bool {
+        let verdict = self.adjust();
+        network::adjust_file(&net.file, LISTING).is_ok_and(|listing| {
+            verdict == ACCEPTED
+                && self.length.list() == [listing.len() as i64]
+                && self.out.list().starts_with(&listing)
+        })
+    }
+}
+
+/// Times both sides in turn, and writes totals, least and median, and their ratios. Each
+/// side is told the net of a call by its place.
 fn report(
     name: &str,
     blocks: usize,
     repeats: usize,
-    mut library: impl FnMut(),
-    mut reference: impl FnMut(),
+    mut library: impl FnMut(usize),
+    mut reference: impl FnMut(usize),
 ) {
     println!("{name}: {} calls of each, {repeats} times", blocks * BLOCK);
     let mut all = [Vec::new(), Vec::new()];
@@ -135,11 +209,11 @@ fn report(
     );
 }
 
-/// Microseconds of a block of calls.
-fn block(call: &mut impl FnMut()) -> f64 {
+/// Microseconds of a block of calls, net after net.
+fn block(call: &mut impl FnMut(usize)) -> f64 {
     let start = Instant::now();
-    for _ in 0..BLOCK {
-        call();
+    for turn in 0..BLOCK {
+        call(turn % NETS);
     }
     start.elapsed().as_secs_f64() * 1e6
 }

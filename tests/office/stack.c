@@ -1,0 +1,189 @@
+/* stack FILE.net: how many bytes of stack each function of include/molsadriu.h takes, with the fullest input that it accepts; FILE.net is
+ * the fullest network file.
+ * A thread is given a stack that has been painted. It makes one call, and the lowest byte that is no longer paint says how far down the call
+ * went. It is counted from the frame of the C function that makes the call, so that arguments passed on the stack are in it. Bytes that are
+ * reserved and never written are not seen. Each call is made once before, so that the work of the dynamic loader is not counted, and with
+ * two colours of paint, so that a byte written in the one of them shows in the other. */
+#define _POSIX_C_SOURCE 200809L
+#include <pthread.h>
+#include <stdio.h>
+#include <stdlib.h>
+#include <string.h>
+
+#include "molsadriu.h"
+
+#define STACK ((size_t)1 << 20)
+#define M MOLSADRIU_DIRECTIONS
+#define N MOLSADRIU_CONDITIONS
+#define T MOLSADRIU_TERMS
+
+static void stop(const char *why)
+{
+    fprintf(stderr, "stack: %s\n", why);
+    exit(1);
+}
+
+/* ---- the calls. Each says where its own frame is. */
+static const char *volatile frame;
+static volatile size_t answered; /* 0 where the function accepts; of those that answer a length, whether they answer none */
+#define HERE (frame = __builtin_frame_address(0))
+
+static int64_t directions[M], q[M];
+static int64_t v[M], u[M], adjusted[M], k[N], r[N], misses[N];
+
+/* a table of full rows */
+static int64_t a[N * M], w[N];
+
+static void adjust_table(void)
+{
+    HERE;
+    answered = molsadriu_adjust_table(directions, M, q, M, a, N * M, w, N, v, M, u, M, adjusted, M, k, N, r, N, misses, N).number;
+}
+
+/* the network file */
+static uint8_t file[MOLSADRIU_FILE + 1], out[MOLSADRIU_LISTING];
+static size_t file_length, length;
+
+static void adjust_file(void)
+{
+    HERE;
+    answered = molsadriu_adjust_file(file, file_length, out, sizeof out, &length).number;
+}
+
+static void list_file(void)
+{
+    HERE;
+    answered = molsadriu_list_file(file, file_length, out, sizeof out) == 0;
+}
+
+static void refused_line(void)
+{
+    HERE;
+    answered = molsadriu_refused_line(UINT64_MAX, UINT64_MAX, out, sizeof out) == 0;
+}
+
+static void line(void)
+{
+    HERE;
+    answered = molsadriu_line(file, file_length, 0) == 0;
+}
+
+static void line_status(void)
+{
+    HERE;
+    answered = molsadriu_line_status(file, file_length, 0) != MOLSADRIU_LINE;
+}
+
+/* one side condition of 12 terms */
+static int64_t kind[T], value[T], d[T], from[T], to[T], coefficient[M], misclosure_w;
+
+static void coefficients(void)
+{
+    HERE;
+    answered = molsadriu_coefficients(directions, M, q, M, 'S', 0, kind, T, value, T, d, T, from, T, to, T, coefficient, M).number;
+}
+
+static void misclosure(void)
+{
+    HERE;
+    answered = molsadriu_misclosure(directions, M, q, M, 'S', 0, kind, T, value, T, d, T, from, T, to, T, &misclosure_w).number;
+}
+
+/* 16 objects in 16 positions, left and right */
+static int64_t position[MOLSADRIU_SIGHTINGS], object[MOLSADRIU_SIGHTINGS], face[MOLSADRIU_SIGHTINGS], reading[MOLSADRIU_SIGHTINGS];
+static int64_t direction[MOLSADRIU_OBJECTS], pairs[MOLSADRIU_OBJECTS];
+
+static void station_means(void)
+{
+    const size_t n = MOLSADRIU_SIGHTINGS;
+    HERE;
+    answered = molsadriu_station_means(position, n, object, n, face, n, reading, n, direction, MOLSADRIU_OBJECTS, pairs, MOLSADRIU_OBJECTS).number;
+}
+
+/* ---- their input */
+static void fill(const char *name)
+{
+    for (int64_t i = 0; i < M; i++) {
+        directions[i] = 20000000 * i;
+        q[i] = i % 10 + 1;
+    }
+    for (int64_t j = 0; j < N; j++) {
+        w[j] = 100 * j - 1200;
+        for (int64_t i = 0; i < M; i++) a[j * M + i] = i == j ? 300 : (7 * i + 13 * j) % 21 - 10;
+    }
+    for (int64_t n = 0; n < T; n++) {
+        kind[n] = n % 2 == 0 ? 'L' : 'R';
+        value[n] = 99000000 + n;
+        d[n] = 10 * n - 50;
+        from[n] = n;
+        to[n] = M - n;
+    }
+    for (int64_t n = 0; n < MOLSADRIU_SIGHTINGS; n++) {
+        position[n] = n / 32 + 1;
+        object[n] = n / 2 % 16 + 1;
+        face[n] = n % 2;
+        reading[n] = (80000000 * object[n] + 5000000 * position[n] + MOLSADRIU_CIRCLE / 2 * face[n]) % MOLSADRIU_CIRCLE;
+    }
+    FILE *in = fopen(name, "rb");
+    if (in == NULL) stop("the network file cannot be opened");
+    file_length = fread(file, 1, sizeof file, in);
+    fclose(in);
+}
+
+/* ---- the measurement */
+typedef struct {
+    void (*call)(void);
+    const char *stack;
+    char paint;
+    size_t taken;
+} run;
+
+static void *in_thread(void *what)
+{
+    run *one = what;
+    one->call();
+    const char *lowest = one->stack;
+    while (*lowest == one->paint) lowest++;
+    one->taken = (size_t)(frame - lowest);
+    return NULL;
+}
+
+static size_t painted(void (*call)(void), char *stack, char paint)
+{
+    run one = {call, stack, paint, 0};
+    pthread_t thread;
+    pthread_attr_t how;
+    memset(stack, paint, STACK);
+    if (pthread_attr_init(&how) != 0 || pthread_attr_setstack(&how, stack, STACK) != 0) stop("a thread cannot be given a stack");
+    if (pthread_create(&thread, &how, in_thread, &one) != 0 || pthread_join(thread, NULL) != 0) stop("no thread");
+    pthread_attr_destroy(&how);
+    return one.taken;
+}
+
+static void measure(const char *name, void (*call)(void), char *stack)
+{
+    call();
+    if (answered != 0) stop(name);
+    size_t one = painted(call, stack, 0x5a), other = painted(call, stack, (char)0xa5);
+    printf("%-24s %6zu\n", name, one > other ? one : other);
+}
+
+int main(int count, char **words)
+{
+    void *stack;
+    if (count != 2) stop("usage: stack FILE.net");
+    if (posix_memalign(&stack, 4096, STACK) != 0) stop("no memory");
+    fill(words[1]);
+    printf("bytes of stack, from the caller's frame down\n");
+    measure("molsadriu_station_means", station_means, stack);
+    measure("molsadriu_coefficients", coefficients, stack);
+    measure("molsadriu_misclosure", misclosure, stack);
+    measure("molsadriu_adjust_table", adjust_table, stack);
+    measure("molsadriu_adjust_file", adjust_file, stack);
+    measure("molsadriu_refused_line", refused_line, stack);
+    measure("molsadriu_list_file", list_file, stack);
+    measure("molsadriu_line", line, stack);
+    measure("molsadriu_line_status", line_status, stack);
+    free(stack);
+    return 0;
+}
