@@ -25,8 +25,8 @@ use Rattle.condition.specs.Terms.{termFault}
 use Rattle.network.specs.Parts.{onFirst, parted}
 use Rattle.network.specs.Lines.{LF, linesOf}
 use Rattle.network.specs.Records.{recordOf}
-use Rattle.network.specs.Scan.{none, suits, outOfTurn, oneTooMany, directionReply, anglesReply, sidesReply, termReply, lineReply, counted, ifLast, scanned, scanReply}
-use Rattle.network.specs.Net.{Net, before, netOf, netFrom}
+use Rattle.network.specs.Scan.{none, belongs, outOfTurn, oneTooMany, directionReply, anglesReply, sidesReply, termReply, lineReply, counted, ifLast, scanned, scanReply}
+use Rattle.network.specs.Net.{Net, lineBefore, netOf, netFrom}
 use Rattle.network.specs.Gathered.{Fit}
 use Rattle.network.specs.declared.record.Record.{Record}
 use Rattle.network.specs.declared.record.Record.the-variants.{Direction, Angles, Sides, Term, Unreadable}
@@ -98,8 +98,8 @@ module _ (place : ℕ) (c : Counts) (net : Net) (low : Low c) where
   unfolding oneTooMany
   heading-room e = leb-false 24 (c .n) (neither (leb 24 (c .n)) _ e .0)
 
-  line-room : (said : Record) → lineReply place c said ≡ Accepted → (Low (counted c said) → Room (counted c said) net) → Room c (before said net)
-  unfolding lineReply directionReply anglesReply sidesReply termReply counted before outOfTurn Fit
+  line-room : (said : Record) → lineReply place c said ≡ Accepted → (Low (counted c said) → Room (counted c said) net) → Room c (lineBefore said net)
+  unfolding lineReply directionReply anglesReply sidesReply termReply counted lineBefore outOfTurn Fit
   line-room (Direction number direction q) e after =
       let turn = second-accepted (ltb 0 (c .n)) (outOfTurn (c .m) number) (Malformed place) (Count place) (refuseIf (outOfRange direction q) (OutOfRange place)) e in
       let h = leb-false 64 (c .m) (neither (leb 64 (c .m)) (outside (pos (c .m + 1)) (pos (c .m + 1)) number) turn .0) in
@@ -115,7 +115,7 @@ module _ (place : ℕ) (c : Counts) (net : Net) (low : Low c) where
       record { m = r .m; n = omega (arith, r .n); terms = omega (arith, low .terms); fit = (omega (arith, r .terms), r .fit) }
   line-room (Term letter value d i k) e after =
       let few =
-      second-accepted (not (suits (c .heading) letter)) (leb 12 (c .terms)) (Malformed place) (Count place)
+      second-accepted (not (belongs (c .heading) letter)) (leb 12 (c .terms)) (Malformed place) (Count place)
       (refuseIf (termFault (pos (c .m)) letter value d i k) (OutOfRange place)) e in
       let h = leb-false 12 (c .terms) few in
       let r = after (record { m = low .m; n = low .n; terms = omega (arith, h) }) in
@@ -124,7 +124,7 @@ module _ (place : ℕ) (c : Counts) (net : Net) (low : Low c) where
 
 -- ---- wherever the scan stands
 scan-step : (place : ℕ) (c : Counts) (part : List ℕ) (parts : List (List ℕ)) → Low c → (end more : Reply)
-    → (more ≡ Accepted → Room c (before (recordOf part) (netOf (whole parts)))) → ifLast parts end more ≡ Accepted → Room c (netOf (unless-none parts (part ∷ whole parts)))
+    → (more ≡ Accepted → Room c (lineBefore (recordOf part) (netOf (whole parts)))) → ifLast parts end more ≡ Accepted → Room c (netOf (unless-none parts (part ∷ whole parts)))
 unfolding netOf Fit
 scan-step place c part [] low end more next e = record { m = omega (arith, low .m); n = omega (arith, low .n); terms = omega (arith, low .terms); fit = tt }
 scan-step place c part (p ∷ parts) low end more next e = next e

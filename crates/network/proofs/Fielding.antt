@@ -13,7 +13,7 @@ use borrow.Author.Tests.{eq-eqb, ne-eqb, ltb-true, ltb-false}
 use lib.Dec.{ltb}
 use lib.ListN.{length, getD, take, drop, length-drop}
 use lib.Seq.{take-all}
-use Rattle.network.specs.Parts.{before, placeFrom}
+use Rattle.network.specs.Parts.{bytesBefore, placeFrom}
 use Rattle.network.specs.Fields.{TAB, fieldsOf, letterOf}
 use Rattle.network.proofs.Parting.{parts-more, parts-last}
 
@@ -21,7 +21,7 @@ module _ (s : List ℕ) (i e : ℕ) (q : e ≡ placeFrom TAB s i) where
   pub fields-more : e < length s → fieldsOf (drop i s) ≡ take (e - i) (drop i s) ∷ fieldsOf (drop (e + 1) s)
   unfolding fieldsOf placeFrom
   fields-more l =
-      let far : e - i ≡ before TAB (drop i s) = omega arith in
+      let far : e - i ≡ bytesBefore TAB (drop i s) = omega arith in
       rw (far, q) (parts-more TAB ([] ∷ []) s i (omega arith))
 
   pub fields-last : length s ≤ e → fieldsOf (drop i s) ≡ drop i s ∷ []

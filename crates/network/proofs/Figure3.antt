@@ -22,11 +22,11 @@ use Rattle.adjustment.specs.Promise.{adjustReply}
 use Rattle.network.specs.Parts.{onFirst, parted}
 use Rattle.network.specs.Lines.{linesOf}
 use Rattle.network.specs.Fields.{fieldsOf, fieldAt, letterOf}
-use Rattle.network.specs.Numbers.{readDigits, unsignedOf, plus, minus, numberOf}
+use Rattle.network.specs.Numbers.{readDigits, unsignedOf, plus, minus, numeral}
 use Rattle.network.specs.Decimal.{digits, digitsOf, written}
 use Rattle.network.specs.Records.{with, directionLine, anglesLine, sidesLine, conditionLine, angleLine, fixedLine, sideLine, lineOf, recordOf}
-use Rattle.network.specs.Scan.{suits, outOfTurn, oneTooMany, directionReply, anglesReply, sidesReply, termReply, lineReply, counted, endFault, endReply, scanned, scanReply}
-use Rattle.network.specs.Net.{before, netOf, refusedAs, zeros, lentOf, conditionReply, conditionsReply, rowOf, misclosureOf, rowsOf, misclosuresOf, tableIn, room, netReply, netAnswers, fileReply}
+use Rattle.network.specs.Scan.{belongs, outOfTurn, oneTooMany, directionReply, anglesReply, sidesReply, termReply, lineReply, counted, endFault, endReply, scanned, scanReply}
+use Rattle.network.specs.Net.{lineBefore, netOf, refusedAs, zeros, lentOf, conditionReply, formedReply, rowOf, misclosureOf, rowsOf, misclosuresOf, tableIn, room, netReply, netAnswers, fileReply}
 use Rattle.network.specs.Listing.{inOrder}
 use Rattle.network.specs.File.{answersListing, listingFor, listingOf}
 
@@ -51,5 +51,5 @@ refusal =
     82 ∷ 69 ∷ 70 ∷ 85 ∷ 83 ∷ 69 ∷ 68 ∷ 9 ∷ 49 ∷ 9 ∷ 49 ∷ 10 ∷ []
 
 pub figure-3 : (listingOf file ≡ listing) × (listingOf broken ≡ refusal)
-unfolding floor modulo first nearest sum tabulate directionsReply kindOf share angle part directionsMiscounted termsMiscounted inTurn termsCheck checks coefficient coefficientsReply coefficientsList misclosure misclosureFigure N reduced D L M weakRow weak back K V-of R-of u-of adjusted-of Q-of countsAmiss differs lengthsAmiss coefficientFault misclosureFault tableReply rowsReply correlatesReply remaindersReply solutionReply inputReply adjustReply onFirst parted linesOf fieldsOf fieldAt letterOf readDigits unsignedOf plus minus numberOf digits digitsOf written with directionLine anglesLine sidesLine conditionLine angleLine fixedLine sideLine lineOf recordOf termFault same suits outOfTurn oneTooMany directionReply anglesReply sidesReply termReply lineReply counted endFault endReply scanned scanReply before netOf refusedAs figureValue zeros lentOf conditionReply conditionsReply rowOf misclosureOf rowsOf misclosuresOf tableIn room netReply netAnswers fileReply inOrder answersListing listingFor listingOf
+unfolding floor modulo first nearest sum tabulate directionsReply kindOf share angle part directionsMiscounted termsMiscounted inTurn termsCheck checks coefficient coefficientsReply coefficientsList misclosure misclosureFigure N reduced D L M weakRow weak back K V-of R-of u-of adjusted-of Q-of countsAmiss differs lengthsAmiss coefficientFault misclosureFault tableReply rowsReply correlatesReply remaindersReply solutionReply inputReply adjustReply onFirst parted linesOf fieldsOf fieldAt letterOf readDigits unsignedOf plus minus numeral digits digitsOf written with directionLine anglesLine sidesLine conditionLine angleLine fixedLine sideLine lineOf recordOf termFault same belongs outOfTurn oneTooMany directionReply anglesReply sidesReply termReply lineReply counted endFault endReply scanned scanReply lineBefore netOf refusedAs figureValue zeros lentOf conditionReply formedReply rowOf misclosureOf rowsOf misclosuresOf tableIn room netReply netAnswers fileReply inOrder answersListing listingFor listingOf
 figure-3 = (refl, refl)

@@ -7,11 +7,11 @@ use Rattle.reply.specs.declared.Refusal.the-variants.{Malformed, Count, OutOfRa
 use Rattle.reply.specs.declared.Reply.the-variants.{Accepted, Refused}
 use Rattle.network.specs.Parts.{onFirst, parted}
 use Rattle.network.specs.Fields.{fieldsOf, fieldAt, letterOf}
-use Rattle.network.specs.Numbers.{readDigits, unsignedOf, plus, minus, numberOf}
+use Rattle.network.specs.Numbers.{readDigits, unsignedOf, plus, minus, numeral}
 use Rattle.network.specs.Records.{with, directionLine, anglesLine, sidesLine, conditionLine, angleLine, fixedLine, sideLine, lineOf, recordOf}
 use Rattle.exact.specs.Same.{same}
 use Rattle.condition.specs.Terms as terms
-use Rattle.network.specs.Scan.{suits, outOfTurn, oneTooMany, directionReply, anglesReply, sidesReply, termReply, lineReply, counted, endFault, endReply, scanned, scanReply}
+use Rattle.network.specs.Scan.{belongs, outOfTurn, oneTooMany, directionReply, anglesReply, sidesReply, termReply, lineReply, counted, endFault, endReply, scanned, scanReply}
 
 -- Figure 3's file is accepted
 -- D 1 216000000 1|D 2 216003000 1|D 3 215997000 1|C A 648000000|P 0 1|P 0 2|F 216000000|C A 648000000|P 0 2|P 0 3|F 216000000|
@@ -186,8 +186,8 @@ pub figures :
     × (scanReply fixedLength ≡ Accepted)
     × (scanReply fixedElsewhere ≡ Refused (OutOfRange 3))
 unfolding
-    scanReply scanned endReply endFault counted lineReply termReply anglesReply sidesReply directionReply oneTooMany outOfTurn suits
+    scanReply scanned endReply endFault counted lineReply termReply anglesReply sidesReply directionReply oneTooMany outOfTurn belongs
     terms.termFault terms.letterOf same
     recordOf lineOf sideLine fixedLine angleLine conditionLine sidesLine anglesLine directionLine with
-    letterOf fieldAt fieldsOf parted onFirst numberOf minus plus unsignedOf readDigits
+    letterOf fieldAt fieldsOf parted onFirst numeral minus plus unsignedOf readDigits
 figures = (refl, refl, refl, refl, refl, refl, refl, refl, refl, refl, refl, refl, refl, refl, refl, refl, refl, refl, refl, refl, refl, refl, refl, refl, refl, refl)

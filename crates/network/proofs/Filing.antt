@@ -34,7 +34,7 @@ use Rattle.network.specs.declared.Listed.{Listed}
 use Rattle.network.specs.Lines.{linesOf}
 use Rattle.network.specs.Scan.{none, scanReply}
 use Rattle.network.specs.Listing.{refusedLine, Wrote}
-use Rattle.network.specs.Net.{Net, netOf, netFrom, conditionsReply, rowsOf, misclosuresOf, tableIn, room, netReply, netAnswers, fileReply}
+use Rattle.network.specs.Net.{Net, netOf, netFrom, formedReply, rowsOf, misclosuresOf, tableIn, room, netReply, netAnswers, fileReply}
 use Rattle.network.specs.File.{netListing, fileListing, FileDemand3, ListedBy, adjustFileReply, AdjustsFile, refusedLineIn, listingFor, listingOf, listingIn}
 use Rattle.network.proofs.Composing.{rewrote, one-wrote, refused-most}
 use Rattle.network.proofs.Bounding.{scan-bounds}
@@ -54,7 +54,7 @@ module _ (file : List ℕ) where
       let lent = room (length (net .directions)) (length (net .conditions)) in
       let solved = both-accepted (scanReply file) (netReply net) e .1 in
       accepted-demand3 (net .directions) (net .q) rows closings lent
-      (both-accepted (conditionsReply (net .directions) (net .q) 1 (net .conditions)) (adjustReply (net .directions) (net .q) rows closings lent) solved .1)
+      (both-accepted (formedReply (net .directions) (net .q) 1 (net .conditions)) (adjustReply (net .directions) (net .q) rows closings lent) solved .1)
 
   -- ---- the longest listing
   pub file-most : fileReply file ≡ Accepted → length (fileListing file) ≤ 6560

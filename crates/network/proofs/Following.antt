@@ -1,6 +1,6 @@
 -- After an accepted scan a file is refused with 4 or 5 by its conditions, or with 6, 7 or 8 by its solution, and for nothing else. Assumes nothing.
---   Within, within        the row and the misclosure of an accepted condition are in range
---   AllWithin, all-within the rows of all conditions, one after the other, and their misclosures are
+--   InRange, in-range     the row and the misclosure of an accepted condition are in range
+--   AllInRange, all-in-range   the rows of all conditions, one after the other, and their misclosures are
 --   table-passes          so the table passes the input checks of `adjustment`
 --   file-replies          so what follows the conditions is the solution's reply
 use mathlib.Core.Path.{_≡_, refl, sym, _∙_, ap, subst}
@@ -27,7 +27,7 @@ use Rattle.adjustment.specs.Refusals.{countsAmiss, differs, lengthsAmiss, coeff
 use Rattle.adjustment.specs.Promise.{Answers, adjustReply}
 use Rattle.network.specs.Lines.{linesOf}
 use Rattle.network.specs.Scan.{none, scanReply}
-use Rattle.network.specs.Net.{Condition, Net, lentOf, room, zeros, conditionReply, conditionsReply, rowOf, misclosureOf, rowsOf, misclosuresOf, tableIn, netOf, netFrom, netReply, fileReply}
+use Rattle.network.specs.Net.{Condition, Net, lentOf, room, zeros, conditionReply, formedReply, rowOf, misclosureOf, rowsOf, misclosuresOf, tableIn, netOf, netFrom, netReply, fileReply}
 use Rattle.network.proofs.Bounding.{Room, scan-bounds}
 use Rattle.network.proofs.Passing.{Passed, Checked, directions-pass, file-passed, scan-checks, four-and-five}
 use Rattle.network.proofs.Tabling.{misclosures-length}
@@ -42,7 +42,7 @@ module _ (ds q : List ℤ) where
   m = length ds
 
   -- ---- one condition that is accepted: its row and its misclosure are within their ranges
-  record Within (c : Condition) : Type 0 where
+  record InRange (c : Condition) : Type 0 where
     pub long : length (rowOf ds q c) ≡ m
     pub row : (i : ℕ) → i < m → natAbs (getD (rowOf ds q c) i (pos 0)) ≤ 2000
     pub closing : natAbs (misclosureOf ds q c) ≤ 1000000
@@ -72,9 +72,9 @@ module _ (ds q : List ℤ) where
     unfolding misclosureOf misclosureFigure figureValue
     closing-value = rw (checked, small)
 
-    within : Within c
+    in-range : InRange c
     unfolding lentOf
-    within = record {
+    in-range = record {
       long = ap length row-value ∙ tabulate-length m (λ h. coefficient l (h + 1));
       row = λ i h. rw (row-value, tabulate-at m (λ h. coefficient l (h + 1)) i (pos 0) h)
           (ltb-false 2000 (natAbs (coefficient l (i + 1))) (all-failed m (λ h. ltb 2000 (natAbs (coefficient l (h + 1)))) low i h));
@@ -82,12 +82,12 @@ module _ (ds q : List ℤ) where
     }
 
   -- ---- all of them
-  record AllWithin (cs : List Condition) : Type 0 where
+  record AllInRange (cs : List Condition) : Type 0 where
     pub long : length (rowsOf ds q cs) ≡ length cs * m
     pub rows : (j : ℕ) → j < length cs → (i : ℕ) → i < m → natAbs (getD (rowsOf ds q cs) (j * m + i) (pos 0)) ≤ 2000
     pub closings : (j : ℕ) → j < length cs → natAbs (getD (misclosuresOf ds q cs) j (pos 0)) ≤ 1000000
 
-  all-more : (c : Condition) (cs : List Condition) → Within c → AllWithin cs → AllWithin (c ∷ cs)
+  all-more : (c : Condition) (cs : List Condition) → InRange c → AllInRange cs → AllInRange (c ∷ cs)
   unfolding rowsOf misclosuresOf
   all-more c cs w a = record {
     long = omega (arith, length-append (rowOf ds q c) (rowsOf ds q cs), w .long, a .long, suc-mul (length cs) m);
@@ -105,14 +105,14 @@ module _ (ds q : List ℤ) where
       every zero h = w .closing
       every (suc j) h = a .closings j (omega arith)
 
-  all-within : (j : ℕ) (cs : List Condition) → Checked ds q cs → conditionsReply ds q j cs ≡ Accepted → AllWithin cs
-  unfolding Checked conditionsReply rowsOf misclosuresOf
-  all-within j [] k e = record { long = omega (arith, zero-mul m); rows = λ j h i l. absurd (omega arith); closings = λ j h. absurd (omega arith) }
-  all-within j (c ∷ cs) k e =
-      let b = both-accepted (conditionReply ds q j c) (conditionsReply ds q (suc j) cs) e in all-more c cs (within j c (k .0) (b .0)) (all-within (suc j) cs (k .1) (b .1))
+  all-in-range : (j : ℕ) (cs : List Condition) → Checked ds q cs → formedReply ds q j cs ≡ Accepted → AllInRange cs
+  unfolding Checked formedReply rowsOf misclosuresOf
+  all-in-range j [] k e = record { long = omega (arith, zero-mul m); rows = λ j h i l. absurd (omega arith); closings = λ j h. absurd (omega arith) }
+  all-in-range j (c ∷ cs) k e =
+      let b = both-accepted (conditionReply ds q j c) (formedReply ds q (suc j) cs) e in all-more c cs (in-range j c (k .0) (b .0)) (all-in-range (suc j) cs (k .1) (b .1))
 
 -- ---- the input checks of `adjustment`
-module _ (net : Net) (p : Passed none net) (r : Room none net) (e : conditionsReply (net .directions) (net .q) 1 (net .conditions) ≡ Accepted)
+module _ (net : Net) (p : Passed none net) (r : Room none net) (e : formedReply (net .directions) (net .q) 1 (net .conditions) ≡ Accepted)
     (k : Checked (net .directions) (net .q) (net .conditions)) where
   abbrev rows : List ℤ
   rows = rowsOf (net .directions) (net .q) (net .conditions)
@@ -123,8 +123,8 @@ module _ (net : Net) (p : Passed none net) (r : Room none net) (e : conditionsRe
   abbrev n : ℕ
   n = length (net .conditions)
 
-  all : AllWithin (net .directions) (net .q) (net .conditions)
-  all = all-within (net .directions) (net .q) 1 (net .conditions) k e
+  all : AllInRange (net .directions) (net .q) (net .conditions)
+  all = all-in-range (net .directions) (net .q) 1 (net .conditions) k e
 
   closings-long : length closings ≡ n
   closings-long = misclosures-length (net .directions) (net .q) (net .conditions)
@@ -189,10 +189,10 @@ after Accepted s t h = h refl
 after (Refused why) s t h = refl
 
 pub file-replies : (file : List ℕ) → scanReply file ≡ Accepted → let net = netOf (linesOf file) in
-    fileReply file ≡ conditionsReply (net .directions) (net .q) 1 (net .conditions) andThen solutionReply (tableIn net)
+    fileReply file ≡ formedReply (net .directions) (net .q) 1 (net .conditions) andThen solutionReply (tableIn net)
 unfolding fileReply netReply tableIn netFrom
 file-replies file e =
     let net = netOf (linesOf file) in
     rw e
-    (after (conditionsReply (net .directions) (net .q) 1 (net .conditions)) _ _
+    (after (formedReply (net .directions) (net .q) 1 (net .conditions)) _ _
     (λ h. table-passes net (file-passed file e) (scan-bounds file e) h (scan-checks file e)))

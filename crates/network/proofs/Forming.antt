@@ -26,9 +26,9 @@ use Rattle.reply.specs.Checks.{figureOf, figureReply, figureLeaves, figureValue
 use Rattle.reply.proofs.Checking.{never, both-accepted}
 use Rattle.condition.specs.declared.Kind.{Kind}
 use Rattle.condition.specs.Rules.{coefficientsReply, coefficientsList, misclosureFigure}
-use Rattle.network.specs.Net.{Condition, Net, headed, before, netOf, netFrom}
-use Rattle.network.specs.Net.{refusedAs, zeros, lentOf, conditionReply, conditionsReply, rowOf, misclosureOf, rowsOf, misclosuresOf}
-use Rattle.network.specs.Gathered.{headingOf, Fit}
+use Rattle.network.specs.Net.{Condition, Net, headed, lineBefore, netOf, netFrom}
+use Rattle.network.specs.Net.{refusedAs, zeros, lentOf, conditionReply, formedReply, rowOf, misclosureOf, rowsOf, misclosuresOf}
+use Rattle.network.specs.Gathered.{headingIn, Fit}
 use Rattle.network.specs.declared.conditions.Heading.{Heading}
 use Rattle.network.specs.declared.conditions.Heading.the-variants.{Of, NoHeading}
 use Rattle.network.specs.declared.record.Record.{Record}
@@ -97,7 +97,7 @@ pub record FormedTo (file : List ℕ) (directions q a w : List ℤ) (start at n 
   pub a-long : length a ≡ 1536
   pub w-long : length w ≡ 24
   pub fit : Fit (netFrom file start .conditions)
-  pub reply : conditionsReply directions q (n + 1) (netFrom file start .conditions) ≡ conditionsReply directions q 1 (netFrom file 0 .conditions)
+  pub reply : formedReply directions q (n + 1) (netFrom file start .conditions) ≡ formedReply directions q 1 (netFrom file 0 .conditions)
   pub rows : take at a ++ rowsOf directions q (netFrom file start .conditions) ≡ rowsOf directions q (netFrom file 0 .conditions)
   pub closings : take n w ++ misclosuresOf directions q (netFrom file start .conditions) ≡ misclosuresOf directions q (netFrom file 0 .conditions)
 
@@ -118,9 +118,9 @@ abbrev headings : Heading → ℕ
 headings (Of kind target) = 1
 headings NoHeading = 0
 
-heading-here : (said : Record) (net : Net) (kind : Kind) (target : ℤ) → headingOf said ≡ Of kind target
-    → before said net .conditions ≡ headed kind target (net .pending) ∷ net .conditions
-unfolding before headingOf
+heading-here : (said : Record) (net : Net) (kind : Kind) (target : ℤ) → headingIn said ≡ Of kind target
+    → lineBefore said net .conditions ≡ headed kind target (net .pending) ∷ net .conditions
+unfolding lineBefore headingIn
 heading-here (Direction number direction q) net kind target e = absurd (omega (arith, ap headings e))
 heading-here (Angles x) net kind target e =
     λ i. headed (ap (kindOf kind) e i) (ap (targetOf target) e i) (net .pending) ∷ net .conditions
@@ -128,8 +128,8 @@ heading-here Sides net kind target e = λ i. headed (ap (kindOf kind) e i) (ap (
 heading-here (Term letter value d i k) net kind target e = absurd (omega (arith, ap headings e))
 heading-here Unreadable net kind target e = absurd (omega (arith, ap headings e))
 
-heading-none : (said : Record) (net : Net) → headingOf said ≡ NoHeading → before said net .conditions ≡ net .conditions
-unfolding before headingOf
+heading-none : (said : Record) (net : Net) → headingIn said ≡ NoHeading → lineBefore said net .conditions ≡ net .conditions
+unfolding lineBefore headingIn
 heading-none (Direction number direction q) net e = refl
 heading-none (Angles x) net e = absurd (omega (arith, ap headings e))
 heading-none Sides net e = absurd (omega (arith, ap headings e))
@@ -142,7 +142,7 @@ module _ {file : List ℕ} {directions q a w : List ℤ} {start at n : ℕ} (f :
 
   module _ {said : Record} {next : ℕ} (walked : Walked file start said next) where
     -- a C line
-    module _ (kind : Kind) (target : ℤ) (e : headingOf said ≡ Of kind target) where
+    module _ (kind : Kind) (target : ℤ) (e : headingIn said ≡ Of kind target) where
       abbrev c : Condition
       c = headed kind target (netFrom file next .pending)
 
@@ -166,18 +166,18 @@ module _ {file : List ℕ} {directions q a w : List ℤ} {start at n : ℕ} (f :
         pub form-room : at + m ≤ 1536
         form-room = omega (arith, f .place, suc-mul n m, mul-le-mul {n₁ = suc n} {m₁ = m} {n₂ = 24} {m₂ = 64} (omega (arith, form-turn)) narrow)
 
-      onward : conditionReply directions q (n + 1) c andThen conditionsReply directions q (n + 1 + 1) rest ≡ conditionsReply directions q 1 (netFrom file 0 .conditions)
-      unfolding conditionsReply
-      onward = rw (add-one (n + 1)) (ap (conditionsReply directions q (n + 1)) (sym here) ∙ f .reply)
+      onward : conditionReply directions q (n + 1) c andThen formedReply directions q (n + 1 + 1) rest ≡ formedReply directions q 1 (netFrom file 0 .conditions)
+      unfolding formedReply
+      onward = rw (add-one (n + 1)) (ap (formedReply directions q (n + 1)) (sym here) ∙ f .reply)
 
       abbrev figure : Figure
       figure = figureOf (conditionReply directions q (n + 1) c) (misclosureOf directions q c)
 
-      pub form-refused : (why : Refusal) → figure ≡ NoFigure why → Refused why ≡ conditionsReply directions q 1 (netFrom file 0 .conditions)
+      pub form-refused : (why : Refusal) → figure ≡ NoFigure why → Refused why ≡ formedReply directions q 1 (netFrom file 0 .conditions)
       form-refused why z =
           let refused : conditionReply directions q (n + 1) c ≡ Refused why
           = sym (figure-reply (conditionReply directions q (n + 1) c) (misclosureOf directions q c)) ∙ ap figureReply z in
-          ap (λ (r : Reply). r andThen conditionsReply directions q (n + 1 + 1) rest) (sym refused) ∙ onward
+          ap (λ (r : Reply). r andThen formedReply directions q (n + 1 + 1) rest) (sym refused) ∙ onward
 
       -- what stands in the row after it, and after the row is put back into its place
       module _ (few : length (netFrom file 0 .conditions) ≤ 24) (narrow : length directions ≤ 64)
@@ -235,7 +235,7 @@ module _ {file : List ℕ} {directions q a w : List ℤ} {start at n : ℕ} (f :
             a-long = row-put ∙ f .a-long;
             w-long = length-set w n y ∙ f .w-long;
             fit = fits .1;
-            reply = ap (λ (r : Reply). r andThen conditionsReply directions q (n + 1 + 1) rest) (sym accepted) ∙ onward;
+            reply = ap (λ (r : Reply). r andThen formedReply directions q (n + 1 + 1) rest) (sym accepted) ∙ onward;
             rows = rows-here;
             closings = taken-more w (misclosuresOf directions q rest) (misclosuresOf directions q (netFrom file 0 .conditions)) n y
                 (omega (arith, form-turn few narrow, f .w-long))
@@ -244,7 +244,7 @@ module _ {file : List ℕ} {directions q a w : List ℤ} {start at n : ℕ} (f :
           }
 
     -- another line
-    pub form-other : headingOf said ≡ NoHeading → FormedTo file directions q a w next at n
+    pub form-other : headingIn said ≡ NoHeading → FormedTo file directions q a w next at n
     form-other e =
         let same : netFrom file start .conditions ≡ netFrom file next .conditions
         = ap (λ (net : Net). net .conditions) (walked .net) ∙ heading-none said (netFrom file next) e in record {
@@ -254,7 +254,7 @@ module _ {file : List ℕ} {directions q a w : List ℤ} {start at n : ℕ} (f :
           a-long = f .a-long;
           w-long = f .w-long;
           fit = subst Fit same (f .fit);
-          reply = ap (conditionsReply directions q (n + 1)) (sym same) ∙ f .reply;
+          reply = ap (formedReply directions q (n + 1)) (sym same) ∙ f .reply;
           rows = ap (λ (cs : List Condition). take at a ++ rowsOf directions q cs) (sym same) ∙ f .rows;
           closings = ap (λ (cs : List Condition). take n w ++ misclosuresOf directions q cs) (sym same) ∙ f .closings;
         }
@@ -265,9 +265,9 @@ module _ {file : List ℕ} {directions q a w : List ℤ} {start at n : ℕ} (f :
     unfolding netOf
     none = ap (λ (net : Net). net .conditions) e
 
-    pub end-reply : Accepted ≡ conditionsReply directions q 1 (netFrom file 0 .conditions)
-    unfolding conditionsReply
-    end-reply = ap (conditionsReply directions q (n + 1)) (sym none) ∙ f .reply
+    pub end-reply : Accepted ≡ formedReply directions q 1 (netFrom file 0 .conditions)
+    unfolding formedReply
+    end-reply = ap (formedReply directions q (n + 1)) (sym none) ∙ f .reply
 
     pub end-count : n ≡ length (netFrom file 0 .conditions)
     end-count = omega (arith, f .count, ap length none)

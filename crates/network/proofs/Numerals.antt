@@ -21,7 +21,7 @@ use lib.Seq.{drop-cons, take-all}
 use mir.Syntax.{w64}
 use mir.Val.{SFits, toZ, ofZ}
 use Rattle.exact.proofs.Bound.{read}
-use Rattle.network.specs.Numbers.{readDigits, Small, plus, minus, unsignedOf, numberOf}
+use Rattle.network.specs.Numbers.{readDigits, Small, plus, minus, unsignedOf, numeral}
 use Rattle.network.specs.declared.number.Number.the-variants.{Value, Malformed}
 use Rattle.network.specs.declared.number.Digits.{Digits}
 use Rattle.network.specs.declared.number.Digits.the-variants.{Whole, NoDigits}
@@ -117,16 +117,16 @@ module _ (s : List ℕ) where
     unfolding unsignedOf
     unsigned-one m = rw (ne-eqb (length s) 0 e, le-ltb 11 (length s) l, le-ltb 1 (length s) m)
 
-  pub number-minus : getD s 0 0 ≡ 45 → minus (unsignedOf (drop 1 s)) ≡ numberOf s
-  unfolding numberOf
+  pub number-minus : getD s 0 0 ≡ 45 → minus (unsignedOf (drop 1 s)) ≡ numeral s
+  unfolding numeral
   number-minus e = rw (eq-eqb (getD s 0 0) 45 e)
 
-  pub number-plus : (getD s 0 0 ≡ 45 → ⊥) → plus (unsignedOf s) ≡ numberOf s
-  unfolding numberOf
+  pub number-plus : (getD s 0 0 ≡ 45 → ⊥) → plus (unsignedOf s) ≡ numeral s
+  unfolding numeral
   number-plus e = rw (ne-eqb (getD s 0 0) 45 e)
 
-pub number-empty : (s : List ℕ) → length s ≡ 0 → Malformed ≡ numberOf s
-unfolding numberOf unsignedOf plus
+pub number-empty : (s : List ℕ) → length s ≡ 0 → Malformed ≡ numeral s
+unfolding numeral unsignedOf plus
 number-empty [] e = refl
 number-empty (x ∷ s) e = absurd (omega (arith, e))
 

@@ -29,9 +29,9 @@ use Rattle.condition.specs.Terms.{letterOf, suits, fault, termFault}
 use Rattle.condition.specs.Rules.{termAt, directionsMiscounted, termsMiscounted, countsFault, targetFault, targetCheck, termCheck, termsCheck, checks, beyond, coefficientsReply, misclosure, misclosureFigure, Lent}
 use Rattle.network.specs.Lines.{LF, linesOf}
 use Rattle.network.specs.Parts.{parted}
-use Rattle.network.specs.Records.{A, S, P, F, L, R, recordOf}
-use Rattle.network.specs.Scan.{none, suits as fits, outOfTurn, oneTooMany, directionReply, anglesReply, sidesReply, termReply, lineReply, counted, endFault, endReply, scanned, scanReply}
-use Rattle.network.specs.Net.{Condition, Net, noTerms, headed, withTerm, before, netOf, netFrom, lentOf, refusedAs, conditionReply}
+use Rattle.network.specs.Records.{letter-A, letter-S, letter-P, letter-F, letter-L, letter-R, recordOf}
+use Rattle.network.specs.Scan.{none, belongs, outOfTurn, oneTooMany, directionReply, anglesReply, sidesReply, termReply, lineReply, counted, endFault, endReply, scanned, scanReply}
+use Rattle.network.specs.Net.{Condition, Net, noTerms, headed, withTerm, lineBefore, netOf, netFrom, lentOf, refusedAs, conditionReply}
 use Rattle.network.specs.declared.record.Record.{Record}
 use Rattle.network.specs.declared.record.Record.the-variants.{Direction, Angles, Sides, Term as TermLine, Unreadable}
 use Rattle.network.specs.declared.scan.Counts.{Counts}
@@ -69,7 +69,7 @@ good-more m kind c letter value d i k s f g =
 
 -- a heading as a kind of condition
 abbrev kindAt : ℕ → Kind
-kindAt heading = cond (eqb heading A) Angle Side
+kindAt heading = cond (eqb heading letter-A) Angle Side
 
 either : (a b : Bool) → (a || b) ≡ true → (a ≡ true) ⊎ (b ≡ true)
 either true b e = inl refl
@@ -86,20 +86,20 @@ number : Bool → ℕ
 number true = 1
 number false = 0
 
-under : (letter : ℕ) (a s : Bool) → cond a (eqb letter P || eqb letter F) (cond s (eqb letter L || eqb letter R) false) ≡ true
+under : (letter : ℕ) (a s : Bool) → cond a (eqb letter letter-P || eqb letter letter-F) (cond s (eqb letter letter-L || eqb letter letter-R) false) ≡ true
     → suits (cond a Angle Side) (letterOf (pos letter)) ≡ true
 unfolding letterOf same number
-under letter true s e = letters Angle letter P F refl refl e
-under letter false true e = letters Side letter L R refl refl e
+under letter true s e = letters Angle letter letter-P letter-F refl refl e
+under letter false true e = letters Side letter letter-L letter-R refl refl e
 under letter false false e = absurd (omega (arith, ap number e))
 
-fits-kind : (heading letter : ℕ) → fits heading letter ≡ true → suits (kindAt heading) (letterOf (pos letter)) ≡ true
-unfolding fits
-fits-kind heading letter e = under letter (eqb heading A) (eqb heading S) e
+fits-kind : (heading letter : ℕ) → belongs heading letter ≡ true → suits (kindAt heading) (letterOf (pos letter)) ≡ true
+unfolding belongs
+fits-kind heading letter e = under letter (eqb heading letter-A) (eqb heading letter-S) e
 
--- under no heading nothing fits
-no-heading : (letter : ℕ) → fits 0 letter ≡ true → ⊥
-unfolding fits number
+-- under no heading nothing belongs
+no-heading : (letter : ℕ) → belongs 0 letter ≡ true → ⊥
+unfolding belongs number
 no-heading letter e = omega (arith, ap number e)
 
 -- ---- the directions
@@ -198,8 +198,8 @@ module _ (place : ℕ) (c : Counts) (net : Net) (coherent : Coherent c) where
     total = (after .total .0, omega (arith, after .total .1), omega (arith, after .total .2));
   }
 
-  line-passed : (said : Record) → lineReply place c said ≡ Accepted → (Coherent (counted c said) → Passed (counted c said) net) → Passed c (before said net)
-  unfolding lineReply directionReply anglesReply sidesReply termReply counted before AllGood
+  line-passed : (said : Record) → lineReply place c said ≡ Accepted → (Coherent (counted c said) → Passed (counted c said) net) → Passed c (lineBefore said net)
+  unfolding lineReply directionReply anglesReply sidesReply termReply counted lineBefore AllGood
   line-passed (Direction number direction q) e after =
       let first = both-accepted (refuseIf (ltb 0 (c .n)) (Malformed place)) (refuseIf (outOfTurn (c .m) number) (Count place) andThen refuseIf (outOfRange direction q) (OutOfRange place)) e in
       let none : c .n ≤ 0 = ltb-false 0 (c .n) (if-accepted (ltb 0 (c .n)) (Malformed place) (first .0)) in
@@ -215,15 +215,15 @@ module _ (place : ℕ) (c : Counts) (net : Net) (coherent : Coherent c) where
       }
   line-passed (Angles target) e after =
       let checks = both-accepted (refuseIf (oneTooMany (c .n) (c .terms)) (Count place)) (refuseIf (targetFault target) (OutOfRange place)) e in
-      heading-passed Angle target A refl (if-accepted (oneTooMany (c .n) (c .terms)) (Count place) (checks .0))
+      heading-passed Angle target letter-A refl (if-accepted (oneTooMany (c .n) (c .terms)) (Count place) (checks .0))
       (ap (λ (b : Bool). refuseIf b (OutOfRange 0)) (if-accepted (targetFault target) (OutOfRange place) (checks .1))) (after (λ h. absurd (omega arith)))
-  line-passed Sides e after = heading-passed Side (pos 0) S refl (if-accepted (oneTooMany (c .n) (c .terms)) (Count place) e) refl (after (λ h. absurd (omega arith)))
+  line-passed Sides e after = heading-passed Side (pos 0) letter-S refl (if-accepted (oneTooMany (c .n) (c .terms)) (Count place) e) refl (after (λ h. absurd (omega arith)))
   line-passed (TermLine letter value d i k) e after =
-      let first = both-accepted (refuseIf (not (fits (c .heading) letter)) (Malformed place)) (refuseIf (leb 12 (c .terms)) (Count place) andThen refuseIf (termFault (pos (c .m)) letter value d i k) (OutOfRange place)) e in
-      let fit = not-false (fits (c .heading) letter) (if-accepted (not (fits (c .heading) letter)) (Malformed place) (first .0)) in
+      let first = both-accepted (refuseIf (not (belongs (c .heading) letter)) (Malformed place)) (refuseIf (leb 12 (c .terms)) (Count place) andThen refuseIf (termFault (pos (c .m)) letter value d i k) (OutOfRange place)) e in
+      let fit = not-false (belongs (c .heading) letter) (if-accepted (not (belongs (c .heading) letter)) (Malformed place) (first .0)) in
       let range = if-accepted (termFault (pos (c .m)) letter value d i k) (OutOfRange place) (both-accepted (refuseIf (leb 12 (c .terms)) (Count place)) (refuseIf (termFault (pos (c .m)) letter value d i k) (OutOfRange place)) (first .1) .1) in
       let r = after coherent in
-      let begun : 0 < c .n = ⊎-elim (λ h. absurd (no-heading letter (subst (λ (x : ℕ). fits x letter ≡ true) (coherent h) fit))) (λ h. h) (zero-or-more (c .n)) in
+      let begun : 0 < c .n = ⊎-elim (λ h. absurd (no-heading letter (subst (λ (x : ℕ). belongs x letter ≡ true) (coherent h) fit))) (λ h. h) (zero-or-more (c .n)) in
       let all : c .m ≡ c .m + length (net .directions) = omega (arith, r .done begun) in
       record {
         directions = r .directions;

@@ -10,7 +10,7 @@ use denote.Enum.Declared.{tagOf}
 use lib.IntN.{ℤ, pos}
 use lib.ListN.{length, take, set, length-set}
 use Rattle.condition.specs.declared.Kind.{Kind}
-use Rattle.network.specs.Net.{Condition, Net, noTerms, headed, withTerm, before, netOf, netFrom}
+use Rattle.network.specs.Net.{Condition, Net, noTerms, headed, withTerm, lineBefore, netOf, netFrom}
 use Rattle.network.specs.Gathered.{conditionIn, Full}
 use Rattle.network.specs.declared.terms.Terms.{Terms}
 use Rattle.network.specs.declared.record.Record.{Record}
@@ -35,12 +35,12 @@ module _ {file : List ℕ} {direction q : List ℤ} {m start : ℕ} (r : ReadTo 
     -- a D line
     module _ (number x g : ℤ) (e : said ≡ Direction number x g) where
       direction-here : netFrom file start .directions ≡ x ∷ netFrom file next .directions
-      unfolding before
-      direction-here = ap (λ (net : Net). net .directions) (w .net ∙ ap (λ (s : Record). before s (netFrom file next)) e)
+      unfolding lineBefore
+      direction-here = ap (λ (net : Net). net .directions) (w .net ∙ ap (λ (s : Record). lineBefore s (netFrom file next)) e)
 
       q-here : netFrom file start .q ≡ g ∷ netFrom file next .q
-      unfolding before
-      q-here = ap (λ (net : Net). net .q) (w .net ∙ ap (λ (s : Record). before s (netFrom file next)) e)
+      unfolding lineBefore
+      q-here = ap (λ (net : Net). net .q) (w .net ∙ ap (λ (s : Record). lineBefore s (netFrom file next)) e)
 
       pub read-room : length (netFrom file 0 .directions) ≤ 64 → m < 64
       read-room h =
@@ -102,8 +102,8 @@ module _ {file : List ℕ} {start : ℕ} {kinds values d i k : List ℤ} {count 
 
   module _ {said : Record} {next : ℕ} (w : Walked file at said next) (letter : ℕ) (z e f h : ℤ) (q : said ≡ Term letter z e f h) where
     term-here : netFrom file at .pending ≡ withTerm letter z e f h (netFrom file next .pending)
-    unfolding before
-    term-here = ap (λ (net : Net). net .pending) (w .net ∙ ap (λ (s : Record). before s (netFrom file next)) q)
+    unfolding lineBefore
+    term-here = ap (λ (net : Net). net .pending) (w .net ∙ ap (λ (s : Record). lineBefore s (netFrom file next)) q)
 
     pub gather-room : length (netFrom file start .pending .kinds) ≤ 12 → count < 12
     gather-room b =

@@ -13,7 +13,7 @@ use lib.Dec.{ltb}
 use lib.IntN.{ℤ, pos, negsuc, natAbs}
 use lib.ListN.{length, getD, length-append}
 use Rattle.network.specs.Decimal.{digits, digitsOf, written}
-use Rattle.network.specs.Numbers.{readDigits, unsignedOf, plus, minus, numberOf}
+use Rattle.network.specs.Numbers.{readDigits, unsignedOf, plus, minus, numeral}
 use Rattle.network.specs.declared.number.Number.the-variants.{Value}
 use Rattle.network.specs.declared.number.Digits.the-variants.{Whole}
 use Rattle.network.proofs.Writing.{one-small, one-large, tenth}
@@ -105,12 +105,12 @@ unsigned-back n h =
     unsigned-led (digitsOf (suc n)) (few-digits 10 (suc n) h) (leading (suc n) (omega arith) (omega arith))
     ∙ reads-digits (suc n) (omega arith)
 
-zero-back : numberOf (written (pos 0)) ≡ Value (pos 0)
-unfolding numberOf written digitsOf digits unsignedOf readDigits plus
+zero-back : numeral (written (pos 0)) ≡ Value (pos 0)
+unfolding numeral written digitsOf digits unsignedOf readDigits plus
 zero-back = refl
 
-pub reads-back : (z : ℤ) → natAbs z < 10 ^ 11 → numberOf (written z) ≡ Value z
-unfolding numberOf written plus minus
+pub reads-back : (z : ℤ) → natAbs z < 10 ^ 11 → numeral (written z) ≡ Value z
+unfolding numeral written plus minus
 reads-back (pos zero) h = zero-back
 reads-back (pos (suc n)) h =
     rw (

@@ -13,7 +13,7 @@ use borrow.Author.Tests.{lt-ltb, le-ltb, ltb-true, ltb-false}
 use lib.Dec.{ltb}
 use lib.ListN.{length, take, drop, drop-of-length-le, length-drop}
 use lib.Seq.{length-take-le}
-use Rattle.network.specs.Parts.{before, placeFrom, parted}
+use Rattle.network.specs.Parts.{bytesBefore, placeFrom, parted}
 use Rattle.network.specs.Lines.{LF, lineAt, statusAt, linesOf}
 use Rattle.network.specs.declared.line.LineStatus.{LineStatus}
 use Rattle.network.specs.declared.line.LineStatus.the-variants.{Whole, NoneLeft, LfMissing}
@@ -21,7 +21,7 @@ use Rattle.network.proofs.Parting.{parts-more, parts-dropped}
 
 -- ---- what the end `e` of the search from `i` says
 module _ (s : List ℕ) (i e : ℕ) (q : e ≡ placeFrom LF s i) where
-  far : e - i ≡ before LF (drop i s)
+  far : e - i ≡ bytesBefore LF (drop i s)
   unfolding placeFrom
   far = omega arith
 
@@ -104,7 +104,7 @@ module _ (s : List ℕ) (i : ℕ) where
   pub line-next : placeFrom LF s i < length s → i + length (lineAt s i) ≡ placeFrom LF s i
   unfolding lineAt placeFrom
   line-next l =
-      rw (lt-ltb (i + before LF (drop i s)) (length s) l, length-take-le (before LF (drop i s)) (drop i s) (omega (arith, length-drop i s)))
+      rw (lt-ltb (i + bytesBefore LF (drop i s)) (length s) l, length-take-le (bytesBefore LF (drop i s)) (drop i s) (omega (arith, length-drop i s)))
 
 -- ---- the list of all lines
 pub lines-whole : (s : List ℕ) (i : ℕ) → placeFrom LF s i < length s → linesOf (drop i s) ≡ lineAt s i ∷ linesOf (drop (placeFrom LF s i + 1) s)

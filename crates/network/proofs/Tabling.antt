@@ -20,7 +20,7 @@ use Rattle.reply.specs.Checks.{leaves}
 use Rattle.adjustment.specs.Table.{at, tableOf}
 use Rattle.adjustment.specs.Solution.{K}
 use Rattle.adjustment.specs.Promise.{Answers, adjustReply, answersOf, Adjusts}
-use Rattle.network.specs.Net.{Condition, Net, zeros, conditionsReply, rowsOf, misclosuresOf, tableIn, room, netReply, netAnswers}
+use Rattle.network.specs.Net.{Condition, Net, zeros, formedReply, rowsOf, misclosuresOf, tableIn, room, netReply, netAnswers}
 use Rattle.network.specs.declared.Listed.{Listed}
 use Rattle.network.specs.Listing.{acceptedListing, Wrote}
 use Rattle.network.specs.File.{answersListing, tableListing, netListing, ListedBy}
@@ -76,13 +76,13 @@ misclosures-length directions q [] = refl
 misclosures-length directions q (c ∷ cs) = ap suc (misclosures-length directions q cs)
 
 module _ (net : Net) (ds q : List ℤ) (d : ds ≡ net .directions) (e : q ≡ net .q) where
-  pub net-refused : (why : Refusal) → conditionsReply ds q 1 (net .conditions) ≡ Refused why → netReply net ≡ Refused why
+  pub net-refused : (why : Refusal) → formedReply ds q 1 (net .conditions) ≡ Refused why → netReply net ≡ Refused why
   unfolding netReply
   net-refused why h = rw (sym d, sym e, h)
 
   -- the table of its conditions
   module _ (a w : List ℤ) (rows : a ≡ rowsOf ds q (net .conditions)) (closings : w ≡ misclosuresOf ds q (net .conditions)) where
-    pub net-accepted : conditionsReply ds q 1 (net .conditions) ≡ Accepted → adjustReply ds q a w (room (length ds) (length w)) ≡ netReply net
+    pub net-accepted : formedReply ds q 1 (net .conditions) ≡ Accepted → adjustReply ds q a w (room (length ds) (length w)) ≡ netReply net
     unfolding netReply
     net-accepted h = rw (rows, closings, sym d, sym e, h, misclosures-length ds q (net .conditions))
 

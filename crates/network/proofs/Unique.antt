@@ -7,7 +7,7 @@ use mathlib.Core.List.{List}
 use Prim.Native.Nat.{ℕ}
 use Rattle.reply.specs.declared.Reply.{Reply}
 use Rattle.network.specs.Lines.{lineAt, statusAt}
-use Rattle.network.specs.Numbers.{numberOf}
+use Rattle.network.specs.Numbers.{numeral}
 use Rattle.network.specs.Scan.{scanReply}
 use Rattle.network.specs.declared.line.LineStatus.{LineStatus}
 use Rattle.network.specs.declared.number.Number.{Number}
@@ -18,7 +18,7 @@ one-line file start a b x y = x ∙ sym y
 pub one-status : (file : List ℕ) (start : ℕ) (a b : LineStatus) → a ≡ statusAt file start → b ≡ statusAt file start → a ≡ b
 one-status file start a b x y = x ∙ sym y
 
-pub one-number : (text : List ℕ) (a b : Number) → a ≡ numberOf text → b ≡ numberOf text → a ≡ b
+pub one-number : (text : List ℕ) (a b : Number) → a ≡ numeral text → b ≡ numeral text → a ≡ b
 one-number text a b x y = x ∙ sym y
 
 pub one-reply : (file : List ℕ) (a b : Reply) → a ≡ scanReply file → b ≡ scanReply file → a ≡ b

@@ -18,7 +18,7 @@ use lib.Seq.{take-suc-set, append-snoc, length-take-le}
 use Rattle.network.specs.Parts.{placeFrom}
 use Rattle.network.specs.Lines.{LF, lineAt}
 use Rattle.network.specs.Records.{recordOf}
-use Rattle.network.specs.Net.{Net, noTerms, before, netOf, netFrom}
+use Rattle.network.specs.Net.{Net, noTerms, lineBefore, netOf, netFrom}
 use Rattle.network.specs.Cursor.{turnOf}
 use Rattle.network.specs.declared.record.Record.{Record}
 use Rattle.network.specs.declared.record.Record.the-variants.{Direction, Angles, Sides, Term, Unreadable}
@@ -41,7 +41,7 @@ module _ (file : List ℕ) (start : ℕ) where
 
   -- what follows a line that says `said`, from `next` on
   pub record Walked (said : Record) (next : ℕ) : Type 0 where
-    pub net : netFrom file start ≡ before said (netFrom file next)
+    pub net : netFrom file start ≡ lineBefore said (netFrom file next)
     pub on : start < next
     pub within : next ≤ length file
 
@@ -87,16 +87,16 @@ module _ (file : List ℕ) (start : ℕ) where
 
 -- ---- a line of another kind: the keys are the places of the kinds in `Record`
 pub no-direction : (said : Record) (net : Net) → OneOf (1 ∷ 2 ∷ 3 ∷ 4 ∷ []) (tagOf the-type said)
-    → (before said net .directions ≡ net .directions) × (before said net .q ≡ net .q)
-unfolding before
+    → (lineBefore said net .directions ≡ net .directions) × (lineBefore said net .q ≡ net .q)
+unfolding lineBefore
 no-direction (Direction number direction q) net o = absurd (miss (1 ∷ 2 ∷ 3 ∷ 4 ∷ []) 0 tt o)
 no-direction (Angles target) net o = (refl, refl)
 no-direction Sides net o = (refl, refl)
 no-direction (Term letter value d i k) net o = (refl, refl)
 no-direction Unreadable net o = (refl, refl)
 
-pub no-term : (said : Record) (net : Net) → OneOf (0 ∷ 1 ∷ 2 ∷ 4 ∷ []) (tagOf the-type said) → before said net .pending ≡ noTerms
-unfolding before
+pub no-term : (said : Record) (net : Net) → OneOf (0 ∷ 1 ∷ 2 ∷ 4 ∷ []) (tagOf the-type said) → lineBefore said net .pending ≡ noTerms
+unfolding lineBefore
 no-term (Direction number direction q) net o = refl
 no-term (Angles target) net o = refl
 no-term Sides net o = refl

@@ -14,12 +14,12 @@ use Rattle.network.specs.declared.record.Record.the-variants.{Direction,
 use Rattle.network.specs.declared.terms.Terms.{Terms}
 
 -- the kind and target of the condition that a line begins
-unfoldable pub headingOf : Record → Heading
-headingOf (Angles target) = Of Angle target
-headingOf Sides = Of Side (pos 0)
-headingOf (Direction number direction q) = NoHeading
-headingOf (Term letter value d i k) = NoHeading
-headingOf Unreadable = NoHeading
+unfoldable pub headingIn : Record → Heading
+headingIn (Angles target) = Of Angle target
+headingIn Sides = Of Side (pos 0)
+headingIn (Direction number direction q) = NoHeading
+headingIn (Term letter value d i k) = NoHeading
+headingIn Unreadable = NoHeading
 
 -- the condition whose terms stand in fixed arrays
 abbrev pub conditionIn : Kind → ℤ → Terms → Condition

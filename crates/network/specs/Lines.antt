@@ -4,7 +4,7 @@ use mathlib.Core.List.{List, []}
 use Prim.Native.Nat.{ℕ}
 use lib.ListN.{length, take, drop}
 use lib.Dec.{ltb}
-use Rattle.network.specs.Parts.{before, placeFrom, parted}
+use Rattle.network.specs.Parts.{bytesBefore, placeFrom, parted}
 use Rattle.network.specs.declared.line.LineStatus.{LineStatus}
 use Rattle.network.specs.declared.line.LineStatus.the-variants.{Whole, NoneLeft, LfMissing}
 
@@ -13,7 +13,7 @@ LF = 10
 
 -- "The reader hands back the line itself as the caller's own bytes, without its LF." Where none is left or its LF is missing "the part handed back is empty"
 unfoldable pub lineAt : List ℕ → ℕ → List ℕ
-lineAt file start = cond (ltb (placeFrom LF file start) (length file)) (take (before LF (drop start file)) (drop start file)) []
+lineAt file start = cond (ltb (placeFrom LF file start) (length file)) (take (bytesBefore LF (drop start file)) (drop start file)) []
 
 -- "A companion reply for the same start says line, none left (start at or past the end) or LF missing"
 unfoldable pub statusAt : List ℕ → ℕ → LineStatus

@@ -49,19 +49,19 @@ withTerm letter value d i k c =
     record { kind = c .kind; target = c .target; kinds = pos letter ∷ c .kinds; values = value ∷ c .values; d = d ∷ c .d; i = i ∷ c .i; k = k ∷ c .k }
 
 -- a line before the others. Only a C line takes up the terms that follow it, up to the next line of another kind
-unfoldable pub before : Record → Net → Net
-before (Direction number direction q) net =
+unfoldable pub lineBefore : Record → Net → Net
+lineBefore (Direction number direction q) net =
     record { directions = direction ∷ net .directions; q = q ∷ net .q; pending = noTerms; conditions = net .conditions }
-before (Angles target) net =
+lineBefore (Angles target) net =
     record { directions = net .directions; q = net .q; pending = noTerms; conditions = headed Angle target (net .pending) ∷ net .conditions }
-before Sides net = record { directions = net .directions; q = net .q; pending = noTerms; conditions = headed Side (pos 0) (net .pending) ∷ net .conditions }
-before (Term letter value d i k) net =
+lineBefore Sides net = record { directions = net .directions; q = net .q; pending = noTerms; conditions = headed Side (pos 0) (net .pending) ∷ net .conditions }
+lineBefore (Term letter value d i k) net =
     record { directions = net .directions; q = net .q; pending = withTerm letter value d i k (net .pending); conditions = net .conditions }
-before Unreadable net = record { directions = net .directions; q = net .q; pending = noTerms; conditions = net .conditions }
+lineBefore Unreadable net = record { directions = net .directions; q = net .q; pending = noTerms; conditions = net .conditions }
 
 unfoldable pub netOf : List (List ℕ) → Net
 netOf [] = record { directions = []; q = []; pending = noTerms; conditions = [] }
-netOf (line ∷ lines) = before (recordOf line) (netOf lines)
+netOf (line ∷ lines) = lineBefore (recordOf line) (netOf lines)
 
 -- the net of the lines from a start on
 unfoldable pub netFrom : List ℕ → ℕ → Net
@@ -85,9 +85,9 @@ module _ (directions q : List ℤ) where
       refusedAs (Coefficient j) (coefficientsReply (lentOf c) (length directions)) andThen refusedAs (Misclosure j) (figureReply (misclosureFigure (lentOf c)))
 
   -- from condition j on
-  unfoldable pub conditionsReply : ℕ → List Condition → Reply
-  conditionsReply j [] = Accepted
-  conditionsReply j (c ∷ cs) = conditionReply j c andThen conditionsReply (suc j) cs
+  unfoldable pub formedReply : ℕ → List Condition → Reply
+  formedReply j [] = Accepted
+  formedReply j (c ∷ cs) = conditionReply j c andThen formedReply (suc j) cs
 
   unfoldable pub rowOf : Condition → List ℤ
   rowOf c = coefficientsList (lentOf c) (zeros (length directions))
@@ -112,7 +112,7 @@ room m n = lists (zeros m) (zeros m) (zeros m) (zeros n) (zeros n) (zeros n)
 
 unfoldable pub netReply : Net → Reply
 netReply net =
-    conditionsReply (net .directions) (net .q) 1 (net .conditions)
+    formedReply (net .directions) (net .q) 1 (net .conditions)
     andThen adjustReply (net .directions) (net .q)
     (rowsOf (net .directions) (net .q) (net .conditions))
     (misclosuresOf (net .directions) (net .q) (net .conditions))

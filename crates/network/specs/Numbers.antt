@@ -39,5 +39,5 @@ minus (Whole v) = cond (eqb v 0) Malformed (Value (negℤ (pos v)))
 minus NoDigits = Malformed
 
 -- "optional minus", the byte 45
-unfoldable pub numberOf : List ℕ → Number
-numberOf text = cond (eqb (getD text 0 0) 45) (minus (unsignedOf (drop 1 text))) (plus (unsignedOf text))
+unfoldable pub numeral : List ℕ → Number
+numeral text = cond (eqb (getD text 0 0) 45) (minus (unsignedOf (drop 1 text))) (plus (unsignedOf text))

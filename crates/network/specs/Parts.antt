@@ -6,13 +6,13 @@ use lib.ListN.{drop}
 use lib.Dec.{eqb}
 
 -- how many bytes stand before the first `byte`; all of them, where there is none
-unfoldable pub before : ℕ → List ℕ → ℕ
-before byte [] = 0
-before byte (b ∷ bs) = cond (eqb b byte) 0 (suc (before byte bs))
+unfoldable pub bytesBefore : ℕ → List ℕ → ℕ
+bytesBefore byte [] = 0
+bytesBefore byte (b ∷ bs) = cond (eqb b byte) 0 (suc (bytesBefore byte bs))
 
 -- where the first `byte` at or after `start` stands
 unfoldable pub placeFrom : ℕ → List ℕ → ℕ → ℕ
-placeFrom byte text start = start + before byte (drop start text)
+placeFrom byte text start = start + bytesBefore byte (drop start text)
 
 -- the parts of a text, each without the `byte` that ends it. What comes after the last such byte has the parts `end`, with the bytes in front of the
 -- first of them: with no part it is dropped, with one empty part it is a part of its own

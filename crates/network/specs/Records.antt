@@ -6,36 +6,36 @@ use lib.Dec.{eqb}
 use lib.IntN.{ℤ, pos}
 use lib.ListN.{length}
 use Rattle.network.specs.Fields.{fieldsOf, fieldAt, letterOf}
-use Rattle.network.specs.Numbers.{numberOf}
+use Rattle.network.specs.Numbers.{numeral}
 use Rattle.network.specs.declared.number.Number.{Number}
 use Rattle.network.specs.declared.number.Number.the-variants.{Value, Malformed}
 use Rattle.network.specs.declared.record.Record.{Record}
 use Rattle.network.specs.declared.record.Record.the-variants.{Direction, Angles, Sides, Term, Unreadable}
 
 -- the letters' codes
-abbrev pub A : ℕ
-A = 65
+abbrev pub letter-A : ℕ
+letter-A = 65
 
-abbrev pub C : ℕ
-C = 67
+abbrev pub letter-C : ℕ
+letter-C = 67
 
-abbrev pub D : ℕ
-D = 68
+abbrev pub letter-D : ℕ
+letter-D = 68
 
-abbrev pub F : ℕ
-F = 70
+abbrev pub letter-F : ℕ
+letter-F = 70
 
-abbrev pub L : ℕ
-L = 76
+abbrev pub letter-L : ℕ
+letter-L = 76
 
-abbrev pub P : ℕ
-P = 80
+abbrev pub letter-P : ℕ
+letter-P = 80
 
-abbrev pub R : ℕ
-R = 82
+abbrev pub letter-R : ℕ
+letter-R = 82
 
-abbrev pub S : ℕ
-S = 83
+abbrev pub letter-S : ℕ
+letter-S = 83
 
 -- a record of what a number's text says; none, where the number is malformed
 unfoldable pub with : Number → (ℤ → Record) → Record
@@ -44,7 +44,7 @@ with Malformed record' = Unreadable
 
 module _ (line : List ℕ) where
   abbrev pub number : ℕ → (ℤ → Record) → Record
-  number k = with (numberOf (fieldAt line k))
+  number k = with (numeral (fieldAt line k))
 
   -- a record of a line with so many fields
   abbrev pub fields : ℕ → Record → Record
@@ -62,15 +62,15 @@ module _ (line : List ℕ) where
   sidesLine = fields 2 Sides
 
   unfoldable pub conditionLine : Record
-  conditionLine = cond (eqb (letterOf (fieldAt line 1)) A) anglesLine (cond (eqb (letterOf (fieldAt line 1)) S) sidesLine Unreadable)
+  conditionLine = cond (eqb (letterOf (fieldAt line 1)) letter-A) anglesLine (cond (eqb (letterOf (fieldAt line 1)) letter-S) sidesLine Unreadable)
 
   -- "P i k"
   unfoldable pub angleLine : Record
-  angleLine = fields 3 (number 1 (λ i. number 2 (λ k. Term P (pos 0) (pos 0) i k)))
+  angleLine = fields 3 (number 1 (λ i. number 2 (λ k. Term letter-P (pos 0) (pos 0) i k)))
 
   -- "F fixed angle"
   unfoldable pub fixedLine : Record
-  fixedLine = fields 2 (number 1 (λ x. Term F x (pos 0) (pos 0) (pos 0)))
+  fixedLine = fields 2 (number 1 (λ x. Term letter-F x (pos 0) (pos 0) (pos 0)))
 
   -- "L or R, logarithm, d, i, k"
   unfoldable pub sideLine : ℕ → Record
@@ -78,12 +78,12 @@ module _ (line : List ℕ) where
 
   unfoldable pub lineOf : ℕ → Record
   lineOf letter =
-      cond (eqb letter D) directionLine
-      (cond (eqb letter C) conditionLine
-      (cond (eqb letter P) angleLine
-      (cond (eqb letter F) fixedLine
-      (cond (eqb letter L) (sideLine L)
-      (cond (eqb letter R) (sideLine R) Unreadable)))))
+      cond (eqb letter letter-D) directionLine
+      (cond (eqb letter letter-C) conditionLine
+      (cond (eqb letter letter-P) angleLine
+      (cond (eqb letter letter-F) fixedLine
+      (cond (eqb letter letter-L) (sideLine letter-L)
+      (cond (eqb letter letter-R) (sideLine letter-R) Unreadable)))))
 
   unfoldable pub recordOf : Record
   recordOf = lineOf (letterOf (fieldAt line 0))

@@ -11,7 +11,7 @@ use Rattle.reply.specs.declared.Reply.the-variants.{Accepted, Refused}
 use Rattle.reply.specs.Checks.{refuseIf, _andThen_}
 use Rattle.network.specs.Parts.{parted}
 use Rattle.network.specs.Lines.{LF}
-use Rattle.network.specs.Records.{A, S, P, F, L, R, recordOf}
+use Rattle.network.specs.Records.{letter-A, letter-S, letter-P, letter-F, letter-L, letter-R, recordOf}
 use Rattle.condition.specs.Terms.{termFault}
 use Rattle.condition.specs.Rules.{targetFault}
 use Rattle.direction.specs.Ranges.{outOfRange}
@@ -25,9 +25,9 @@ none = record { m = 0; n = 0; terms = 0; heading = 0 }
 
 -- ---- 1: "line malformed, unknown, or under the wrong heading"
 -- "Under A: P [..] and F [..]. Under S: L or R"
-unfoldable pub suits : ℕ → ℕ → Bool
-suits heading letter =
-    cond (eqb heading A) (eqb letter P || eqb letter F) (cond (eqb heading S) (eqb letter L || eqb letter R) false)
+unfoldable pub belongs : ℕ → ℕ → Bool
+belongs heading letter =
+    cond (eqb heading letter-A) (eqb letter letter-P || eqb letter letter-F) (cond (eqb heading letter-S) (eqb letter letter-L || eqb letter letter-R) false)
 
 -- ---- 2: "counts of directions, conditions or terms; D out of turn"
 -- "number (1, 2, 3 and on)", "m: 1 to 64"
@@ -54,7 +54,7 @@ sidesReply place c = refuseIf (oneTooMany (c .n) (c .terms)) (Count place)
 
 unfoldable pub termReply : ℕ → Counts → ℕ → ℤ → ℤ → ℤ → ℤ → Reply
 termReply place c letter value d i k =
-    refuseIf (not (suits (c .heading) letter)) (Malformed place)
+    refuseIf (not (belongs (c .heading) letter)) (Malformed place)
     -- "A condition has 1 to 12 terms."
     andThen (refuseIf (leb 12 (c .terms)) (Count place)
     andThen refuseIf (termFault (pos (c .m)) letter value d i k) (OutOfRange place))
@@ -69,8 +69,8 @@ lineReply place c Unreadable = Refused (Malformed place)
 -- what has been counted after it
 unfoldable pub counted : Counts → Record → Counts
 counted c (Direction number direction q) = record { m = c .m + 1; n = c .n; terms = c .terms; heading = c .heading }
-counted c (Angles target) = record { m = c .m; n = c .n + 1; terms = 0; heading = A }
-counted c Sides = record { m = c .m; n = c .n + 1; terms = 0; heading = S }
+counted c (Angles target) = record { m = c .m; n = c .n + 1; terms = 0; heading = letter-A }
+counted c Sides = record { m = c .m; n = c .n + 1; terms = 0; heading = letter-S }
 counted c (Term letter value d i k) = record { m = c .m; n = c .n; terms = c .terms + 1; heading = c .heading }
 counted c Unreadable = c
 

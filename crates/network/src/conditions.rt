@@ -5,8 +5,8 @@ ghost use lib.ListN.{length, take};
 ghost use Rattle.reply.specs.declared.Reply.the-variants.{Accepted};
 ghost use Rattle.reply.specs.Checks.{figureOf};
 ghost use Rattle.condition.specs.Rules.{coefficientsList};
-ghost use Rattle.network.specs.Net.{lentOf, conditionReply, conditionsReply, misclosureOf, rowsOf, misclosuresOf, netFrom};
-ghost use Rattle.network.specs.Gathered.{conditionIn, headingOf, Full, Fit};
+ghost use Rattle.network.specs.Net.{lentOf, conditionReply, formedReply, misclosureOf, rowsOf, misclosuresOf, netFrom};
+ghost use Rattle.network.specs.Gathered.{conditionIn, headingIn, Full, Fit};
 use crate::cursor;
 use crate::cursor::Turn;
 use crate::record::Record;
@@ -24,7 +24,7 @@ pub enum Heading {
 }
 
 fn heading_of(said: Record) -> Heading
-    ensures { λ r. ⌜ r ≡ headingOf said ⌝ }
+    ensures { λ r. ⌜ r ≡ headingIn said ⌝ }
 {
     match said {
         Record::Angles { target } => Heading::Of {
@@ -112,7 +112,7 @@ pub struct Formed {
 pub fn form_all(file: &[u8], directions: &[i64], q: &[i64], a: &mut [i64], w: &mut [i64]) -> Formed
     requires { ⌜ (length (now directions) ≤ 64) × (length (now a) ≡ 1536) × (length (now w) ≡ 24) ⌝ }
     requires { ⌜ (length (netFrom (now file) 0 .conditions) ≤ 24) × Fit (netFrom (now file) 0 .conditions) ⌝ }
-    ensures reply { λ r. ⌜ r .reply ≡ conditionsReply
+    ensures reply { λ r. ⌜ r .reply ≡ formedReply
         (now (directions .entry)) (now (q .entry)) 1 (netFrom (now (file .entry)) 0 .conditions) ⌝ }
     ensures count { λ r. ⌜ (r .reply ≡ Accepted → r .n ≡ length (netFrom (now (file .entry)) 0 .conditions)) ⌝ }
     ensures rows { λ r. ⌜ (r .reply ≡ Accepted → take (r .n * length (now (directions .entry))) (now (a .exit))

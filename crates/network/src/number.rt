@@ -2,7 +2,7 @@
 ghost use mathlib.Core.Path.{_≡_};
 ghost use Prim.Native.Nat.{_≤_};
 ghost use lib.ListN.{length};
-ghost use Rattle.network.specs.Numbers.{readDigits, unsignedOf, numberOf, Small, plus, minus};
+ghost use Rattle.network.specs.Numbers.{readDigits, unsignedOf, numeral, Small, plus, minus};
 
 const ZERO: u8 = 48;
 
@@ -96,7 +96,7 @@ fn minus_of(digits: Digits) -> Number
 
 // The number that a text writes.
 pub fn read(text: &[u8]) -> Number
-    ensures { λ r. ⌜ r ≡ numberOf (now (text .entry)) ⌝ }
+    ensures { λ r. ⌜ r ≡ numeral (now (text .entry)) ⌝ }
 {
     if text.len() == 0 {
         return Number::Malformed;

@@ -1,7 +1,7 @@
 // One line of the network file as a record: what it says, before any count, heading or range is looked at.
 ghost use mathlib.Core.Path.{_≡_};
 ghost use Rattle.network.specs.Fields.{fieldAt};
-ghost use Rattle.network.specs.Numbers.{numberOf};
+ghost use Rattle.network.specs.Numbers.{numeral};
 ghost use Rattle.network.specs.Records.{directionLine, anglesLine, sidesLine, conditionLine, angleLine, fixedLine, sideLine, recordOf};
 use crate::field;
 use crate::number;
@@ -35,7 +35,7 @@ pub enum Record {
 
 // The number in the field after k tabs.
 fn number_at(line: &[u8], k: usize) -> Number
-    ensures { λ r. ⌜ r ≡ numberOf (fieldAt (now (line .entry)) k) ⌝ }
+    ensures { λ r. ⌜ r ≡ numeral (fieldAt (now (line .entry)) k) ⌝ }
 {
     number::read(field::at(line, k))
 }

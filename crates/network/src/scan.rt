@@ -1,7 +1,7 @@
 // The scan over a file's lines, with counters only: refusals 1 to 3.
 ghost use mathlib.Core.Path.{_≡_};
 ghost use Prim.Native.Nat.{_≤_};
-ghost use Rattle.network.specs.Scan.{Low, suits, outOfTurn, oneTooMany, directionReply, anglesReply, sidesReply, termReply};
+ghost use Rattle.network.specs.Scan.{Low, belongs, outOfTurn, oneTooMany, directionReply, anglesReply, sidesReply, termReply};
 ghost use Rattle.network.specs.Scan.{lineReply, counted, endFault, endReply, scanReply};
 use crate::line;
 use crate::line::LineStatus;
@@ -28,8 +28,8 @@ pub struct Counts {
 }
 
 // Whether a term belongs under a heading.
-fn suits(heading: u8, letter: u8) -> bool
-    ensures { λ r. ⌜ r ≡ suits heading letter ⌝ }
+fn belongs(heading: u8, letter: u8) -> bool
+    ensures { λ r. ⌜ r ≡ belongs heading letter ⌝ }
 {
     if heading == b'A' {
         if letter == b'P' {
@@ -117,7 +117,7 @@ fn term_reply(place: u64, c: Counts, letter: u8, value: i64, d: i64, i: i64, k: 
     ensures { λ r. ⌜ r ≡ termReply place c letter value d i k ⌝ }
 {
     let heading = c.heading;
-    if !suits(heading, letter) {
+    if !belongs(heading, letter) {
         return Reply::Refused(Refusal::Malformed(place));
     }
     let terms = c.terms;

@@ -17,7 +17,7 @@ use Rattle.reply.proofs.Checking.{never}
 use Rattle.condition.specs.Rules.{coefficientsList}
 use Rattle.condition.specs.declared.Kind.{Kind}
 use Rattle.network.specs.Net.{Condition, headed, netFrom, lentOf, conditionReply, misclosureOf}
-use Rattle.network.specs.Gathered.{headingOf, conditionIn}
+use Rattle.network.specs.Gathered.{headingIn, conditionIn}
 use Rattle.network.specs.declared.conditions.Heading.the-variants.{Of}
 use Rattle.network.proofs.Forming.{FormedTo, formed-none, terms-fit, form-turn, form-room, part-length, form-refused, form-more, row-put, form-other, end-reply, end-count, end-rows, end-closings}
 use Rattle.network.proofs.conditions.form_all.Statement.{statement}
@@ -96,7 +96,7 @@ module _ (c : tie.After-known-told2 Inv-loop μ-loop) where
   abbrev condition : Condition
   condition = headed kind target (netFrom (file line) (next line) .pending)
 
-  told : headingOf (line .before .turn .given .0 .0) ≡ Of kind target
+  told : headingIn (line .before .turn .given .0 .0) ≡ Of kind target
   told = sym (c .before .before .before .heading-of .ensures) ∙ c .before .heading .given .1
 
   few : length (netFrom (file line) 0 .conditions) ≤ 24

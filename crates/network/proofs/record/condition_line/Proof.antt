@@ -8,7 +8,7 @@ use borrow.Author.Tests.{eq-eqb, ne-eqb}
 use denote.Ref.{now}
 use lib.Dec.{eqb}
 use Rattle.network.specs.Fields.{fieldAt, letterOf}
-use Rattle.network.specs.Records.{A, S, conditionLine}
+use Rattle.network.specs.Records.{letter-A, letter-S, conditionLine}
 use Rattle.network.proofs.record.condition_line.Statement.{statement}
 use Rattle.network.proofs.record.condition_line.Tie as tie
 
@@ -29,11 +29,11 @@ module _ (c : tie.After-letter) where
   as-found : letterOf (fieldAt line 1) ≡ found
   as-found = sym (c .letter .ensures ∙ ap letterOf (c .before .at .ensures))
 
-not-A : (c : tie.Else1) → eqb (found (c .before)) A ≡ false
-not-A c = ne-eqb (found (c .before)) A (c .if1 .left)
+not-A : (c : tie.Else1) → eqb (found (c .before)) letter-A ≡ false
+not-A c = ne-eqb (found (c .before)) letter-A (c .if1 .left)
 
-not-S : (c : tie.Else2) → eqb (found (c .before .before)) S ≡ false
-not-S c = ne-eqb (found (c .before .before)) S (c .if2 .left)
+not-S : (c : tie.Else2) → eqb (found (c .before .before)) letter-S ≡ false
+not-S c = ne-eqb (found (c .before .before)) letter-S (c .if2 .left)
 
 -- ---- the answers
 angles-line-requires : tie.Need-angles-line-requires
@@ -43,7 +43,7 @@ returns : tie.Need-returns
 unfolding conditionLine
 returns c =
     let t = c .before in let e = t .before in
-    rw (as-found e, eq-eqb (found e) A (t .if1 .taken))
+    rw (as-found e, eq-eqb (found e) letter-A (t .if1 .taken))
     (c .angles-line .ensures)
 
 sides-line-requires : tie.Need-sides-line-requires
@@ -53,7 +53,7 @@ returns-2 : tie.Need-returns-2
 unfolding conditionLine
 returns-2 c =
     let t = c .before in let past-A = t .before in let e = past-A .before in
-    rw (as-found e, not-A past-A, eq-eqb (found e) S (t .if2 .taken))
+    rw (as-found e, not-A past-A, eq-eqb (found e) letter-S (t .if2 .taken))
     (c .sides-line .ensures)
 
 returns-3 : tie.Need-returns-3

@@ -8,7 +8,7 @@ use borrow.Author.Tests.{eq-eqb, ne-eqb}
 use denote.Ref.{now}
 use lib.Dec.{eqb}
 use Rattle.network.specs.Fields.{fieldAt, letterOf}
-use Rattle.network.specs.Records.{C, D, F, L, P, R, sideLine, lineOf, recordOf}
+use Rattle.network.specs.Records.{letter-C, letter-D, letter-F, letter-L, letter-P, letter-R, sideLine, lineOf, recordOf}
 use Rattle.network.proofs.record.of.Statement.{statement}
 use Rattle.network.proofs.record.of.Tie as tie
 
@@ -29,23 +29,23 @@ module _ (c : tie.After-letter) where
   as-found : letterOf (fieldAt line 0) ≡ found
   as-found = sym (c .letter .ensures ∙ ap letterOf (c .before .at .ensures))
 
-not-D : (c : tie.Else1) → eqb (found (c .before)) D ≡ false
-not-D c = ne-eqb (found (c .before)) D (c .if1 .left)
+not-D : (c : tie.Else1) → eqb (found (c .before)) letter-D ≡ false
+not-D c = ne-eqb (found (c .before)) letter-D (c .if1 .left)
 
-not-C : (c : tie.Else2) → eqb (found (c .before .before)) C ≡ false
-not-C c = ne-eqb (found (c .before .before)) C (c .if2 .left)
+not-C : (c : tie.Else2) → eqb (found (c .before .before)) letter-C ≡ false
+not-C c = ne-eqb (found (c .before .before)) letter-C (c .if2 .left)
 
-not-P : (c : tie.Else3) → eqb (found (c .before .before .before)) P ≡ false
-not-P c = ne-eqb (found (c .before .before .before)) P (c .if3 .left)
+not-P : (c : tie.Else3) → eqb (found (c .before .before .before)) letter-P ≡ false
+not-P c = ne-eqb (found (c .before .before .before)) letter-P (c .if3 .left)
 
-not-F : (c : tie.Else4) → eqb (found (c .before .before .before .before)) F ≡ false
-not-F c = ne-eqb (found (c .before .before .before .before)) F (c .if4 .left)
+not-F : (c : tie.Else4) → eqb (found (c .before .before .before .before)) letter-F ≡ false
+not-F c = ne-eqb (found (c .before .before .before .before)) letter-F (c .if4 .left)
 
-not-L : (c : tie.Else5) → eqb (found (c .before .before .before .before .before)) L ≡ false
-not-L c = ne-eqb (found (c .before .before .before .before .before)) L (c .if5 .left)
+not-L : (c : tie.Else5) → eqb (found (c .before .before .before .before .before)) letter-L ≡ false
+not-L c = ne-eqb (found (c .before .before .before .before .before)) letter-L (c .if5 .left)
 
-not-R : (c : tie.Else6) → eqb (found (c .before .before .before .before .before .before)) R ≡ false
-not-R c = ne-eqb (found (c .before .before .before .before .before .before)) R (c .if6 .left)
+not-R : (c : tie.Else6) → eqb (found (c .before .before .before .before .before .before)) letter-R ≡ false
+not-R c = ne-eqb (found (c .before .before .before .before .before .before)) letter-R (c .if6 .left)
 
 -- ---- the answers
 direction-line-requires : tie.Need-direction-line-requires
@@ -55,7 +55,7 @@ returns : tie.Need-returns
 unfolding recordOf lineOf
 returns c =
     let t = c .before in let e = t .before in
-    rw (as-found e, eq-eqb (found e) D (t .if1 .taken))
+    rw (as-found e, eq-eqb (found e) letter-D (t .if1 .taken))
     (c .direction-line .ensures)
 
 condition-line-requires : tie.Need-condition-line-requires
@@ -65,7 +65,7 @@ returns-2 : tie.Need-returns-2
 unfolding recordOf lineOf
 returns-2 c =
     let t = c .before in let past-D = t .before in let e = past-D .before in
-    rw (as-found e, not-D past-D, eq-eqb (found e) C (t .if2 .taken))
+    rw (as-found e, not-D past-D, eq-eqb (found e) letter-C (t .if2 .taken))
     (c .condition-line .ensures)
 
 angle-line-requires : tie.Need-angle-line-requires
@@ -75,7 +75,7 @@ returns-3 : tie.Need-returns-3
 unfolding recordOf lineOf
 returns-3 c =
     let t = c .before in let past-C = t .before in let past-D = past-C .before in let e = past-D .before in
-    rw (as-found e, not-D past-D, not-C past-C, eq-eqb (found e) P (t .if3 .taken))
+    rw (as-found e, not-D past-D, not-C past-C, eq-eqb (found e) letter-P (t .if3 .taken))
     (c .angle-line .ensures)
 
 fixed-line-requires : tie.Need-fixed-line-requires
@@ -85,7 +85,7 @@ returns-4 : tie.Need-returns-4
 unfolding recordOf lineOf
 returns-4 c =
     let t = c .before in let past-P = t .before in let past-C = past-P .before in let past-D = past-C .before in let e = past-D .before in
-    rw (as-found e, not-D past-D, not-C past-C, not-P past-P, eq-eqb (found e) F (t .if4 .taken))
+    rw (as-found e, not-D past-D, not-C past-C, not-P past-P, eq-eqb (found e) letter-F (t .if4 .taken))
     (c .fixed-line .ensures)
 
 side-line-requires : tie.Need-side-line-requires
@@ -96,7 +96,7 @@ unfolding recordOf lineOf
 returns-5 c =
     let t = c .before in let past-F = t .before in let past-P = past-F .before in
     let past-C = past-P .before in let past-D = past-C .before in let e = past-D .before in
-    rw (as-found e, not-D past-D, not-C past-C, not-P past-P, not-F past-F, eq-eqb (found e) L (t .if5 .taken))
+    rw (as-found e, not-D past-D, not-C past-C, not-P past-P, not-F past-F, eq-eqb (found e) letter-L (t .if5 .taken))
     (c .side-line .ensures ∙ ap (sideLine (line e)) (t .if5 .taken))
 
 side-line-requires-2 : tie.Need-side-line-requires-2
@@ -107,7 +107,7 @@ unfolding recordOf lineOf
 returns-6 c =
     let t = c .before in let past-L = t .before in let past-F = past-L .before in
     let past-P = past-F .before in let past-C = past-P .before in let past-D = past-C .before in let e = past-D .before in
-    rw (as-found e, not-D past-D, not-C past-C, not-P past-P, not-F past-F, not-L past-L, eq-eqb (found e) R (t .if6 .taken))
+    rw (as-found e, not-D past-D, not-C past-C, not-P past-P, not-F past-F, not-L past-L, eq-eqb (found e) letter-R (t .if6 .taken))
     (c .side-line2 .ensures ∙ ap (sideLine (line e)) (t .if6 .taken))
 
 returns-7 : tie.Need-returns-7

@@ -9,20 +9,20 @@ use lib.IntN.{pos}
 use mir.Syntax.{w64}
 use mir.ValLaws.{toZ-ofZ, toZ-pos}
 use Rattle.condition.specs.Terms.{termFault}
-use Rattle.network.specs.Scan.{suits, termReply}
+use Rattle.network.specs.Scan.{belongs, termReply}
 use Rattle.network.proofs.scan.term_reply.Statement.{statement}
 use Rattle.network.proofs.scan.term_reply.Tie as tie
 
-suits-requires : tie.Need-suits-requires
-suits-requires c κs = search needs
+belongs-requires : tie.Need-belongs-requires
+belongs-requires c κs = search needs
 
 returns : tie.Need-returns
 unfolding termReply
-returns c = rw (ap not (sym (c .before .suits .ensures)) ∙ c .if1 .taken)
+returns c = rw (ap not (sym (c .before .belongs .ensures)) ∙ c .if1 .taken)
 
 -- ---- what each test found, and what is known past it
-fitting : (c : tie.Else1) → let a = c .before .before .args in not (suits (a .c .heading) (a .letter)) ≡ false
-fitting c = ap not (sym (c .before .suits .ensures)) ∙ c .if1 .left
+fitting : (c : tie.Else1) → let a = c .before .before .args in not (belongs (a .c .heading) (a .letter)) ≡ false
+fitting c = ap not (sym (c .before .belongs .ensures)) ∙ c .if1 .left
 
 few : (c : tie.Else2) → leb 12 (c .before .before .before .args .c .terms) ≡ false
 few c = lt-leb 12 (c .before .before .before .args .c .terms) (omega arith)
@@ -55,4 +55,4 @@ returns-4 c = let e = c .before .before in rw (fitting (e .before), few e, sym (
 
 pub term-reply-spec : {M : Type 1} → statement M
 term-reply-spec =
-    tie.close (tie.spec suits-requires returns returns-2 cast-term-fault term-fault-requires returns-3 returns-4)
+    tie.close (tie.spec belongs-requires returns returns-2 cast-term-fault term-fault-requires returns-3 returns-4)
