@@ -1,5 +1,4 @@
 -- The record of a direction: its value from 0 to C - 1, and its inverse weight q from 1 to 10.
-use mathlib.Core.Path.{_≡_}
 use mathlib.Core.Bool.{Bool, _||_}
 use mathlib.Core.List.{List}
 use Prim.Native.Nat.{ℕ, _+_}
@@ -10,7 +9,6 @@ use Rattle.exact.specs.Outside.{outside}
 use Rattle.reply.specs.declared.Reply.{Reply}
 use Rattle.reply.specs.declared.Refusal.the-variants.{OutOfRange}
 use Rattle.reply.specs.Checks.{refuseFirst}
-use Rattle.reply.specs.Verdicts.{verdictOf}
 
 abbrev pub outOfRange : ℤ → ℤ → Bool
 outOfRange direction q = outside (pos 0) (C -ℤ pos 1) direction || outside (pos 1) (pos 10) q
@@ -22,9 +20,3 @@ faultAt ds qs i = outOfRange (getD ds i (pos 0)) (getD qs i (pos 0))
 -- 3 for direction or q, going by direction number
 unfoldable pub directionsReply : List ℤ → List ℤ → Reply
 directionsReply ds qs = refuseFirst (length ds) (faultAt ds qs) (λ i. OutOfRange (i + 1))
-
--- everything that the check of lent directions must answer
-pub record Checked (ds qs : List ℤ) (reply : Reply) : Type 0 where
-  pub answer : reply ≡ directionsReply ds qs
-  -- in the rules' numbers: number and place
-  pub verdict : verdictOf reply ≡ verdictOf (directionsReply ds qs)

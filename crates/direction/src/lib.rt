@@ -1,7 +1,8 @@
 // The record of a direction: its value and its inverse weight q, and the check of a lent list of them.
 ghost use mathlib.Core.Path.{_≡_};
 ghost use lib.ListN.{length};
-ghost use Rattle.direction.specs.Ranges.{outOfRange, Checked};
+ghost use Rattle.reply.specs.Verdicts.{Replies};
+ghost use Rattle.direction.specs.Ranges.{outOfRange, directionsReply};
 use reply::Refusal;
 use reply::Reply;
 
@@ -23,7 +24,7 @@ pub fn out_of_range(direction: i64, q: i64) -> bool
 // Refuses the first direction that is out of range, by its number.
 pub fn check(directions: &[i64], q: &[i64]) -> Reply
     requires { ⌜ length (now q) ≡ length (now directions) ⌝ }
-    ensures { λ r. ⌜ Checked (now (directions .entry)) (now (q .entry)) r ⌝ }
+    ensures { λ r. ⌜ Replies (directionsReply (now (directions .entry)) (now (q .entry))) r ⌝ }
 {
     let mut i = 0;
     while i < directions.len() {

@@ -2,7 +2,7 @@
 --
 -- Figures 1, 2 and 4 to 8 are condition tables: so many directions of one q, the coefficients row by row, and the misclosures w. `replyTo`
 -- is the reply of the adjustment to the table, lent with all directions 0; K-in, R-in, u-in and Q-in are the lists of K, R, u and Q.
--- Figure 3 is a file and its listing, byte for byte. Figures 9 and 10 are the sightings of one position at a station.
+-- Figure 3 is a file and its listing, byte for byte (network's proofs/Figure3.antt). Figures 9 and 10 are the sightings of one position at a station.
 use mathlib.Core.Path.{_≡_, refl, sym, subst}
 use mathlib.Core.List.{List, [], _∷_}
 use Prim.Native.Nat.{ℕ, _≤_}
@@ -15,8 +15,9 @@ use Rattle.reply.specs.declared.Reply.{Reply}
 use Rattle.reply.specs.declared.Reply.the-variants.{Accepted, Refused}
 use Rattle.adjustment.specs.Solution.{N}
 use Rattle.adjustment.proofs.Figures.{Figure as Table, replyTo, tableIn, K-in, R-in, u-in, Q-in, figure-1, figure-2, figure-5, figure-6, figure-7, figure-8}
+use Rattle.network.specs.Net.{fileReply}
 use Rattle.network.specs.File.{listingOf}
-use Rattle.network.proofs.Figure3.{figure-3}
+use Rattle.network.proofs.Figure3.{file, listing, figure-3}
 use Rattle.station.specs.Sightings.{Book, book}
 use Rattle.station.specs.Table.{counts, readings}
 use Rattle.station.specs.Means.{g, directions, pairCounts}
@@ -40,35 +41,6 @@ all count a = replicate count (pos a)
 abbrev pub Refuses : (number place : ℕ) → Reply → Type 0
 Refuses number place Accepted = ⊥
 Refuses number place (Refused why) = (numberOf why ≡ number) × (placeOf why ≡ place)
-
--- figure 3, "Case 3 input to the adjusting program". Each byte by its number; a blank stands for a tab, and | for an LF:
--- D 1 216000000 1|D 2 216003000 1|D 3 215997000 1|C A 648000000|P 0 1|P 0 2|F 216000000|C A 648000000|P 0 2|P 0 3|F 216000000|
-abbrev pub file : List ℕ
-file =
-    68 ∷ 9 ∷ 49 ∷ 9 ∷ 50 ∷ 49 ∷ 54 ∷ 48 ∷ 48 ∷ 48 ∷ 48 ∷ 48 ∷ 48 ∷ 9 ∷ 49 ∷ 10 ∷
-    68 ∷ 9 ∷ 50 ∷ 9 ∷ 50 ∷ 49 ∷ 54 ∷ 48 ∷ 48 ∷ 51 ∷ 48 ∷ 48 ∷ 48 ∷ 9 ∷ 49 ∷ 10 ∷
-    68 ∷ 9 ∷ 51 ∷ 9 ∷ 50 ∷ 49 ∷ 53 ∷ 57 ∷ 57 ∷ 55 ∷ 48 ∷ 48 ∷ 48 ∷ 9 ∷ 49 ∷ 10 ∷
-    67 ∷ 9 ∷ 65 ∷ 9 ∷ 54 ∷ 52 ∷ 56 ∷ 48 ∷ 48 ∷ 48 ∷ 48 ∷ 48 ∷ 48 ∷ 10 ∷
-    80 ∷ 9 ∷ 48 ∷ 9 ∷ 49 ∷ 10 ∷
-    80 ∷ 9 ∷ 48 ∷ 9 ∷ 50 ∷ 10 ∷
-    70 ∷ 9 ∷ 50 ∷ 49 ∷ 54 ∷ 48 ∷ 48 ∷ 48 ∷ 48 ∷ 48 ∷ 48 ∷ 10 ∷
-    67 ∷ 9 ∷ 65 ∷ 9 ∷ 54 ∷ 52 ∷ 56 ∷ 48 ∷ 48 ∷ 48 ∷ 48 ∷ 48 ∷ 48 ∷ 10 ∷
-    80 ∷ 9 ∷ 48 ∷ 9 ∷ 50 ∷ 10 ∷
-    80 ∷ 9 ∷ 48 ∷ 9 ∷ 51 ∷ 10 ∷
-    70 ∷ 9 ∷ 50 ∷ 49 ∷ 54 ∷ 48 ∷ 48 ∷ 48 ∷ 48 ∷ 48 ∷ 48 ∷ 10 ∷
-    []
-
--- figure 3, "Its output". Each byte by its number; a blank stands for a tab, and | for an LF:
--- ADJ 3 2|V 1 -2000 215998000|V 2 -1000 216002000|V 3 1000 215998000|K 1 -2000000 0 0|K 2 1000000 0 0|
-abbrev pub listing : List ℕ
-listing =
-    65 ∷ 68 ∷ 74 ∷ 9 ∷ 51 ∷ 9 ∷ 50 ∷ 10 ∷
-    86 ∷ 9 ∷ 49 ∷ 9 ∷ 45 ∷ 50 ∷ 48 ∷ 48 ∷ 48 ∷ 9 ∷ 50 ∷ 49 ∷ 53 ∷ 57 ∷ 57 ∷ 56 ∷ 48 ∷ 48 ∷ 48 ∷ 10 ∷
-    86 ∷ 9 ∷ 50 ∷ 9 ∷ 45 ∷ 49 ∷ 48 ∷ 48 ∷ 48 ∷ 9 ∷ 50 ∷ 49 ∷ 54 ∷ 48 ∷ 48 ∷ 50 ∷ 48 ∷ 48 ∷ 48 ∷ 10 ∷
-    86 ∷ 9 ∷ 51 ∷ 9 ∷ 49 ∷ 48 ∷ 48 ∷ 48 ∷ 9 ∷ 50 ∷ 49 ∷ 53 ∷ 57 ∷ 57 ∷ 56 ∷ 48 ∷ 48 ∷ 48 ∷ 10 ∷
-    75 ∷ 9 ∷ 49 ∷ 9 ∷ 45 ∷ 50 ∷ 48 ∷ 48 ∷ 48 ∷ 48 ∷ 48 ∷ 48 ∷ 9 ∷ 48 ∷ 9 ∷ 48 ∷ 10 ∷
-    75 ∷ 9 ∷ 50 ∷ 9 ∷ 49 ∷ 48 ∷ 48 ∷ 48 ∷ 48 ∷ 48 ∷ 48 ∷ 9 ∷ 48 ∷ 9 ∷ 48 ∷ 10 ∷
-    []
 
 -- four sightings of position 1: objects 1, 1, 2, 2, left and right in turn, with these readings
 abbrev pub sighted : (left₁ right₁ left₂ right₂ : ℕ) → Book
@@ -108,7 +80,7 @@ Two =
 
 -- 3. "The file below."
 abbrev pub Three : Type 0
-Three = listingOf file ≡ listing
+Three = (fileReply file ≡ Accepted) × (listingOf file ≡ listing)
 
 -- 4. "Two conditions 100, 100, equal or unequal w: 6 at row 2." So it is for every w and w' in range.
 abbrev pub Four : Type 0
@@ -155,7 +127,7 @@ pub ten-figures : One × Two × Three × Four × Five × Six × Seven × Eight �
 ten-figures = (
   figure-1,
   figure-2,
-  figure-3 .0,
+  figure-3,
   (λ w w' small small'. refuses (repeated w w' small small')),
   (figure-5 .0, figure-5 .1, refuses (figure-5 .2)),
   refuses figure-6,

@@ -1,5 +1,4 @@
--- Figure 3: the listing of its file, byte for byte, by computation from the rules; and the line of a refused file. Assumes nothing.
--- In the comments a blank stands for a tab, and | for an LF.
+-- Figure 3: its file is accepted, and its listing, byte for byte, by computation from the rules. Assumes nothing.
 use mathlib.Core.Path.{_≡_, refl}
 use mathlib.Core.List.{List, [], _∷_}
 use Prim.Native.Nat.{ℕ}
@@ -9,6 +8,7 @@ use Rattle.exact.specs.Nearest.{nearest}
 use Rattle.exact.specs.Same.{same}
 use Rattle.exact.specs.Sum.{sum}
 use Rattle.exact.specs.Tabulate.{tabulate}
+use Rattle.reply.specs.declared.Reply.the-variants.{Accepted}
 use Rattle.reply.specs.Checks.{inTurn, figureValue}
 use Rattle.direction.specs.Ranges.{directionsReply}
 use Rattle.condition.specs.Terms.{letterOf as kindOf, termFault, share, angle, part}
@@ -30,26 +30,35 @@ use Rattle.network.specs.Net.{lineBefore, netOf, refusedAs, zeros, lentO
 use Rattle.network.specs.Listing.{inOrder}
 use Rattle.network.specs.File.{answersListing, listingFor, listingOf}
 
+-- figure 3, "Case 3 input to the adjusting program". Each byte by its number; a blank stands for a tab, and | for an LF:
 -- D 1 216000000 1|D 2 216003000 1|D 3 215997000 1|C A 648000000|P 0 1|P 0 2|F 216000000|C A 648000000|P 0 2|P 0 3|F 216000000|
-abbrev file : List ℕ
+abbrev pub file : List ℕ
 file =
-    68 ∷ 9 ∷ 49 ∷ 9 ∷ 50 ∷ 49 ∷ 54 ∷ 48 ∷ 48 ∷ 48 ∷ 48 ∷ 48 ∷ 48 ∷ 9 ∷ 49 ∷ 10 ∷ 68 ∷ 9 ∷ 50 ∷ 9 ∷ 50 ∷ 49 ∷ 54 ∷ 48 ∷ 48 ∷ 51 ∷ 48 ∷ 48 ∷ 48 ∷ 9 ∷ 49 ∷ 10 ∷ 68 ∷ 9 ∷ 51 ∷ 9 ∷ 50 ∷ 49 ∷ 53 ∷ 57 ∷ 57 ∷ 55 ∷ 48 ∷ 48 ∷ 48 ∷ 9 ∷ 49 ∷ 10 ∷ 67 ∷ 9 ∷ 65 ∷ 9 ∷ 54 ∷ 52 ∷ 56 ∷ 48 ∷ 48 ∷ 48 ∷ 48 ∷ 48 ∷ 48 ∷ 10 ∷ 80 ∷ 9 ∷ 48 ∷ 9 ∷ 49 ∷ 10 ∷ 80 ∷ 9 ∷ 48 ∷ 9 ∷ 50 ∷ 10 ∷ 70 ∷ 9 ∷ 50 ∷ 49 ∷ 54 ∷ 48 ∷ 48 ∷ 48 ∷ 48 ∷ 48 ∷ 48 ∷ 10 ∷ 67 ∷ 9 ∷ 65 ∷ 9 ∷ 54 ∷ 52 ∷ 56 ∷ 48 ∷ 48 ∷ 48 ∷ 48 ∷ 48 ∷ 48 ∷ 10 ∷ 80 ∷ 9 ∷ 48 ∷ 9 ∷ 50 ∷ 10 ∷ 80 ∷ 9 ∷ 48 ∷ 9 ∷ 51 ∷ 10 ∷ 70 ∷ 9 ∷ 50 ∷ 49 ∷ 54 ∷ 48 ∷ 48 ∷ 48 ∷ 48 ∷ 48 ∷ 48 ∷ 10 ∷ []
+    68 ∷ 9 ∷ 49 ∷ 9 ∷ 50 ∷ 49 ∷ 54 ∷ 48 ∷ 48 ∷ 48 ∷ 48 ∷ 48 ∷ 48 ∷ 9 ∷ 49 ∷ 10 ∷
+    68 ∷ 9 ∷ 50 ∷ 9 ∷ 50 ∷ 49 ∷ 54 ∷ 48 ∷ 48 ∷ 51 ∷ 48 ∷ 48 ∷ 48 ∷ 9 ∷ 49 ∷ 10 ∷
+    68 ∷ 9 ∷ 51 ∷ 9 ∷ 50 ∷ 49 ∷ 53 ∷ 57 ∷ 57 ∷ 55 ∷ 48 ∷ 48 ∷ 48 ∷ 9 ∷ 49 ∷ 10 ∷
+    67 ∷ 9 ∷ 65 ∷ 9 ∷ 54 ∷ 52 ∷ 56 ∷ 48 ∷ 48 ∷ 48 ∷ 48 ∷ 48 ∷ 48 ∷ 10 ∷
+    80 ∷ 9 ∷ 48 ∷ 9 ∷ 49 ∷ 10 ∷
+    80 ∷ 9 ∷ 48 ∷ 9 ∷ 50 ∷ 10 ∷
+    70 ∷ 9 ∷ 50 ∷ 49 ∷ 54 ∷ 48 ∷ 48 ∷ 48 ∷ 48 ∷ 48 ∷ 48 ∷ 10 ∷
+    67 ∷ 9 ∷ 65 ∷ 9 ∷ 54 ∷ 52 ∷ 56 ∷ 48 ∷ 48 ∷ 48 ∷ 48 ∷ 48 ∷ 48 ∷ 10 ∷
+    80 ∷ 9 ∷ 48 ∷ 9 ∷ 50 ∷ 10 ∷
+    80 ∷ 9 ∷ 48 ∷ 9 ∷ 51 ∷ 10 ∷
+    70 ∷ 9 ∷ 50 ∷ 49 ∷ 54 ∷ 48 ∷ 48 ∷ 48 ∷ 48 ∷ 48 ∷ 48 ∷ 10 ∷
+    []
 
+-- figure 3, "Its output". Each byte by its number; a blank stands for a tab, and | for an LF:
 -- ADJ 3 2|V 1 -2000 215998000|V 2 -1000 216002000|V 3 1000 215998000|K 1 -2000000 0 0|K 2 1000000 0 0|
-abbrev listing : List ℕ
+abbrev pub listing : List ℕ
 listing =
-    65 ∷ 68 ∷ 74 ∷ 9 ∷ 51 ∷ 9 ∷ 50 ∷ 10 ∷ 86 ∷ 9 ∷ 49 ∷ 9 ∷ 45 ∷ 50 ∷ 48 ∷ 48 ∷ 48 ∷ 9 ∷ 50 ∷ 49 ∷ 53 ∷ 57 ∷ 57 ∷ 56 ∷ 48 ∷ 48 ∷ 48 ∷ 10 ∷ 86 ∷ 9 ∷ 50 ∷ 9 ∷ 45 ∷ 49 ∷ 48 ∷ 48 ∷ 48 ∷ 9 ∷ 50 ∷ 49 ∷ 54 ∷ 48 ∷ 48 ∷ 50 ∷ 48 ∷ 48 ∷ 48 ∷ 10 ∷ 86 ∷ 9 ∷ 51 ∷ 9 ∷ 49 ∷ 48 ∷ 48 ∷ 48 ∷ 9 ∷ 50 ∷ 49 ∷ 53 ∷ 57 ∷ 57 ∷ 56 ∷ 48 ∷ 48 ∷ 48 ∷ 10 ∷ 75 ∷ 9 ∷ 49 ∷ 9 ∷ 45 ∷ 50 ∷ 48 ∷ 48 ∷ 48 ∷ 48 ∷ 48 ∷ 48 ∷ 9 ∷ 48 ∷ 9 ∷ 48 ∷ 10 ∷ 75 ∷ 9 ∷ 50 ∷ 9 ∷ 49 ∷ 48 ∷ 48 ∷ 48 ∷ 48 ∷ 48 ∷ 48 ∷ 9 ∷ 48 ∷ 9 ∷ 48 ∷ 10 ∷ []
+    65 ∷ 68 ∷ 74 ∷ 9 ∷ 51 ∷ 9 ∷ 50 ∷ 10 ∷
+    86 ∷ 9 ∷ 49 ∷ 9 ∷ 45 ∷ 50 ∷ 48 ∷ 48 ∷ 48 ∷ 9 ∷ 50 ∷ 49 ∷ 53 ∷ 57 ∷ 57 ∷ 56 ∷ 48 ∷ 48 ∷ 48 ∷ 10 ∷
+    86 ∷ 9 ∷ 50 ∷ 9 ∷ 45 ∷ 49 ∷ 48 ∷ 48 ∷ 48 ∷ 9 ∷ 50 ∷ 49 ∷ 54 ∷ 48 ∷ 48 ∷ 50 ∷ 48 ∷ 48 ∷ 48 ∷ 10 ∷
+    86 ∷ 9 ∷ 51 ∷ 9 ∷ 49 ∷ 48 ∷ 48 ∷ 48 ∷ 9 ∷ 50 ∷ 49 ∷ 53 ∷ 57 ∷ 57 ∷ 56 ∷ 48 ∷ 48 ∷ 48 ∷ 10 ∷
+    75 ∷ 9 ∷ 49 ∷ 9 ∷ 45 ∷ 50 ∷ 48 ∷ 48 ∷ 48 ∷ 48 ∷ 48 ∷ 48 ∷ 9 ∷ 48 ∷ 9 ∷ 48 ∷ 10 ∷
+    75 ∷ 9 ∷ 50 ∷ 9 ∷ 49 ∷ 48 ∷ 48 ∷ 48 ∷ 48 ∷ 48 ∷ 48 ∷ 9 ∷ 48 ∷ 9 ∷ 48 ∷ 10 ∷
+    []
 
--- D 7 -1 x|
-abbrev broken : List ℕ
-broken =
-    68 ∷ 9 ∷ 55 ∷ 9 ∷ 45 ∷ 49 ∷ 9 ∷ 120 ∷ 10 ∷ []
-
--- REFUSED 1 1|
-abbrev refusal : List ℕ
-refusal =
-    82 ∷ 69 ∷ 70 ∷ 85 ∷ 83 ∷ 69 ∷ 68 ∷ 9 ∷ 49 ∷ 9 ∷ 49 ∷ 10 ∷ []
-
-pub figure-3 : (listingOf file ≡ listing) × (listingOf broken ≡ refusal)
+pub figure-3 : (fileReply file ≡ Accepted) × (listingOf file ≡ listing)
 unfolding floor modulo first nearest sum tabulate directionsReply kindOf share angle part directionsMiscounted termsMiscounted inTurn termsCheck checks coefficient coefficientsReply coefficientsList misclosure misclosureFigure N reduced D L M weakRow weak back K V-of R-of u-of adjusted-of Q-of countsAmiss differs lengthsAmiss coefficientFault misclosureFault tableReply rowsReply correlatesReply remaindersReply solutionReply inputReply adjustReply onFirst parted linesOf fieldsOf fieldAt letterOf readDigits unsignedOf plus minus numeral digits digitsOf written with directionLine anglesLine sidesLine conditionLine angleLine fixedLine sideLine lineOf recordOf termFault same belongs outOfTurn oneTooMany directionReply anglesReply sidesReply termReply lineReply counted endFault endReply scanned scanReply lineBefore netOf refusedAs figureValue zeros lentOf conditionReply formedReply rowOf misclosureOf rowsOf misclosuresOf tableIn room netReply netAnswers fileReply inOrder answersListing listingFor listingOf
 figure-3 = (refl, refl)

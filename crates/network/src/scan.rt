@@ -1,6 +1,7 @@
 // The scan over a file's lines, with counters only: refusals 1 to 3.
 ghost use mathlib.Core.Path.{_≡_};
 ghost use Prim.Native.Nat.{_≤_};
+ghost use Rattle.reply.specs.Verdicts.{Replies};
 ghost use Rattle.network.specs.Scan.{Low, belongs, outOfTurn, oneTooMany, directionReply, anglesReply, sidesReply, termReply};
 ghost use Rattle.network.specs.Scan.{lineReply, counted, endFault, endReply, scanReply};
 use crate::line;
@@ -232,7 +233,7 @@ fn end_reply(c: Counts) -> Reply
 
 // Refusals 1 to 3 of a whole file: its length, then its lines in order, then the end.
 pub fn scan(file: &[u8]) -> Reply
-    ensures { λ r. ⌜ r ≡ scanReply (now (file .entry)) ⌝ }
+    ensures { λ r. ⌜ Replies (scanReply (now (file .entry))) r ⌝ }
 {
     if MOST_BYTES < file.len() {
         return Reply::Refused(Refusal::Count(0));

@@ -1,9 +1,10 @@
 -- The promises leave nothing open: two answers that keep one are equal. Assumes nothing.
 --   one-number, one-place              of `number` and `place`
 --   one-refused, one-told              of `refuse` and `tell`
+--   replies, one-reply                 the rule's reply keeps the promise of an operation that only replies, and no other does
 --   no-refusal-is-0                    no refusal has the number 0
 --   only-accepted-is-0                 a verdict's number is 0 where the input is accepted, and nowhere else
-use mathlib.Core.Path.{_≡_, refl}
+use mathlib.Core.Path.{_≡_, refl, ap}
 use Prim.Native.Nat.{ℕ}
 use native.Mathlib.Omega.{arith}
 use Rattle.exact.proofs.Unique.{only}
@@ -13,7 +14,7 @@ use Rattle.reply.specs.declared.Reply.{Reply}
 use Rattle.reply.specs.declared.Reply.the-variants.{Accepted, Refused}
 use Rattle.reply.specs.declared.Verdict.{Verdict}
 use Rattle.reply.specs.Numbers.{numberOf, placeOf}
-use Rattle.reply.specs.Verdicts.{refused, verdictOf}
+use Rattle.reply.specs.Verdicts.{refused, verdictOf, Replies}
 
 pub one-number : (why : Refusal) (n n′ : ℕ) → n ≡ numberOf why → n′ ≡ numberOf why → n ≡ n′
 one-number why n n′ x y = only x y
@@ -26,6 +27,12 @@ one-refused why v v′ x y = only x y
 
 pub one-told : (r : Reply) (v v′ : Verdict) → v ≡ verdictOf r → v′ ≡ verdictOf r → v ≡ v′
 one-told r v v′ x y = only x y
+
+pub replies : {rule reply : Reply} → reply ≡ rule → Replies rule reply
+replies e = record { answer = e; verdict = ap verdictOf e }
+
+pub one-reply : {rule : Reply} (a b : Reply) → Replies rule a → Replies rule b → a ≡ b
+one-reply a b x y = only (x .answer) (y .answer)
 
 pub no-refusal-is-0 : (why : Refusal) → numberOf why ≡ 0 → ⊥
 no-refusal-is-0 (Malformed line) e = omega (arith, e)

@@ -1,4 +1,5 @@
 -- What a caller is told of a reply: this paper's number and place, two numbers.
+use mathlib.Core.Path.{_≡_}
 use Rattle.reply.specs.declared.Refusal.{Refusal}
 use Rattle.reply.specs.declared.Reply.{Reply}
 use Rattle.reply.specs.declared.Reply.the-variants.{Accepted, Refused}
@@ -15,3 +16,8 @@ refused why = record { number = numberOf why; place = placeOf why }
 abbrev pub verdictOf : Reply → Verdict
 verdictOf Accepted = accepted
 verdictOf (Refused why) = refused why
+
+-- what an operation promises whose one answer is its reply: that of the rule, and in this paper's numbers its number and place
+pub record Replies (rule reply : Reply) : Type 0 where
+  pub answer : reply ≡ rule
+  pub verdict : verdictOf reply ≡ verdictOf rule

@@ -13,9 +13,9 @@ use Rattle.exact.proofs.Searching.{Failed, failed-none, failed-more}
 use Rattle.exact.proofs.Bound.{read}
 use Rattle.reply.specs.declared.Refusal.the-variants.{OutOfRange}
 use Rattle.reply.specs.declared.Reply.{Reply}
-use Rattle.reply.specs.Verdicts.{verdictOf}
+use Rattle.reply.proofs.Unique.{replies}
 use Rattle.reply.proofs.Checking.{refuse-at, refuse-none}
-use Rattle.direction.specs.Ranges.{outOfRange, faultAt, directionsReply, Checked}
+use Rattle.direction.specs.Ranges.{outOfRange, faultAt, directionsReply}
 use Rattle.direction.proofs.check.Statement.{statement}
 use Rattle.direction.proofs.check.Tie as tie
 
@@ -63,15 +63,11 @@ module _ (c : tie.After-out-of-range Inv-loop μ-loop) where
       let g : SFits w64 (getD qs i (pos 0)) = record { sfits = c .before .y .given } in
       sym (c .out-of-range .ensures ∙ ap₂ outOfRange (read f) (read g))
 
--- the reply of the rule keeps the promise
-checked : {ds qs : List ℤ} {reply : Reply} → reply ≡ directionsReply ds qs → Checked ds qs reply
-checked e = record { answer = e; verdict = ap verdictOf e }
-
 returns : tie.Need-returns Inv-loop μ-loop
 unfolding directionsReply
 returns c =
     let b = c .before in
-    checked (sym (refuse-at (length (ds b)) (faultAt (ds b) (qs b)) (λ i. OutOfRange (i + 1)) (i b) (omega arith) (b .before .before .before .before .loop .inv .1) (fault-is b ∙ c .if1 .taken)))
+    replies (sym (refuse-at (length (ds b)) (faultAt (ds b) (qs b)) (λ i. OutOfRange (i + 1)) (i b) (omega arith) (b .before .before .before .before .loop .inv .1) (fault-is b ∙ c .if1 .taken)))
 
 add-i : tie.Need-add-i Inv-loop μ-loop
 add-i c = search needs
@@ -87,7 +83,7 @@ unfolding directionsReply
 returns-2 c =
     let ds = now (c .before .before .args .directions) in let qs = now (c .before .before .args .q) in
     let e : c .before .loop .i ≡ length ds = omega arith in
-    checked (sym (refuse-none (length ds) (faultAt ds qs) (λ i. OutOfRange (i + 1)) (subst (Failed (faultAt ds qs)) e (c .before .loop .inv .1))))
+    replies (sym (refuse-none (length ds) (faultAt ds qs) (λ i. OutOfRange (i + 1)) (subst (Failed (faultAt ds qs)) e (c .before .loop .inv .1))))
 
 pub check-spec : {M : Type 1} → statement M
 check-spec =

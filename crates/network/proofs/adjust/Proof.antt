@@ -43,7 +43,7 @@ module _ (c : tie.After-scan) where
 returns-2 : tie.Need-returns-2
 returns-2 c =
     let r = c .before in let e = r .before .before in
-    scan-refused (file e) (out e) (roomy e) (r .scanned .given .0 .0) (sym (e .scan .ensures) ∙ r .scanned .given .1)
+    scan-refused (file e) (out e) (roomy e) (r .scanned .given .0 .0) (sym (e .scan .ensures .answer) ∙ r .scanned .given .1)
 
 enum-told : tie.Need-enum-told
 enum-told c = search needs
@@ -54,7 +54,7 @@ module _ (c : tie.After-enum-told) where
   scanned = c .before .before
 
   accepted : scanReply (file scanned) ≡ Accepted
-  accepted = sym (scanned .scan .ensures) ∙ c .enum-told .given .1
+  accepted = sym (scanned .scan .ensures .answer) ∙ c .enum-told .given .1
 
   bounds : Room none (netFrom (file scanned) 0)
   bounds = scan-bounds (file scanned) accepted

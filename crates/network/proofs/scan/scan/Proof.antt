@@ -10,6 +10,7 @@ use lib.ListN.{length}
 use Rattle.network.specs.Parts.{placeFrom}
 use Rattle.network.specs.Lines.{LF, lineAt}
 use Rattle.network.specs.Records.{recordOf}
+use Rattle.reply.proofs.Unique.{replies}
 use Rattle.network.specs.Scan.{Low, none, lineReply, counted, scanned, scanReply}
 use Rattle.network.specs.declared.scan.Counts.{Counts}
 use Rattle.network.proofs.Splitting.{whole-within, missing-within, missing-past, none-past, line-next}
@@ -26,7 +27,7 @@ abbrev μ-loop : tie.MeasureT-loop
 
 returns : tie.Need-returns Inv-loop μ-loop
 unfolding scanReply
-returns c = rw (lt-ltb 65535 (length (now (c .before .before .args .file))) (c .if1 .taken))
+returns c = replies (rw (lt-ltb 65535 (length (now (c .before .before .args .file))) (c .if1 .taken)))
 
 loop-holds : tie.Need-loop-holds Inv-loop μ-loop
 loop-holds c = (omega arith, omega arith, record { m = omega arith; n = omega arith; terms = omega arith }, refl)
@@ -87,9 +88,10 @@ end-reply-requires c κs = search needs
 returns-2 : tie.Need-returns-2 Inv-loop μ-loop
 returns-2 c =
     let t = c .before .before .before in let l = t .before in
-    c .end-reply .ensures
+    replies
+    (c .end-reply .ensures
     ∙ sym (scan-none (file l) (start l) (place l) (counts l) (none-past (file l) (start l) (sym (t .line-status .ensures) ∙ c .before .enum-told .given .1)))
-    ∙ onward l
+    ∙ onward l)
 
 enum-told-2 : tie.Need-enum-told-2 Inv-loop μ-loop
 enum-told-2 c = search needs
@@ -97,7 +99,7 @@ enum-told-2 c = search needs
 returns-3 : tie.Need-returns-3 Inv-loop μ-loop
 returns-3 c =
     let t = c .before .before in let l = t .before in let e = sym (t .line-status .ensures) ∙ c .enum-told2 .given .1 in
-    sym (scan-missing (file l) (start l) (place l) (counts l) (missing-within (file l) (start l) e) (missing-past (file l) (start l) e)) ∙ onward l
+    replies (sym (scan-missing (file l) (start l) (place l) (counts l) (missing-within (file l) (start l) e) (missing-past (file l) (start l) e)) ∙ onward l)
 
 enum-told-3 : tie.Need-enum-told-3 Inv-loop μ-loop
 enum-told-3 c = search needs
@@ -117,7 +119,7 @@ enum-known-checked c = search needs
 returns-4 : tie.Need-returns-4 Inv-loop μ-loop
 returns-4 c =
     let e = c .before .before .before in let o = e .before in let l = turn o in
-    sym (scan-refused (file l) (start l) (place l) (counts l) (within o) (c .before .checked .given .0 .0) (replied e ∙ c .before .checked .given .1)) ∙ onward l
+    replies (sym (scan-refused (file l) (start l) (place l) (counts l) (within o) (c .before .checked .given .0 .0) (replied e ∙ c .before .checked .given .1)) ∙ onward l)
 
 enum-told-4 : tie.Need-enum-told-4 Inv-loop μ-loop
 enum-told-4 c = search needs
