@@ -12,7 +12,7 @@ use Rattle.exact.specs.Sum.{sum}
 use Rattle.exact.specs.Tabulate.{tabulate}
 use Rattle.reply.specs.declared.Refusal.the-variants.{OutOfRange}
 use Rattle.reply.specs.declared.Reply.the-variants.{Accepted, Refused}
-use Rattle.reply.specs.declared.Figure.the-variants.{Value}
+use Rattle.reply.specs.declared.Figure.the-variants.{Value, Refused as NoFigure}
 use Rattle.reply.specs.Checks.{inTurn}
 use Rattle.direction.specs.Ranges.{directionsReply}
 use Rattle.condition.specs.declared.Kind.the-variants.{Angle, Side}
@@ -51,6 +51,6 @@ pub side-misclosure : misclosureFigure side ≡ Value (pos 100000)
 unfolding directionsMiscounted termsMiscounted directionsReply inTurn termsCheck checks misclosure misclosureFigure same letterOf part angle first sum floor modulo
 side-misclosure = refl
 
-pub refused-reply : coefficientsReply (triangle (pos 1) (pos 4)) 3 ≡ Refused (OutOfRange 2)
-unfolding directionsMiscounted termsMiscounted directionsReply inTurn termsCheck checks coefficient coefficientsReply same letterOf share first sum
-refused-reply = refl
+pub refused-reply : (coefficientsReply (triangle (pos 1) (pos 4)) 3 ≡ Refused (OutOfRange 2)) × (misclosureFigure (triangle (pos 1) (pos 4)) ≡ NoFigure (OutOfRange 2))
+unfolding directionsMiscounted termsMiscounted directionsReply inTurn termsCheck checks coefficient coefficientsReply misclosure misclosureFigure same letterOf share part angle first sum floor modulo
+refused-reply = (refl, refl)

@@ -15,8 +15,8 @@ use Rattle.network.specs.Scan.{belongs, outOfTurn, oneTooMany, direction
 
 -- Within a line 1 comes first, then 2, then 3
 -- D 7 -1 x|
-abbrev one : List ℕ
-one =
+abbrev pub broken : List ℕ
+broken =
     68 ∷ 9 ∷ 55 ∷ 9 ∷ 45 ∷ 49 ∷ 9 ∷ 120 ∷ 10 ∷ []
 
 -- D 7 -1 99|
@@ -81,7 +81,7 @@ fixedElsewhere =
     68 ∷ 9 ∷ 49 ∷ 9 ∷ 48 ∷ 9 ∷ 49 ∷ 10 ∷ 67 ∷ 9 ∷ 83 ∷ 10 ∷ 82 ∷ 9 ∷ 53 ∷ 9 ∷ 48 ∷ 9 ∷ 49 ∷ 9 ∷ 49 ∷ 10 ∷ []
 
 pub figures :
-    (scanReply one ≡ Refused (Malformed 1))
+    (scanReply broken ≡ Refused (Malformed 1))
     × (scanReply two ≡ Refused (Count 1))
     × (scanReply three ≡ Refused (OutOfRange 1))
     × (scanReply noLf ≡ Refused (Malformed 3))
