@@ -17,7 +17,7 @@ use Rattle.reply.specs.declared.Refusal.the-variants.{Count, Coefficient}
 use Rattle.reply.specs.declared.Reply.{Reply}
 use Rattle.reply.specs.declared.Reply.the-variants.{Accepted, Refused}
 use Rattle.reply.specs.declared.Figure.{Figure}
-use Rattle.reply.specs.Checks.{figureReply, figureValue}
+use Rattle.reply.specs.Checks.{leaves, figureReply, figureValue}
 use Rattle.reply.specs.Verdicts.{verdictOf}
 use Rattle.condition.specs.Rules.{Lent, checks, coefficient, beyond, coefficientsReply, coefficientsList, misclosureFigure}
 use Rattle.condition.specs.Promise.{Coefficients, Misclosed}
@@ -43,7 +43,7 @@ module _ (l : Lent) (room : ℕ) where
 module _ (l : Lent) (before : List ℤ) where
   pub kept : (why : Refusal) → coefficientsReply l (length before) ≡ Refused why → coefficientsList l before ≡ before
   unfolding coefficientsList
-  kept why e = rw e
+  kept why e = ap (λ (r : Reply). leaves r (tabulate (length (l .directions)) (λ h. coefficient l (h + 1))) before) e
 
   pub filled : coefficientsReply l (length before) ≡ Accepted → coefficientsList l before ≡ tabulate (length (l .directions)) (λ h. coefficient l (h + 1))
   unfolding coefficientsList

@@ -35,8 +35,8 @@ pub fn modulo(z: i64, m: i64) -> i64
     requires { ⌜ pos 0 <ℤ m ⌝ }
     ensures { λ r. ⌜ r ≡ modulo z m ⌝ }
 {
-    let r = z % m;
-    if r < 0 { r + m } else { r }
+    let left = z % m;
+    if left < 0 { left + m } else { left }
 }
 
 // The size of z, also of the least 64-bit number, which has no negative of its own.

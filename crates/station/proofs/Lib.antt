@@ -11,5 +11,6 @@ pub mod Joining
 pub mod Rearranging
 pub mod Averaging
 pub mod Directions
+pub mod Answering
 pub mod Uniqueness
 pub mod StationFigures

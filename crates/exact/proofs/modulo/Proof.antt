@@ -11,8 +11,8 @@ use Rattle.exact.proofs.Circles.{modulo-kept, modulo-up}
 use Rattle.exact.proofs.modulo.Statement.{statement}
 use Rattle.exact.proofs.modulo.Tie as tie
 
-rem-r : tie.Need-rem-r
-rem-r c =
+rem-left : tie.Need-rem-left
+rem-left c =
     let f = c .fits .z in let g = c .fits .m in
     (bits-above-zero (c .args .m) (c .pre), simp toZ-ofZ (quot-fits (c .args .z) (c .args .m) (c .pre) f))
 
@@ -44,4 +44,4 @@ returns-2 c =
     simp toZ-ofZ (sym (modulo-kept (s .args .z) (s .args .m) (s .pre) (not-below c)))
 
 pub modulo-spec : {M : Type 1} → statement M
-modulo-spec = tie.close (tie.spec rem-r add-result returns returns-2)
+modulo-spec = tie.close (tie.spec rem-left add-result returns returns-2)

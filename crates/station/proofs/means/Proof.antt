@@ -1,21 +1,18 @@
 -- `station::means` meets its contract: each return is one step of the fixed order of checks, and lists are written only after the last. Assumes nothing.
-use mathlib.Core.Path.{_≡_, refl, sym, _∙_, ap, subst}
+use mathlib.Core.Path.{_≡_, refl, sym, _∙_, subst}
 use mathlib.Core.Bool.{Bool, true}
 use mathlib.Core.List.{List}
 use borrow.Author.Needs.{needs}
 use lib.IntN.{ℤ}
 use lib.ListN.{length}
 use Rattle.exact.specs.Within.{Within}
-use Rattle.reply.specs.declared.Reply.{Reply}
-use Rattle.reply.specs.Checks.{leaves}
-use Rattle.reply.specs.Verdicts.{verdictOf}
 use Rattle.station.specs.Bounds.{InRange}
 use Rattle.station.specs.Sightings.{Book, book}
-use Rattle.station.specs.Table.{counts, readings}
 use Rattle.station.specs.Means.{directions, pairCounts}
-use Rattle.station.specs.Replies.{tableReply, replyOf, Answers}
+use Rattle.station.specs.Replies.{tableReply, replyOf}
 use Rattle.station.proofs.Deciding.{LengthsFit, lengths-fit, fit, reply-lengths, reply-field, reply-table, in-range}
 use Rattle.station.proofs.Tests.{refuted, upheld}
+use Rattle.station.proofs.Answering.{answers-kept}
 use Rattle.station.proofs.Tallying.{counts-within, readings-within}
 use Rattle.station.proofs.means.Statement.{statement}
 use Rattle.station.proofs.means.Tie as tie
@@ -30,13 +27,8 @@ sighted s = book (s .args .position .now) (s .args .object .now) (s .args .face 
 abbrev fits : tie.Start → Bool
 fits s = fit (sighted s) (length (s .args .direction .now)) (length (s .args .pairs .now))
 
--- the rule's reply, with the lists that it leaves, keeps the promise
-answers : {b : Book} {d p D P : List ℤ} {reply : Reply} → reply ≡ replyOf b (length d) (length p) →
-    D ≡ leaves reply (directions (counts b) (readings b)) d → P ≡ leaves reply (pairCounts (counts b)) p → Answers b d p reply D P
-answers e f g = record { replied = e; verdict = ap verdictOf e; directionsAre = f; pairsAre = g }
-
 returns : tie.Need-returns
-returns c = answers (sym (reply-lengths (sighted (c .before .before)) _ _ (refuted (c .before .lengths-fit .ensures) (c .if1 .taken)))) refl refl
+returns c = answers-kept (sym (reply-lengths (sighted (c .before .before)) _ _ (refuted (c .before .lengths-fit .ensures) (c .if1 .taken)))) refl refl
 
 fit-true : (c : tie.Else1) → fits (c .before .before) ≡ true
 fit-true c = upheld (c .before .lengths-fit .ensures) (c .if1 .left)
@@ -55,7 +47,7 @@ add-t21 c = search needs
 returns-2 : tie.Need-returns-2
 returns-2 c =
     let d = c .before in
-    answers (sym (reply-field (sighted (d .before .before .before)) _ _ (fit-true (d .before)) (d .first-out-of-range .result) (d .first-out-of-range .ensures) (c .if2 .taken))) refl refl
+    answers-kept (sym (reply-field (sighted (d .before .before .before)) _ _ (fit-true (d .before)) (d .first-out-of-range .result) (d .first-out-of-range .ensures) (c .if2 .taken))) refl refl
 
 -- lists that pass both checks are in range
 sound : (c : tie.Else2) → InRange (sighted (c .before .before .before .before))
@@ -97,7 +89,7 @@ enum-known-reply : tie.Need-enum-known-reply
 enum-known-reply c = search needs
 
 returns-3 : tie.Need-returns-3
-returns-3 c = answers (sym (c .before .reply .given .1) ∙ replied-as (c .before .before .before)) refl refl
+returns-3 c = answers-kept (sym (c .before .reply .given .1) ∙ replied-as (c .before .before .before)) refl refl
 
 enum-told : tie.Need-enum-told
 enum-told c = search needs
@@ -116,7 +108,7 @@ same-length-2 c = search needs
 returns-4 : tie.Need-returns-4
 returns-4 c =
     let w = c .before .before in let e = w .before .before .before .before .before in let t = e .before .before .before .before .before in
-    answers (sym (e .enum-told .given .1) ∙ replied-as (e .before .before))
+    answers-kept (sym (e .enum-told .given .1) ∙ replied-as (e .before .before))
     (w .write .ensures .0 ∙ (λ i. directions (t .tally .ensures .0 i) (t .tally .ensures .1 i)))
     (w .write .ensures .1 ∙ (λ i. pairCounts (t .tally .ensures .0 i)))
 

@@ -1,8 +1,8 @@
 -- `answer::direction_of` meets its contract: at most 16 pairs, g within two circles and e within one, so t + P fits. Assumes nothing.
 use mathlib.Core.Path.{_≡_, refl, sym, _∙_, ap}
-use Prim.Native.Nat.{ℕ}
+use Prim.Native.Nat.{ℕ, _≤_}
 use borrow.Author.Needs.{needs}
-use lib.IntN.{ℤ, pos, _+ℤ_, _*ℤ_}
+use lib.IntN.{ℤ, pos, natAbs, _+ℤ_, _*ℤ_}
 use lib.Signed.{ltZ, _<ℤ_}
 use mir.Syntax.{w64}
 use mir.Val.{toZ, ofZ}
@@ -84,11 +84,17 @@ module _ (c : tie.After-sum-from-base) where
 add-t : tie.Need-add-t
 add-t c = rw (t-is c) (let z = sizes (start c) in fits-in (search bounds) tt)
 
+t-read : (c : tie.After-sum-from-base) → toZ w64 (ofZ w64 (machine-t c)) ≡ p (start c) *ℤ b (start c) +ℤ es (start c)
+t-read c = read (add-t c) ∙ t-is c
+
 with-p : (c : tie.After-sum-from-base) → toZ w64 (ofZ w64 (machine-t c)) +ℤ machine-p c ≡ p (start c) *ℤ b (start c) +ℤ es (start c) +ℤ p (start c)
-with-p c = λ u. (read (add-t c) ∙ t-is c) u +ℤ p-read (c .before .before .before .before) u
+with-p c = λ u. t-read c u +ℤ p-read (c .before .before .before .before) u
+
+p-size : (c : tie.After-sum-from-base) → natAbs (machine-p c) ≤ 16
+p-size c = rw (p-read (c .before .before .before .before)) (P-size (start c .args .count .now) (start c .args .j))
 
 add-floor : tie.Need-add-floor
-add-floor c = rw (with-p c) (let z = sizes (start c) in fits-in (search bounds depth 8) tt)
+add-floor c = rw (t-read c) (let z = sizes (start c) in let y = bounded (machine-p c) (p-size c) in fits-in (search bounds depth 8) tt)
 
 mul-floor : tie.Need-mul-floor
 mul-floor c = rw (p-read (c .before .before .before .before)) (let z = sizes (start c) in fits-in (search bounds) tt)
