@@ -21,7 +21,7 @@ use Rattle.exact.proofs.Sum.{sum-ext, sum-add, sum-mul, sum-swap, sum-le, sum-a
 use Rattle.exact.proofs.Rounding.{nearest-error}
 use Rattle.exact.proofs.Weights.{weight-exact, weight-pos}
 use Rattle.exact.proofs.LeastSquares as squares
-use Rattle.adjustment.specs.Table.{Table}
+use Rattle.adjustment.specs.Table.{Table, inverseWeight}
 use Rattle.adjustment.specs.Solution.{N}
 use Rattle.adjustment.specs.Corrections.{V-of, R-of, u-of, Q-of}
 use Rattle.adjustment.specs.Demand.{seen, weighted, SameRemainders, Demand3}
@@ -37,22 +37,25 @@ spread a q s = let ρ = a ∷ q ∷ s ∷ [] in let e = letters ρ in ring-by ρ
 turn : (k x : ℤ) → x *ℤ k ≡ k *ℤ x
 turn k x = let ρ = k ∷ x ∷ [] in let e = letters ρ in ring-by ρ (search polynomials) (search polynomials) refl
 
-module _ (t : Table) (k : ℕ → ℤ) where
-  -- one entry of N with its correlate, spread over the directions
-  entry : (j h : ℕ) → N t j h *ℤ k h ≡ sum (t .m) (λ i. (t .a j i *ℤ t .q i) *ℤ (t .a h i *ℤ k h))
-  unfolding N
-  entry j h =
-      turn (k h) (sum (t .m) (λ i. t .q i *ℤ t .a j i *ℤ t .a h i)) ∙ sym (sum-mul (t .m) (k h) (λ i. t .q i *ℤ t .a j i *ℤ t .a h i))
-      ∙ sum-ext (t .m) (λ i. k h *ℤ (t .q i *ℤ t .a j i *ℤ t .a h i)) (λ i. (t .a j i *ℤ t .q i) *ℤ (t .a h i *ℤ k h))
-      (λ i l. sym (turn (k h) (t .q i *ℤ t .a j i *ℤ t .a h i)) ∙ gather (t .q i) (t .a j i) (t .a h i) (k h))
+-- for any factors f of the directions, the same in N and in V
+module _ (m n : ℕ) (a : ℕ → ℕ → ℤ) (f k : ℕ → ℤ) (j : ℕ) where
+  -- one entry with its correlate, spread over the directions
+  entry : (h : ℕ) → sum m (λ i. f i *ℤ a j i *ℤ a h i) *ℤ k h ≡ sum m (λ i. (a j i *ℤ f i) *ℤ (a h i *ℤ k h))
+  entry h =
+      turn (k h) (sum m (λ i. f i *ℤ a j i *ℤ a h i)) ∙ sym (sum-mul m (k h) (λ i. f i *ℤ a j i *ℤ a h i))
+      ∙ sum-ext m (λ i. k h *ℤ (f i *ℤ a j i *ℤ a h i)) (λ i. (a j i *ℤ f i) *ℤ (a h i *ℤ k h))
+      (λ i l. sym (turn (k h) (f i *ℤ a j i *ℤ a h i)) ∙ gather (f i) (a j i) (a h i) (k h))
 
-  pub remainder-forms : (j : ℕ) → R-of t k j ≡ closing t (V-of t k) j
-  unfolding R-of V-of
-  remainder-forms j = ap (λ (z : ℤ). z +ℤ pos 10000000 *ℤ t .w j)
-      (sum-ext (t .n) (λ h. N t j h *ℤ k h) (λ h. sum (t .m) (λ i. (t .a j i *ℤ t .q i) *ℤ (t .a h i *ℤ k h))) (λ h l. entry j h)
-      ∙ sum-swap (t .n) (t .m) (λ h i. (t .a j i *ℤ t .q i) *ℤ (t .a h i *ℤ k h))
-      ∙ sum-ext (t .m) (λ i. sum (t .n) (λ h. (t .a j i *ℤ t .q i) *ℤ (t .a h i *ℤ k h))) (λ i. t .a j i *ℤ (t .q i *ℤ sum (t .n) (λ h. t .a h i *ℤ k h)))
-      (λ i l. sum-mul (t .n) (t .a j i *ℤ t .q i) (λ h. t .a h i *ℤ k h) ∙ spread (t .a j i) (t .q i) (sum (t .n) (λ h. t .a h i *ℤ k h))))
+  by-direction : sum n (λ h. sum m (λ i. f i *ℤ a j i *ℤ a h i) *ℤ k h) ≡ sum m (λ i. a j i *ℤ (f i *ℤ sum n (λ h. a h i *ℤ k h)))
+  by-direction =
+      sum-ext n (λ h. sum m (λ i. f i *ℤ a j i *ℤ a h i) *ℤ k h) (λ h. sum m (λ i. (a j i *ℤ f i) *ℤ (a h i *ℤ k h))) (λ h l. entry h)
+      ∙ sum-swap n m (λ h i. (a j i *ℤ f i) *ℤ (a h i *ℤ k h))
+      ∙ sum-ext m (λ i. sum n (λ h. (a j i *ℤ f i) *ℤ (a h i *ℤ k h))) (λ i. a j i *ℤ (f i *ℤ sum n (λ h. a h i *ℤ k h)))
+      (λ i l. sum-mul n (a j i *ℤ f i) (λ h. a h i *ℤ k h) ∙ spread (a j i) (f i) (sum n (λ h. a h i *ℤ k h)))
+
+pub remainder-forms : (t : Table) (k : ℕ → ℤ) (j : ℕ) → R-of t k j ≡ closing t (V-of t k) j
+unfolding R-of V-of N
+remainder-forms t k j = ap (λ (z : ℤ). z +ℤ pos 10000000 *ℤ t .w j) (by-direction (t .m) (t .n) (t .a) (inverseWeight t) k j)
 
 -- ---- the printed corrections: u(i) is V(i)/S rounded, so S*u(i) is within half of S of V(i)
 module _ (m : ℕ) (a v u : ℕ → ℤ) (S : ℤ) (half : ℕ) (near : (i : ℕ) → i < m → natAbs (S *ℤ u i -ℤ v i) ≤ half) where

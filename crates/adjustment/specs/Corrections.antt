@@ -4,13 +4,13 @@ use lib.IntN.{ℤ, pos, _+ℤ_, _*ℤ_}
 use Rattle.exact.specs.Sum.{sum}
 use Rattle.exact.specs.Nearest.{nearest}
 use Rattle.exact.specs.Circle.{C, modulo}
-use Rattle.adjustment.specs.Table.{Table}
+use Rattle.adjustment.specs.Table.{Table, inverseWeight}
 use Rattle.adjustment.specs.Solution.{N}
 
 module _ (t : Table) (k : ℕ → ℤ) where
   -- V(i) = q(i) * sum of a(j,i)*K(j)
   unfoldable pub V-of : ℕ → ℤ
-  V-of i = t .q i *ℤ sum (t .n) (λ j. t .a j i *ℤ k j)
+  V-of i = inverseWeight t i *ℤ sum (t .n) (λ j. t .a j i *ℤ k j)
 
   -- R(j) = sum of N(j,k)*K(k) + 10^7*w(j)
   unfoldable pub R-of : ℕ → ℤ

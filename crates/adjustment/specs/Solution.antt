@@ -9,11 +9,11 @@ use lib.Signed.{ltZ}
 use Rattle.exact.specs.Sum.{sum}
 use Rattle.exact.specs.Nearest.{nearest}
 use Rattle.exact.specs.First.{some-below}
-use Rattle.adjustment.specs.Table.{Table}
+use Rattle.adjustment.specs.Table.{Table, inverseWeight}
 
 -- N(j,k) = sum over directions of q*a(j)*a(k)
 unfoldable pub N : Table → ℕ → ℕ → ℤ
-N t j k = sum (t .m) (λ i. t .q i *ℤ t .a j i *ℤ t .a k i)
+N t j k = sum (t .m) (λ i. inverseWeight t i *ℤ t .a j i *ℤ t .a k i)
 
 -- nearest(-10^6*x / D): the multiplier that a row with the pivot D has for its coefficient x
 abbrev pub multiplier : ℤ → ℤ → ℤ

@@ -13,6 +13,10 @@ pub record Table : Type 0 where
   pub a : ℕ → ℕ → ℤ
   pub w : ℕ → ℤ
 
+-- "Inverse weight q: 1 to 10": what N and V multiply by at direction i
+abbrev pub inverseWeight : Table → ℕ → ℤ
+inverseWeight t i = t .q i
+
 -- a list as the numbers at its places
 abbrev pub at : List ℤ → ℕ → ℤ
 at xs i = getD xs i (pos 0)
