@@ -1,4 +1,5 @@
 -- The reduction of the rows. Assumes nothing.
+--   parts-none, parts-more          a number with the parts that rows add to it, as a loop adds them
 --   reduced-sum, D-rule, L-rule     the rules' own equations of D and L
 --   check-column                    the row sum of N(j,k) is the sum over directions of q*a(j)*(sum of that direction's coefficients)
 --   sound-at                        what is known of a row that is not weak
@@ -17,18 +18,26 @@ use lib.Seq.{getD-set-same, getD-set-other}
 use lib.IntN.{ℤ, pos, natAbs, _+ℤ_, _*ℤ_, +ℤ-idr, +ℤ-assoc}
 use Rattle.exact.specs.Sum.{sum}
 use Rattle.exact.proofs.Bound.{abs-mul}
-use Rattle.exact.proofs.Sum.{sum-ext, sum-mul, sum-swap}
+use Rattle.exact.proofs.Sum.{sum-none, sum-more, sum-ext, sum-mul, sum-swap}
 use Rattle.exact.proofs.Searching.{Failed}
 use Rattle.adjustment.specs.Table.{Table, at, tableOf}
 use Rattle.adjustment.specs.Solution.{N, reduced, D, L, M, carried, multiplier, weakRow, weak}
-use Rattle.adjustment.specs.Inner.{Sound, From, RowWithin, Holds, Rows, withAbove, line, cell}
+use Rattle.adjustment.specs.Inner.{Sound, CONSTANT, From, RowWithin, Holds, Rows, withAbove, rowAt, cell}
 use Rattle.adjustment.proofs.Sizes.{sum-within, term-size}
 use Rattle.adjustment.proofs.Weakness.{SoundRow, sound-row, weak-ext}
 
+-- ---- the code's loops
+-- a number with the parts that rows add to it: none yet, and one more
+pub parts-none : (own : ℤ) (f : ℕ → ℤ) → own ≡ own +ℤ sum 0 f
+parts-none own f = sym (ap (λ (z : ℤ). own +ℤ z) (sum-none f) ∙ +ℤ-idr own)
+
+pub parts-more : (own : ℤ) (f : ℕ → ℤ) (b : ℕ) → (own +ℤ sum b f) +ℤ f b ≡ own +ℤ sum (b + 1) f
+parts-more own f b = +ℤ-assoc own (sum b f) (f b) ∙ ap (λ (z : ℤ). own +ℤ z) (sym (sum-more b f))
+
 -- what holds of the first j rows of a list and of the row that is put at place j holds of the first j + 1
-lines-more : (P : ℕ → List ℤ → Type 0) (j : ℕ) (rows : List (List ℤ)) (row : List ℤ) → j < length rows → ((h : ℕ) → h < j → P h (line rows h)) → P j row → (h : ℕ) → h < j + 1 → P h (line (set rows j row) h)
-lines-more P j rows row l f g =
-    below-more (λ h. P h (line (set rows j row) h)) j
+rowAt-more : (P : ℕ → List ℤ → Type 0) (j : ℕ) (rows : List (List ℤ)) (row : List ℤ) → j < length rows → ((h : ℕ) → h < j → P h (rowAt rows h)) → P j row → (h : ℕ) → h < j + 1 → P h (rowAt (set rows j row) h)
+rowAt-more P j rows row l f g =
+    below-more (λ h. P h (rowAt (set rows j row) h)) j
     (λ h k. rw (getD-set-other rows j h row [] (λ e. omega arith)) (f h k))
     (rw (getD-set-same rows j row [] l) g)
 
@@ -62,7 +71,7 @@ module _ (t : Table) where
 
   -- ---- row j, from the rows above it
   module _ (j : ℕ) (rows multipliers : List (List ℤ)) (r : Rows t j rows multipliers) (l : j < t .n) where
-    pub above-within : Failed (weak t) j → (i : ℕ) → i < j → (natAbs (cell multipliers i j) ≤ 1000000000) × RowWithin 4000000000 j (t .n) (line rows i)
+    pub above-within : Failed (weak t) j → (i : ℕ) → i < j → (natAbs (cell multipliers i j) ≤ 1000000000) × RowWithin 4000000000 j (t .n) (rowAt rows i)
     unfolding M
     above-within f i h =
         let g = sound-at i (f i h) in let row = r .reduced i h in (
@@ -81,17 +90,17 @@ module _ (t : Table) where
     above-is x y k X e f =
         ap₂ _+ℤ_ e (sum-ext j (λ i. carried (cell multipliers i j) (cell rows i k)) (λ i. carried (M t i j) (X i)) (λ i h. ap₂ carried (r .multiplied i h j h l) (f i h)))
 
-    pub row-reduced : (own next : List ℤ) → Holds j (t .n) (N t j) (pos 1000 *ℤ t .w j) own → Holds j (t .n) (λ k. withAbove (at own k) rows multipliers j k) (withAbove (at own 24) rows multipliers j 24) next → Holds j (t .n) (D t j) (L t j) next
+    pub row-reduced : (own next : List ℤ) → Holds j (t .n) (N t j) (pos 1000 *ℤ t .w j) own → Holds j (t .n) (λ k. withAbove (at own k) rows multipliers j k) (withAbove (at own CONSTANT) rows multipliers j CONSTANT) next → Holds j (t .n) (D t j) (L t j) next
     row-reduced own next g e = record {
       coefficients = λ k a b. e .coefficients k a b
           ∙ above-is (at own k) (N t j k) k (λ i. D t i k) (g .coefficients k a b) (λ i h. r .reduced i h .coefficients k (omega arith) b) ∙ sym (D-rule j k);
-      constant = e .constant ∙ above-is (at own 24) (pos 1000 *ℤ t .w j) 24 (L t) (g .constant) (λ i h. r .reduced i h .constant) ∙ sym (L-rule j);
+      constant = e .constant ∙ above-is (at own CONSTANT) (pos 1000 *ℤ t .w j) CONSTANT (L t) (g .constant) (λ i h. r .reduced i h .constant) ∙ sym (L-rule j);
     }
 
   module _ (j : ℕ) (row : List ℤ) (l : j < t .n) (g : Holds j (t .n) (D t j) (L t j) row) where
-    pub row-weak : weakRow (t .n) j (at row) (at row 24) ≡ weak t j
+    pub row-weak : weakRow (t .n) j (at row) (at row CONSTANT) ≡ weak t j
     unfolding weak
-    row-weak = weak-ext (t .n) j (at row) (D t j) (at row 24) (L t j) l (g .coefficients) (g .constant)
+    row-weak = weak-ext (t .n) j (at row) (D t j) (at row CONSTANT) (L t j) l (g .coefficients) (g .constant)
 
     pub row-multiplied : (m : List ℤ) → From (suc j) (t .n) (λ k. at m k ≡ multiplier (at row k) (at row j)) → From (suc j) (t .n) (λ k. at m k ≡ M t j k)
     unfolding M
@@ -103,8 +112,8 @@ module _ (t : Table) where
 
   pub rows-more : (j : ℕ) (rows multipliers : List (List ℤ)) (row m : List ℤ) → j < length rows → j < length multipliers → Rows t j rows multipliers → Holds j (t .n) (D t j) (L t j) row → From (suc j) (t .n) (λ k. at m k ≡ M t j k) → Rows t (j + 1) (set rows j row) (set multipliers j m)
   rows-more j rows multipliers row m a b r g e = record {
-    reduced = lines-more (λ h row. Holds h (t .n) (D t h) (L t h) row) j rows row a (r .reduced) g;
-    multiplied = lines-more (λ h m. From (suc h) (t .n) (λ k. at m k ≡ M t h k)) j multipliers m b (r .multiplied) e;
+    reduced = rowAt-more (λ h row. Holds h (t .n) (D t h) (L t h) row) j rows row a (r .reduced) g;
+    multiplied = rowAt-more (λ h m. From (suc h) (t .n) (λ k. at m k ≡ M t h k)) j multipliers m b (r .multiplied) e;
   }
 
 -- ---- a row of N

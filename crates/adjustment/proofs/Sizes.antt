@@ -2,20 +2,20 @@
 --   carried-size       what a row above adds: at most 1,000 times the bound of what it multiplies, and one
 --   sum-within         a sum of at most so many terms, each within a bound
 --   term-size, product-size, printed-size, combination-size      a term of N(j,k), of the sums of a*V, a*u and a*K
---   parts-size, parts-none, parts-more      a number with the parts that up to 24 rows add to it, as a loop adds them
+--   parts-size         a number with the parts that up to 24 rows add to it
 --   own-size           a row's own part of its correlate
 --   row-end, next-row  where row j of a flat list ends, and where the next begins
-use mathlib.Core.Path.{_≡_, sym, _∙_, ap}
+use mathlib.Core.Path.{_≡_}
 use Prim.Native.Nat.{ℕ, _+_, _*_, _≤_, _<_}
 use native.Mathlib.Nat.{le-trans, le-refl, mul-le-mul-right, suc-mul}
 use native.Mathlib.Numerals.{add-one}
 use native.Mathlib.Omega.{arith}
-use lib.IntN.{ℤ, pos, negℤ, natAbs, _+ℤ_, _*ℤ_, +ℤ-idr, +ℤ-assoc}
+use lib.IntN.{ℤ, pos, negℤ, natAbs, _+ℤ_, _*ℤ_}
 use lib.Signed.{_<ℤ_}
 use Rattle.exact.specs.Nearest.{nearest}
 use Rattle.exact.specs.Sum.{sum}
 use Rattle.exact.proofs.Bound.{abs-add, abs-mul, abs-neg, mul-le, bounded, bounds, abs-in}
-use Rattle.exact.proofs.Sum.{sum-abs, sum-none, sum-more}
+use Rattle.exact.proofs.Sum.{sum-abs}
 use Rattle.exact.proofs.Rounding.{nearest-size, nearest-smaller}
 use Rattle.adjustment.specs.Solution.{carried}
 
@@ -52,13 +52,6 @@ parts-size own b O P f h k g = omega (arith, abs-add own (sum b f), sum-within b
 -- a row's own part of its correlate
 pub own-size : (l pivot : ℤ) → natAbs l ≤ 4000000000 → pos 0 <ℤ pivot → natAbs (nearest (negℤ (pos 10000 *ℤ l)) pivot) ≤ 40000000000001
 own-size l pivot h p = omega (arith, nearest-smaller (negℤ (pos 10000 *ℤ l)) pivot p, abs-neg (pos 10000 *ℤ l), abs-mul (pos 10000) l)
-
--- one part more
-pub parts-more : (own : ℤ) (f : ℕ → ℤ) (b : ℕ) → (own +ℤ sum b f) +ℤ f b ≡ own +ℤ sum (b + 1) f
-parts-more own f b = +ℤ-assoc own (sum b f) (f b) ∙ ap (λ (z : ℤ). own +ℤ z) (sym (sum-more b f))
-
-pub parts-none : (own : ℤ) (f : ℕ → ℤ) → own ≡ own +ℤ sum 0 f
-parts-none own f = sym (ap (λ (z : ℤ). own +ℤ z) (sum-none f) ∙ +ℤ-idr own)
 
 -- ---- rows of a flat list, m numbers to a row
 -- row j ends within the list

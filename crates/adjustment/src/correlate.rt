@@ -3,7 +3,7 @@ ghost use mathlib.Core.Path.{_≡_};
 ghost use Prim.Native.Nat.{ℕ, suc, _≤_, _<_};
 ghost use lib.IntN.{natAbs};
 ghost use Rattle.adjustment.specs.Table.{Table, at};
-ghost use Rattle.adjustment.specs.Inner.{From, Triangle, BackWithin, Solves, backOf, line};
+ghost use Rattle.adjustment.specs.Inner.{From, Triangle, BackWithin, Solves, backOf, rowAt};
 use crate::reduce::CONSTANT;
 use crate::reduce::Row;
 use crate::reduce::by_pivot;
@@ -38,7 +38,7 @@ fn correlate(row: Row, m: [i64; 24], k: &[i64; 24], j: usize, n: usize) -> i64
 // All correlates in back order, up to the first that is beyond 10^8. Whatever table the rows are of, they are its correlates.
 pub fn correlates(rows: &[Row; 24], multipliers: &[[i64; 24]; 24], n: usize) -> Correlated
     requires { ⌜ n ≤ 24 ⌝ }
-    requires { ⌜ ((j : ℕ) → j < n → BackWithin j n (line (now rows) j) (line (now multipliers) j)) ⌝ }
+    requires { ⌜ ((j : ℕ) → j < n → BackWithin j n (rowAt (now rows) j) (rowAt (now multipliers) j)) ⌝ }
     ensures { λ r. ⌜ ((t : Table) → t .n ≡ n → Triangle t (now (rows .entry)) (now (multipliers .entry)) → Solves t (r .k) (r .from)) ⌝ }
 {
     let mut k = [0i64; 24];

@@ -11,11 +11,12 @@ ghost use Rattle.exact.specs.Nearest.{nearest};
 ghost use Rattle.exact.specs.First.{first, some-below};
 ghost use Rattle.adjustment.specs.Table.{at, tableOf};
 ghost use Rattle.adjustment.specs.Solution.{N, carried, multiplier, weakRow, weak};
-ghost use Rattle.adjustment.specs.Inner.{Small, Within, Sound, From, RowWithin, Holds, Rows, withAbove, line, cell};
+ghost use Rattle.adjustment.specs.Inner.{Small, Within, Sound, CONSTANT, From, RowWithin, Holds, Rows, withAbove, rowAt, cell};
 
 // A reduced row: its coefficients D(j,k) at their places k, from j on, and its constant L(j) at the last place.
 pub type Row = [i64; 25];
 
+// The place of a row's constant.
 pub const CONSTANT: usize = 24;
 
 // One more term of N(j,k).
@@ -91,7 +92,7 @@ pub fn plus_carried(s: i64, m: i64, x: i64) -> i64
     s + carried(m, x)
 }
 
-// The number x of row j at place k with all rows above taken: x + sum over i<j of nearest(M(i,j)*D(i,k) / 10^6).
+// The number x of row j at place k with all rows above taken: x + sum over i<j of nearest(M(i,j)*D(i,k) / 10^6). Coefficients and constants alike.
 fn with_above(x: i64, rows: &[Row; 24], multipliers: &[[i64; 24]; 24], j: usize, k: usize) -> i64
     requires { ⌜ (j < 24) × (k < 25) × (natAbs x ≤ 2560000000) ⌝ }
     requires { ⌜ ((i : ℕ) → i < j → (natAbs (cell (now multipliers) i j) ≤ 1000000000) × (natAbs (cell (now rows) i k) ≤ 4000000000)) ⌝ }
@@ -112,9 +113,9 @@ fn with_above(x: i64, rows: &[Row; 24], multipliers: &[[i64; 24]; 24], j: usize,
 fn reduced(row: Row, rows: &[Row; 24], multipliers: &[[i64; 24]; 24], j: usize, n: usize) -> Row
     requires { ⌜ (j < n) × (n ≤ 24) ⌝ }
     requires { ⌜ RowWithin 2560000000 j n row ⌝ }
-    requires { ⌜ ((i : ℕ) → i < j → (natAbs (cell (now multipliers) i j) ≤ 1000000000) × RowWithin 4000000000 j n (line (now rows) i)) ⌝ }
+    requires { ⌜ ((i : ℕ) → i < j → (natAbs (cell (now multipliers) i j) ≤ 1000000000) × RowWithin 4000000000 j n (rowAt (now rows) i)) ⌝ }
     ensures { λ r. ⌜ Holds j n (λ k. withAbove (at row k) (now (rows .entry)) (now (multipliers .entry)) j k)
-        (withAbove (at row 24) (now (rows .entry)) (now (multipliers .entry)) j 24) r ⌝ }
+        (withAbove (at row CONSTANT) (now (rows .entry)) (now (multipliers .entry)) j CONSTANT) r ⌝ }
 {
     let l = row[CONSTANT];
     let mut next = [0i64; 25];
@@ -169,10 +170,10 @@ fn multiplied(row: Row, j: usize, n: usize) -> [i64; 24]
     m
 }
 
-// The one test of a row, each part as soon as what it tests is complete. The multipliers of a row that is not weak are handed over.
+// The one test of a row, each part as soon as what it tests is complete. The multipliers of a row that is not weak go into m.
 fn is_weak(row: Row, j: usize, n: usize, m: &mut [i64; 24]) -> bool
     requires { ⌜ (j < n) × (n ≤ 24) ⌝ }
-    ensures { λ r. ⌜ r ≡ weakRow n j (at row) (at row 24) ⌝ }
+    ensures { λ r. ⌜ r ≡ weakRow n j (at row) (at row CONSTANT) ⌝ }
     ensures { λ r. ⌜ (r ≡ false → From (suc j) n (λ k. at (now (m .exit)) k ≡ multiplier (at row k) (at row j))) ⌝ }
 {
     if some_large(&row, j, n, 2560000000) {

@@ -14,7 +14,8 @@ use Rattle.exact.proofs.Bound.{read-at, read-within}
 use Rattle.adjustment.specs.Table.{at}
 use Rattle.adjustment.specs.Solution.{carried}
 use Rattle.adjustment.specs.Inner.{From}
-use Rattle.adjustment.proofs.Sizes.{carried-size, own-size, parts-size, parts-none, parts-more}
+use Rattle.adjustment.proofs.Sizes.{carried-size, own-size, parts-size}
+use Rattle.adjustment.proofs.Reducing.{parts-none, parts-more}
 use Rattle.adjustment.proofs.correlate.correlate.Statement.{statement}
 use Rattle.adjustment.proofs.correlate.correlate.Tie as tie
 

@@ -12,7 +12,7 @@ use mir.Val.{toZ, ofZ}
 use Rattle.exact.proofs.Bound.{read-at}
 use Rattle.adjustment.specs.Table.{Table}
 use Rattle.adjustment.specs.Solution.{K}
-use Rattle.adjustment.specs.Inner.{Triangle, backOf, From, line}
+use Rattle.adjustment.specs.Inner.{Triangle, backOf, From, rowAt}
 use Rattle.adjustment.proofs.Correlating.{next-correlate, first-large, none-large, one-before}
 use Rattle.adjustment.proofs.correlate.correlates.Statement.{statement}
 use Rattle.adjustment.proofs.correlate.correlates.Tie as tie
@@ -71,7 +71,7 @@ module _ (c : tie.After-magnitude Inv-loop μ-loop) where
 
   correlate-is : (t : Table) → t .n ≡ loop .before .args .n → Triangle t rows multipliers → x ≡ K t j
   correlate-is t e r =
-      c .before .correlate .ensures ∙ ap (backOf (line rows j) (line multipliers j) (loop .loop .k) j) (sym e)
+      c .before .correlate .ensures ∙ ap (backOf (rowAt rows j) (rowAt multipliers j) (loop .loop .k) j) (sym e)
       ∙ next-correlate t rows multipliers r j (loop .loop .k) (omega (arith, e)) (λ h a b. loop .loop .inv .3 t e r h (omega arith) (omega (arith, e)))
 
   -- the correlates of the rows from `left` on are within 10^8

@@ -1,25 +1,24 @@
 -- `reduce::is_weak` meets its contract. Assumes nothing.
 use mathlib.Core.Path.{_≡_, refl, sym, _∙_, ap}
 use mathlib.Core.Bool.{true, false, _&&_}
-use mathlib.Core.List.{List, [], _∷_}
-use Prim.Native.Nat.{ℕ, suc, _≤_, _<_}
+use mathlib.Core.List.{List}
+use Prim.Native.Nat.{ℕ, suc, _≤_}
 use native.Mathlib.Omega.{arith}
 use native.Mathlib.Numerals.{add-one}
 use borrow.Author.Needs.{needs}
 use borrow.Author.Tests.{ltb-false}
 use lib.Dec.{ltb, leb}
 use lib.IntN.{ℤ, pos, natAbs}
-use lib.Signed.{ltZ, _≤ℤ_, _<ℤ_}
+use lib.Signed.{ltZ}
 use mir.Syntax.{w64}
 use mir.Val.{toZ, ofZ}
 use Rattle.exact.specs.First.{first}
-use Rattle.exact.proofs.Linear.{unknowns, linear, orders, lt-by}
 use Rattle.exact.proofs.Order.{lt-false}
 use Rattle.exact.proofs.Bound.{read-at}
 use Rattle.exact.proofs.Searching.{from-ext, from-none}
 use Rattle.adjustment.specs.Table.{at}
 use Rattle.adjustment.specs.Solution.{multiplier}
-use Rattle.adjustment.proofs.Weakness.{largeD, weak-by-coefficient, weak-by-constant, weak-by-pivot, weak-by-multiplier}
+use Rattle.adjustment.proofs.Weakness.{largeD, weak-by-coefficient, weak-by-constant, weak-by-pivot, weak-by-multiplier, pivot-above-zero}
 use Rattle.adjustment.proofs.reduce.is_weak.Statement.{statement}
 use Rattle.adjustment.proofs.reduce.is_weak.Tie as tie
 
@@ -107,12 +106,9 @@ multiplied-requires c κs =
       s .pre,
       (
         (λ k h l. ltb-false 2560000000 (natAbs (at (row s) k)) (from-none (n s) (j s) (λ k. ltb 2560000000 (natAbs (at (row s) k))) (small-d (b .before .before)) k h l)),
-        above-zero (at (row s) (j s)) (lt-false (sound-pivot c) refl refl),
+        pivot-above-zero (at (row s) (j s)) (lt-false (sound-pivot c) refl refl),
       ),
     )
-  where
-    above-zero : (x : ℤ) → pos 100 ≤ℤ x → pos 0 <ℤ x
-    above-zero x h = let v = unknowns (x ∷ []) in lt-by (search linear) (search linear) (omega (arith, orders))
 
 slice-aggregate-some-large-2 : tie.Need-slice-aggregate-some-large-2
 slice-aggregate-some-large-2 c = search needs

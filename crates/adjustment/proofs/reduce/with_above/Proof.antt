@@ -1,5 +1,5 @@
 -- `reduce::with_above` meets its contract. Assumes nothing.
-use mathlib.Core.Path.{_≡_, _∙_, ap, ap₂}
+use mathlib.Core.Path.{_≡_, _∙_, ap₂}
 use mathlib.Core.List.{List}
 use Prim.Native.Nat.{ℕ, _+_, _-_, _≤_, _<_}
 use native.Mathlib.Omega.{arith}
@@ -12,7 +12,8 @@ use Rattle.exact.specs.Sum.{sum}
 use Rattle.exact.proofs.Bound.{read, read-at, read-within}
 use Rattle.adjustment.specs.Solution.{carried}
 use Rattle.adjustment.specs.Inner.{cell}
-use Rattle.adjustment.proofs.Sizes.{carried-size, parts-size, parts-none, parts-more}
+use Rattle.adjustment.proofs.Sizes.{carried-size, parts-size}
+use Rattle.adjustment.proofs.Reducing.{parts-none, parts-more}
 use Rattle.adjustment.proofs.reduce.with_above.Statement.{statement}
 use Rattle.adjustment.proofs.reduce.with_above.Tie as tie
 
