@@ -6,7 +6,7 @@
 --   one-before              a list written from the back
 use mathlib.Core.Path.{_≡_, sym, _∙_, ap, ap₂, subst}
 use mathlib.Core.Bool.{Bool}
-use mathlib.Core.List.{List, [], _∷_}
+use mathlib.Core.List.{List}
 use Prim.Native.Nat.{ℕ, zero, suc, _+_, _-_, _≤_, _<_}
 use native.Mathlib.Nat.{zero-add, suc-add, le-refl}
 use native.Mathlib.Omega.{arith}
@@ -16,18 +16,16 @@ use lib.Dec.{ltb}
 use lib.ListN.{length, getD, set}
 use lib.Seq.{getD-set-same, getD-set-other}
 use lib.IntN.{ℤ, pos, negℤ, natAbs, _+ℤ_, _*ℤ_}
-use lib.Signed.{_≤ℤ_, _<ℤ_}
 use Rattle.exact.specs.Sum.{sum}
 use Rattle.exact.specs.Nearest.{nearest}
 use Rattle.exact.specs.First.{first}
-use Rattle.exact.proofs.Linear.{unknowns, linear, orders, lt-by}
 use Rattle.exact.proofs.Sum.{sum-ext}
 use Rattle.exact.proofs.Searching.{Failed, first-at, first-none}
-use Rattle.adjustment.specs.declared.reduce.Row.{Row}
-use Rattle.adjustment.specs.Table.{Table}
+use Rattle.adjustment.specs.Table.{Table, at}
 use Rattle.adjustment.specs.Solution.{D, L, M, carried, back, K}
-use Rattle.adjustment.specs.Inner.{Triangle, BackWithin, From, backOf, m-at, noRow}
+use Rattle.adjustment.specs.Inner.{Triangle, BackWithin, From, backOf, rowAt}
 use Rattle.adjustment.proofs.Reducing.{sound-at}
+use Rattle.adjustment.proofs.Weakness.{pivot-above-zero}
 
 -- a list written from the back: what holds of all places after j and of the value at j holds from j on
 pub one-before : (Q : ℕ → ℤ → Type 0) (k : List ℤ) (left n : ℕ) (v : ℤ) → 0 < left → left ≤ length k → From left n (λ h. Q h (getD k h (pos 0))) → Q (left - 1) v → From (left - 1) n (λ h. Q h (getD (set k (left - 1) v) h (pos 0)))
@@ -62,26 +60,23 @@ module _ (t : Table) where
       (λ e l. ap (carried (M t j (suc j + e))) (sym (ap (λ (n : ℕ). getD (back t (L t) n) (suc j + e) (pos 0)) rest ∙ suffix (L t) (suc j) b e))))
 
   -- ---- the code's rows
-  module _ (rows : List Row) (r : Triangle t rows) where
-    pub triangle-within : (j : ℕ) → j < t .n → BackWithin j (t .n) (getD rows j noRow)
+  module _ (rows multipliers : List (List ℤ)) (r : Triangle t rows multipliers) where
+    pub triangle-within : (j : ℕ) → j < t .n → BackWithin j (t .n) (rowAt rows j) (rowAt multipliers j)
     unfolding M
     triangle-within j l =
-        let g = sound-at t j (r .sound j l) in let row = r .row j l in
+        let g = sound-at t j (r .sound j l) in let row = r .all .reduced j l in
         record {
-          l = rw (row .l) (g .constant);
-          pivot = rw (row .d j (le-refl j) l) (above-zero (D t j j) (g .pivot));
-          m = λ k h i. rw (row .m k h i) (g .multipliers k h i);
+          constant = rw (row .constant) (g .constant);
+          pivot = rw (row .coefficients j (le-refl j) l) (pivot-above-zero (D t j j) (g .pivot));
+          multipliers = λ k h i. rw (r .all .multiplied j l k h i) (g .multipliers k h i);
         }
-      where
-        above-zero : (x : ℤ) → pos 100 ≤ℤ x → pos 0 <ℤ x
-        above-zero x h = let v = unknowns (x ∷ []) in lt-by (search linear) (search linear) (omega (arith, orders))
 
-    pub next-correlate : (j : ℕ) (k : List ℤ) → j < t .n → From (suc j) (t .n) (λ e. getD k e (pos 0) ≡ K t e) → backOf (getD rows j noRow) k j (t .n) ≡ K t j
+    pub next-correlate : (j : ℕ) (k : List ℤ) → j < t .n → From (suc j) (t .n) (λ e. at k e ≡ K t e) → backOf (rowAt rows j) (rowAt multipliers j) k j (t .n) ≡ K t j
     next-correlate j k l f =
-        let row = r .row j l in
-        ap₂ _+ℤ_ (ap₂ (λ (x y : ℤ). nearest (negℤ (pos 10000 *ℤ x)) y) (row .l) (row .d j (le-refl j) l))
-        (sum-ext (t .n - suc j) (λ e. carried (m-at (getD rows j noRow) (suc j + e)) (getD k (suc j + e) (pos 0))) (λ e. carried (M t j (suc j + e)) (K t (suc j + e)))
-        (λ e i. ap₂ carried (row .m (suc j + e) (omega arith) (omega arith)) (f (suc j + e) (omega arith) (omega arith))))
+        let row = r .all .reduced j l in
+        ap₂ _+ℤ_ (ap₂ (λ (x y : ℤ). nearest (negℤ (pos 10000 *ℤ x)) y) (row .constant) (row .coefficients j (le-refl j) l))
+        (sum-ext (t .n - suc j) (λ e. carried (at (rowAt multipliers j) (suc j + e)) (at k (suc j + e))) (λ e. carried (M t j (suc j + e)) (K t (suc j + e)))
+        (λ e i. ap₂ carried (r .all .multiplied j l (suc j + e) (omega arith) (omega arith)) (f (suc j + e) (omega arith) (omega arith))))
         ∙ sym (K-rule j l)
 
   -- ---- in back order

@@ -2,7 +2,8 @@
 --   carried-size       what a row above adds: at most 1,000 times the bound of what it multiplies, and one
 --   sum-within         a sum of at most so many terms, each within a bound
 --   term-size, product-size, printed-size, combination-size      a term of N(j,k), of the sums of a*V, a*u and a*K
---   back-size          K(j), or what a loop has added up of it
+--   parts-size         a number with the parts that up to 24 rows add to it
+--   own-size           a row's own part of its correlate
 --   row-end, next-row  where row j of a flat list ends, and where the next begins
 use mathlib.Core.Path.{_≡_}
 use Prim.Native.Nat.{ℕ, _+_, _*_, _≤_, _<_}
@@ -44,16 +45,13 @@ printed-size x y f g = let a = bounded x f in let b = bounded y g in abs-in {z =
 pub combination-size : (x y : ℤ) → natAbs x ≤ 2000 → natAbs y ≤ 100000000 → natAbs (x *ℤ y) ≤ 200000000000
 combination-size x y f g = let a = bounded x f in let b = bounded y g in abs-in {z = x *ℤ y} (search bounds) tt
 
--- K(j), or the part of it that a loop has added up: its own part, and b parts of correlates below it
-pub back-size : (l pivot : ℤ) (b : ℕ) (f : ℕ → ℤ) → natAbs l ≤ 4000000000 → pos 0 <ℤ pivot → b ≤ 24 → ((e : ℕ) → e < b → natAbs (f e) ≤ 100000000001) → natAbs (nearest (negℤ (pos 10000 *ℤ l)) pivot +ℤ sum b f) ≤ 100000000000000
-back-size l pivot b f h p k g =
-    added (abs-add (nearest (negℤ (pos 10000 *ℤ l)) pivot) (sum b f)) (nearest-smaller (negℤ (pos 10000 *ℤ l)) pivot p) (own) (sum-within b 24 100000000001 f k g)
-  where
-    own : natAbs (negℤ (pos 10000 *ℤ l)) ≤ 40000000000000
-    own = omega (arith, abs-neg (pos 10000 *ℤ l), abs-mul (pos 10000) l)
+-- a number and the parts of at most 24 rows, or what a loop has added up of them
+pub parts-size : (own : ℤ) (b O P : ℕ) (f : ℕ → ℤ) → natAbs own ≤ O → b ≤ 24 → ((e : ℕ) → e < b → natAbs (f e) ≤ P) → natAbs (own +ℤ sum b f) ≤ O + 24 * P
+parts-size own b O P f h k g = omega (arith, abs-add own (sum b f), sum-within b 24 P f k g)
 
-    added : {s o z r : ℕ} → s ≤ o + r → o ≤ z + 1 → z ≤ 40000000000000 → r ≤ 24 * 100000000001 → s ≤ 100000000000000
-    added a b c d = omega arith
+-- a row's own part of its correlate
+pub own-size : (l pivot : ℤ) → natAbs l ≤ 4000000000 → pos 0 <ℤ pivot → natAbs (nearest (negℤ (pos 10000 *ℤ l)) pivot) ≤ 40000000000001
+own-size l pivot h p = omega (arith, nearest-smaller (negℤ (pos 10000 *ℤ l)) pivot p, abs-neg (pos 10000 *ℤ l), abs-mul (pos 10000) l)
 
 -- ---- rows of a flat list, m numbers to a row
 -- row j ends within the list

@@ -1,17 +1,19 @@
 -- The one test of a row. Assumes nothing.
 --   weak-by-coefficient, weak-by-constant, weak-by-pivot, weak-by-multiplier      what the test says, from its parts in their order
---   SoundRow, sound-row           what is known of a row that is not weak
+--   SoundRow, sound-row           what is known of a row that is not weak; pivot-above-zero: its pivot divides
 --   weak-ext                      the test reads the coefficients from j to n alone
 use mathlib.Core.Path.{_≡_, refl, ap, ap₂}
 use mathlib.Core.Bool.{Bool, true, false, _||_, _&&_}
+use mathlib.Core.List.{[], _∷_}
 use Prim.Native.Nat.{ℕ, suc, _≤_, _<_}
 use native.Mathlib.Nat.{le-refl}
 use native.Mathlib.Omega.{arith}
 use borrow.Author.Tests.{lt-ltb, le-ltb, ltb-false}
 use lib.Dec.{ltb, leb}
 use lib.IntN.{ℤ, pos, natAbs}
-use lib.Signed.{ltZ, _≤ℤ_}
+use lib.Signed.{ltZ, _≤ℤ_, _<ℤ_}
 use Rattle.exact.specs.First.{some-below}
+use Rattle.exact.proofs.Linear.{unknowns, linear, orders, lt-by}
 use Rattle.exact.proofs.Order.{lt-false}
 use Rattle.exact.proofs.Searching.{from-ext, from-none}
 use Rattle.reply.proofs.Checking.{neither}
@@ -45,6 +47,9 @@ module _ (n j : ℕ) (d : ℕ → ℤ) (l : ℤ) where
       weak-by-multiplier h = rw (e, le-ltb 4000000000 (natAbs l) f, h)
 
 -- ---- a row that is not weak
+pub pivot-above-zero : (x : ℤ) → pos 100 ≤ℤ x → pos 0 <ℤ x
+pivot-above-zero x h = let v = unknowns (x ∷ []) in lt-by (search linear) (search linear) (omega (arith, orders))
+
 pub record SoundRow (n j : ℕ) (d : ℕ → ℤ) (l : ℤ) : Type 0 where
   pub coefficients : From j n (λ k. natAbs (d k) ≤ 2560000000)
   pub constant : natAbs l ≤ 4000000000

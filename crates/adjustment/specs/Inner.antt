@@ -10,11 +10,10 @@ use lib.Signed.{_≤ℤ_, _<ℤ_}
 use Rattle.exact.specs.Sum.{sum}
 use Rattle.exact.specs.Nearest.{nearest}
 use Rattle.exact.specs.First.{first}
-use Rattle.adjustment.specs.declared.reduce.Row.{Row}
-use Rattle.adjustment.specs.Table.{Table}
+use Rattle.adjustment.specs.Table.{Table, at}
 use Rattle.adjustment.specs.Corrections.{V-of, R-of}
 use Rattle.adjustment.specs.Demand.{seen}
-use Rattle.adjustment.specs.Solution.{N, reduced, D, L, M, multiplier, carried, weak, K}
+use Rattle.adjustment.specs.Solution.{D, L, M, carried, weak, K}
 
 -- the first `count` numbers of a list are within B
 abbrev pub Small : ℕ → List ℤ → ℕ → Type 0
@@ -34,63 +33,54 @@ pub record Sound (qs cs ws : List ℤ) : Type 0 where
   pub a-most : (j : ℕ) → j < length ws → Within 2000 cs (j * length qs) (length qs)
   pub w-most : Small 1000000 ws (length ws)
 
--- what the checker reads past the end of a list of rows
-abbrev pub noRow : Row
-noRow = record { d = []; m = []; l = pos 0 }
+-- the place of a row's constant, after its coefficients
+abbrev pub CONSTANT : ℕ
+CONSTANT = 24
 
-abbrev pub d-at : Row → ℕ → ℤ
-d-at row k = getD (row .d) k (pos 0)
+-- row i of a triangle, or of the multipliers; what stands at its place k
+abbrev pub rowAt : List (List ℤ) → ℕ → List ℤ
+rowAt rows i = getD rows i []
 
-abbrev pub m-at : Row → ℕ → ℤ
-m-at row k = getD (row .m) k (pos 0)
+abbrev pub cell : List (List ℤ) → ℕ → ℕ → ℤ
+cell rows i k = at (rowAt rows i) k
 
 -- from place j to place n
 abbrev pub From : ℕ → ℕ → (ℕ → Type 0) → Type 0
 From j n P = (k : ℕ) → j ≤ k → k < n → P k
 
 -- a row whose coefficients and constant are within B
-pub record RowWithin (B j n : ℕ) (row : Row) : Type 0 where
-  pub d : From j n (λ k. natAbs (d-at row k) ≤ B)
-  pub l : natAbs (row .l) ≤ B
+pub record RowWithin (B j n : ℕ) (row : List ℤ) : Type 0 where
+  pub coefficients : From j n (λ k. natAbs (at row k) ≤ B)
+  pub constant : natAbs (at row CONSTANT) ≤ B
 
--- row j of a table with the first i rows above it taken
-pub record Stage (t : Table) (i j : ℕ) (row : Row) : Type 0 where
-  pub d : From j (t .n) (λ k. d-at row k ≡ reduced t i (λ h. N t h k) j)
-  pub l : row .l ≡ reduced t i (λ h. pos 1000 *ℤ t .w h) j
+-- a row that holds the coefficients d from place j on, and the constant l
+pub record Holds (j n : ℕ) (d : ℕ → ℤ) (l : ℤ) (row : List ℤ) : Type 0 where
+  pub coefficients : From j n (λ k. at row k ≡ d k)
+  pub constant : at row CONSTANT ≡ l
 
--- `next` is `row` with `above` taken, whose multiplier for row j is m-at above j
-pub record TakesRow (row above : Row) (j n : ℕ) (next : Row) : Type 0 where
-  pub d : From j n (λ k. d-at next k ≡ d-at row k +ℤ carried (m-at above j) (d-at above k))
-  pub l : next .l ≡ row .l +ℤ carried (m-at above j) (above .l)
+-- the number x of row j at place k with all rows above taken
+abbrev pub withAbove : ℤ → List (List ℤ) → List (List ℤ) → ℕ → ℕ → ℤ
+withAbove x rows multipliers j k = x +ℤ sum j (λ i. carried (cell multipliers i j) (cell rows i k))
 
--- `next` is `row` with the multipliers of row j
-pub record Multiplies (row : Row) (j n : ℕ) (next : Row) : Type 0 where
-  pub d : next .d ≡ row .d
-  pub l : next .l ≡ row .l
-  pub m : (k : ℕ) → j < k → k < n → m-at next k ≡ multiplier (d-at row k) (d-at row j)
-
--- a reduced row of a table
-pub record IsRow (t : Table) (j : ℕ) (row : Row) : Type 0 where
-  pub d : From j (t .n) (λ k. d-at row k ≡ D t j k)
-  pub l : row .l ≡ L t j
-  pub m : (k : ℕ) → j < k → k < t .n → m-at row k ≡ M t j k
+-- the first j reduced rows of a table, with their multipliers
+pub record Rows (t : Table) (j : ℕ) (rows multipliers : List (List ℤ)) : Type 0 where
+  pub reduced : (h : ℕ) → h < j → Holds h (t .n) (D t h) (L t h) (rowAt rows h)
+  pub multiplied : (h : ℕ) → h < j → From (suc h) (t .n) (λ k. cell multipliers h k ≡ M t h k)
 
 -- the rows of a table, none of them weak
-pub record Triangle (t : Table) (rows : List Row) : Type 0 where
-  pub row : (j : ℕ) → j < t .n → IsRow t j (getD rows j noRow)
+pub record Triangle (t : Table) (rows multipliers : List (List ℤ)) : Type 0 where
+  pub all : Rows t (t .n) rows multipliers
   pub sound : (j : ℕ) → j < t .n → weak t j ≡ false
 
--- row j of n rows, as far as the correlates read it
-pub record BackWithin (j n : ℕ) (row : Row) : Type 0 where
-  pub l : natAbs (row .l) ≤ 4000000000
-  pub pivot : pos 0 <ℤ d-at row j
-  pub m : From (suc j) n (λ k. natAbs (m-at row k) ≤ 1000000000)
+-- row j of n rows and its multipliers m, as far as the correlates read them
+pub record BackWithin (j n : ℕ) (row m : List ℤ) : Type 0 where
+  pub constant : natAbs (at row CONSTANT) ≤ 4000000000
+  pub pivot : pos 0 <ℤ at row j
+  pub multipliers : From (suc j) n (λ k. natAbs (at m k) ≤ 1000000000)
 
--- K(j) from a row and the correlates k of the rows below
-abbrev pub backOf : (row : Row) (k : List ℤ) (j n : ℕ) → ℤ
-backOf row k j n =
-    nearest (negℤ (pos 10000 *ℤ row .l)) (d-at row j)
-    +ℤ sum (n - suc j) (λ e. carried (m-at row (suc j + e)) (getD k (suc j + e) (pos 0)))
+-- K(j) from a row, its multipliers and the correlates k of the rows below
+abbrev pub backOf : (row m k : List ℤ) (j n : ℕ) → ℤ
+backOf row m k j n = nearest (negℤ (pos 10000 *ℤ at row CONSTANT)) (at row j) +ℤ sum (n - suc j) (λ e. carried (at m (suc j + e)) (at k (suc j + e)))
 
 -- correlates in back order: all of them where `from` is 0; else row `from`, counted from 1, has the first that is too large
 pub record Solves (t : Table) (k : List ℤ) (from : ℕ) : Type 0 where

@@ -42,13 +42,13 @@ fn solve(q: &[i64], a: &[i64], w: &[i64]) -> Solution
         Solved (tableOf (now (q .entry)) (now (a .entry)) (now (w .entry))) (s .k) (s .v) (s .r)) ⌝ }
 {
     let n = w.len();
-    let reduction = reduce::reduce(q, a, w);
-    let sound = reduction.sound;
+    let mut rows = [[0i64; 25]; 24];
+    let mut multipliers = [[0i64; 24]; 24];
+    let sound = reduce::reduce(q, a, w, &mut rows, &mut multipliers);
     if sound < n {
         return refused(Refusal::WeakRow((sound + 1) as u64));
     }
-    let rows = reduction.rows;
-    let correlated = correlate::correlates(rows, n);
+    let correlated = correlate::correlates(&rows, &multipliers, n);
     let from = correlated.from;
     if 0 < from {
         return refused(Refusal::Correlate(from as u64));

@@ -1,7 +1,7 @@
 // The normals and the reduced rows. A row is formed from its entries of N, each formed once; every row above it adds its part, each product once; then it is tested.
 ghost use mathlib.Core.Path.{_≡_};
 ghost use mathlib.Core.Bool.{true, false, _&&_};
-ghost use Prim.Native.Nat.{ℕ, _+_, _*_, _≤_, _<_};
+ghost use Prim.Native.Nat.{ℕ, suc, _+_, _*_, _≤_, _<_};
 ghost use lib.ListN.{length, getD};
 ghost use lib.IntN.{pos, negℤ, natAbs, _+ℤ_, _*ℤ_};
 ghost use lib.Signed.{_<ℤ_};
@@ -9,28 +9,15 @@ ghost use lib.Dec.{ltb, leb};
 ghost use Rattle.exact.specs.Sum.{sum};
 ghost use Rattle.exact.specs.Nearest.{nearest};
 ghost use Rattle.exact.specs.First.{first, some-below};
-ghost use Rattle.adjustment.specs.Table.{tableOf};
-ghost use Rattle.adjustment.specs.Solution.{carried, weakRow, weak};
-ghost use Rattle.adjustment.specs.Inner.{Small, Within, Sound, RowWithin, Stage, TakesRow, Multiplies, IsRow, From, d-at, m-at, noRow};
+ghost use Rattle.adjustment.specs.Table.{at, tableOf};
+ghost use Rattle.adjustment.specs.Solution.{N, carried, multiplier, weakRow, weak};
+ghost use Rattle.adjustment.specs.Inner.{Small, Within, Sound, CONSTANT, From, RowWithin, Holds, Rows, withAbove, rowAt, cell};
 
-// A reduced row: its coefficients D(j,k) and multipliers M(j,k), for k from j on, and its constant L(j).
-pub struct Row {
-    pub d: [i64; 24],
-    pub m: [i64; 24],
-    pub l: i64,
-}
+// A reduced row: its coefficients D(j,k) at their places k, from j on, and its constant L(j) at the last place.
+pub type Row = [i64; 25];
 
-// The rows above the first weak one.
-pub struct Reduction {
-    pub rows: [Row; 24],
-    pub sound: usize,
-}
-
-// A row with its multipliers, or one found weak.
-pub struct Tested {
-    pub weak: bool,
-    pub row: Row,
-}
+// The place of a row's constant.
+pub const CONSTANT: usize = 24;
 
 // One more term of N(j,k).
 fn with_term(s: i64, q: i64, x: i64, y: i64) -> i64
@@ -73,18 +60,16 @@ fn constant(w: i64) -> i64
 fn normal_row(q: &[i64], a: &[i64], w: &[i64], j: usize, at: usize) -> Row
     requires { ⌜ Sound (now q) (now a) (now w) ⌝ }
     requires { ⌜ (j < length (now w)) × (at ≡ j * length (now q)) ⌝ }
-    ensures { λ r. ⌜ Stage (tableOf (now (q .entry)) (now (a .entry)) (now (w .entry))) 0 j r ⌝ }
+    ensures { λ r. ⌜ Holds j (length (now (w .entry))) (N (tableOf (now (q .entry)) (now (a .entry)) (now (w .entry))) j)
+        (pos 1000 *ℤ getD (now (w .entry)) j (pos 0)) r ⌝ }
 {
     let x = w[j];
-    let mut row = Row {
-        d: [0i64; 24],
-        m: [0i64; 24],
-        l: constant(x),
-    };
+    let mut row = [0i64; 25];
+    row[CONSTANT] = constant(x);
     let mut to = at;
     let mut k = j;
     while k < w.len() {
-        row.d[k] = normal(q, a, at, to);
+        row[k] = normal(q, a, at, to);
         to += q.len();
         k += 1;
     }
@@ -107,29 +92,46 @@ pub fn plus_carried(s: i64, m: i64, x: i64) -> i64
     s + carried(m, x)
 }
 
-// Row j with one row above it taken, whose multiplier for row j is M.
-fn reduced(row: Row, above: Row, j: usize, n: usize) -> Row
-    requires { ⌜ (j < n) × (n ≤ 24) ⌝ }
-    requires { ⌜ RowWithin 100000000000000 j n row × RowWithin 4000000000 j n above ⌝ }
-    requires { ⌜ natAbs (m-at above j) ≤ 1000000000 ⌝ }
-    ensures { λ r. ⌜ TakesRow row above j n r ⌝ }
+// The number x of row j at place k with all rows above taken: x + sum over i<j of nearest(M(i,j)*D(i,k) / 10^6). Coefficients and constants alike.
+fn with_above(x: i64, rows: &[Row; 24], multipliers: &[[i64; 24]; 24], j: usize, k: usize) -> i64
+    requires { ⌜ (j < 24) × (k < 25) × (natAbs x ≤ 2560000000) ⌝ }
+    requires { ⌜ ((i : ℕ) → i < j → (natAbs (cell (now multipliers) i j) ≤ 1000000000) × (natAbs (cell (now rows) i k) ≤ 4000000000)) ⌝ }
+    ensures { λ r. ⌜ r ≡ withAbove x (now (rows .entry)) (now (multipliers .entry)) j k ⌝ }
 {
-    let m = above.m[j];
-    let mut next = row;
-    next.l = plus_carried(row.l, m, above.l);
+    let mut s = x;
+    let mut i = 0;
+    while i < j {
+        let m = multipliers[i][j];
+        let y = rows[i][k];
+        s = plus_carried(s, m, y);
+        i += 1;
+    }
+    s
+}
+
+// Row j with all rows above it taken.
+fn reduced(row: Row, rows: &[Row; 24], multipliers: &[[i64; 24]; 24], j: usize, n: usize) -> Row
+    requires { ⌜ (j < n) × (n ≤ 24) ⌝ }
+    requires { ⌜ RowWithin 2560000000 j n row ⌝ }
+    requires { ⌜ ((i : ℕ) → i < j → (natAbs (cell (now multipliers) i j) ≤ 1000000000) × RowWithin 4000000000 j n (rowAt (now rows) i)) ⌝ }
+    ensures { λ r. ⌜ Holds j n (λ k. withAbove (at row k) (now (rows .entry)) (now (multipliers .entry)) j k)
+        (withAbove (at row CONSTANT) (now (rows .entry)) (now (multipliers .entry)) j CONSTANT) r ⌝ }
+{
+    let l = row[CONSTANT];
+    let mut next = [0i64; 25];
+    next[CONSTANT] = with_above(l, rows, multipliers, j, CONSTANT);
     let mut k = j;
     while k < n {
-        let s = next.d[k];
-        let x = above.d[k];
-        next.d[k] = plus_carried(s, m, x);
+        let d = row[k];
+        next[k] = with_above(d, rows, multipliers, j, k);
         k += 1;
     }
     next
 }
 
 // Some number of a row, from place `from` to place `n`, is larger than the limit.
-fn some_large(xs: &[i64; 24], from: usize, n: usize, limit: u64) -> bool
-    requires { ⌜ (from ≤ n) × (n ≤ 24) ⌝ }
+fn some_large(xs: &[i64], from: usize, n: usize, limit: u64) -> bool
+    requires { ⌜ (from ≤ n) × (n ≤ length (now xs)) ⌝ }
     ensures { λ r. ⌜ r ≡ some-below n (λ k. leb from k && ltb limit (natAbs (getD (now (xs .entry)) k (pos 0)))) ⌝ }
 {
     let mut k = from;
@@ -151,78 +153,73 @@ pub fn by_pivot(factor: i64, x: i64, pivot: i64) -> i64
     exact::nearest(-(factor * x), pivot)
 }
 
-// Row j with its multipliers.
-fn multiplied(row: Row, j: usize, n: usize) -> Row
+// The multipliers M(j,k) of row j, at their places k, from j + 1 on.
+fn multiplied(row: Row, j: usize, n: usize) -> [i64; 24]
     requires { ⌜ (j < n) × (n ≤ 24) ⌝ }
-    requires { ⌜ From j n (λ k. natAbs (d-at row k) ≤ 2560000000) × (pos 0 <ℤ d-at row j) ⌝ }
-    ensures { λ r. ⌜ Multiplies row j n r ⌝ }
+    requires { ⌜ From j n (λ k. natAbs (at row k) ≤ 2560000000) × (pos 0 <ℤ at row j) ⌝ }
+    ensures { λ r. ⌜ From (suc j) n (λ k. at r k ≡ multiplier (at row k) (at row j)) ⌝ }
 {
-    let pivot = row.d[j];
-    let mut next = row;
+    let pivot = row[j];
+    let mut m = [0i64; 24];
     let mut k = j + 1;
     while k < n {
-        let x = row.d[k];
-        next.m[k] = by_pivot(1000000, x, pivot);
+        let x = row[k];
+        m[k] = by_pivot(1000000, x, pivot);
         k += 1;
     }
-    next
+    m
 }
 
-// The one test of a row, each part as soon as what it tests is complete.
-fn finished(row: Row, j: usize, n: usize) -> Tested
+// The one test of a row, each part as soon as what it tests is complete. The multipliers of a row that is not weak go into m.
+fn is_weak(row: Row, j: usize, n: usize, m: &mut [i64; 24]) -> bool
     requires { ⌜ (j < n) × (n ≤ 24) ⌝ }
-    ensures { λ r. ⌜ r .weak ≡ weakRow n j (d-at row) (row .l) ⌝ }
-    ensures { λ r. ⌜ (r .weak ≡ false → Multiplies row j n (r .row)) ⌝ }
+    ensures { λ r. ⌜ r ≡ weakRow n j (at row) (at row CONSTANT) ⌝ }
+    ensures { λ r. ⌜ (r ≡ false → From (suc j) n (λ k. at (now (m .exit)) k ≡ multiplier (at row k) (at row j))) ⌝ }
 {
-    if some_large(&row.d, j, n, 2560000000) {
-        return Tested { weak: true, row };
+    if some_large(&row, j, n, 2560000000) {
+        return true;
     }
-    let l = row.l;
+    let l = row[CONSTANT];
     if 4000000000 < exact::magnitude(l) {
-        return Tested { weak: true, row };
+        return true;
     }
-    let pivot = row.d[j];
+    let pivot = row[j];
     if pivot < 100 {
-        return Tested { weak: true, row };
+        return true;
     }
-    let whole = multiplied(row, j, n);
-    let weak = some_large(&whole.m, j + 1, n, 1000000000);
-    Tested { weak, row: whole }
+    let all = multiplied(row, j, n);
+    *m = all;
+    some_large(&all, j + 1, n, 1000000000)
 }
 
-// All rows in their order, up to the first weak one.
-pub fn reduce(q: &[i64], a: &[i64], w: &[i64]) -> Reduction
+// All rows in their order, up to the first weak one, into the triangle, and their multipliers; how many they are.
+pub fn reduce(
+    q: &[i64],
+    a: &[i64],
+    w: &[i64],
+    rows: &mut [Row; 24],
+    multipliers: &mut [[i64; 24]; 24],
+) -> usize
     requires { ⌜ Sound (now q) (now a) (now w) ⌝ }
-    ensures { λ r. ⌜ r .sound ≡ first (length (now (w .entry)))
+    requires { ⌜ (length (now rows) ≡ 24) × (length (now multipliers) ≡ 24) ⌝ }
+    ensures { λ r. ⌜ r ≡ first (length (now (w .entry)))
         (weak (tableOf (now (q .entry)) (now (a .entry)) (now (w .entry)))) ⌝ }
-    ensures { λ r. ⌜ ((h : ℕ) → h < r .sound →
-        IsRow (tableOf (now (q .entry)) (now (a .entry)) (now (w .entry))) h (getD (r .rows) h noRow)) ⌝ }
+    ensures { λ r. ⌜ Rows (tableOf (now (q .entry)) (now (a .entry)) (now (w .entry))) r (now (rows .exit)) (now (multipliers .exit)) ⌝ }
 {
     let n = w.len();
-    let none = Row {
-        d: [0i64; 24],
-        m: [0i64; 24],
-        l: 0,
-    };
-    let mut rows = [none; 24];
     let mut at = 0;
     let mut j = 0;
     while j < n {
-        let mut row = normal_row(q, a, w, j, at);
-        let mut i = 0;
-        while i < j {
-            let above = rows[i];
-            row = reduced(row, above, j, n);
-            i += 1;
+        let own = normal_row(q, a, w, j, at);
+        let row = reduced(own, rows, multipliers, j, n);
+        let mut m = [0i64; 24];
+        if is_weak(row, j, n, &mut m) {
+            return j;
         }
-        let end = finished(row, j, n);
-        if end.weak {
-            return Reduction { rows, sound: j };
-        }
-        let whole = end.row;
-        rows[j] = whole;
+        rows[j] = row;
+        multipliers[j] = m;
         at += q.len();
         j += 1;
     }
-    Reduction { rows, sound: n }
+    n
 }

@@ -1,17 +1,18 @@
 -- `solve` meets its contract. Assumes nothing.
 use mathlib.Core.Path.{_≡_, refl, _∙_}
+use mathlib.Core.List.{List}
 use Prim.Native.Nat.{ℕ, _≤_, _<_}
 use native.Mathlib.Omega.{arith}
 use borrow.Author.Needs.{needs}
 use denote.Ref.{now}
 use lib.ListN.{length, getD}
-use lib.IntN.{pos, natAbs}
+use lib.IntN.{ℤ, pos, natAbs}
 use Rattle.exact.proofs.Searching.{Failed}
 use Rattle.reply.specs.declared.Refusal.{Refusal}
 use Rattle.reply.specs.declared.Reply.{Reply}
 use Rattle.reply.specs.declared.Reply.the-variants.{Accepted, Refused}
 use Rattle.adjustment.specs.Table.{Table, at, tableOf}
-use Rattle.adjustment.specs.Solution.{M, weak, K}
+use Rattle.adjustment.specs.Solution.{weak, K}
 use Rattle.adjustment.specs.Corrections.{V-of}
 use Rattle.adjustment.specs.Refusals.{rowsReply, correlatesReply}
 use Rattle.adjustment.specs.Inner.{Triangle, Solves, Small}
@@ -30,20 +31,31 @@ table s = tableOf (now (s .args .q)) (now (s .args .a)) (now (s .args .w))
 
 module _ (c : tie.Else1) where
   abbrev start1 : tie.Start
-  start1 = c .before .before
+  start1 = c .before .before .before .before
+
+  abbrev rows : List (List ℤ)
+  rows = c .before .reduce .last .1 .1 .1 .0
+
+  abbrev multipliers : List (List ℤ)
+  multipliers = c .before .reduce .last .1 .1 .1 .1 .0
 
   no-weak : (rowsReply (table start1) ≡ Accepted) × Failed (weak (table start1)) (table start1 .n)
-  no-weak = none-weak (table start1) (c .before .reduce .result .sound) (c .before .reduce .ensures .0) (c .if1 .left)
+  no-weak = none-weak (table start1) (c .before .reduce .result) (c .before .reduce .ensures .0) (c .if1 .left)
 
-  triangle : Triangle (table start1) (c .before .reduce .result .rows)
-  triangle = record { row = λ j l. c .before .reduce .ensures .1 j (omega arith); sound = no-weak .1 }
+  triangle : Triangle (table start1) rows multipliers
+  triangle =
+      let r = c .before .reduce .ensures .1 in
+      record { all = record { reduced = λ h l. r .reduced h (omega arith); multiplied = λ h l. r .multiplied h (omega arith) }; sound = no-weak .1 }
 
 module _ (c : tie.After-correlates) where
+  abbrev sound : tie.Else1
+  sound = c .before .before .before
+
   abbrev start2 : tie.Start
-  start2 = c .before .before .before .before
+  start2 = start1 sound
 
   solves : Solves (table start2) (c .correlates .result .k) (c .correlates .result .from)
-  solves = c .correlates .ensures (table start2) refl (triangle (c .before .before))
+  solves = c .correlates .ensures (table start2) refl (triangle sound)
 
 module _ (c : tie.Else2) where
   abbrev start3 : tie.Start
@@ -52,7 +64,7 @@ module _ (c : tie.Else2) where
   none-large : (correlatesReply (table start3) ≡ Accepted) × ((j : ℕ) → j < table start3 .n → natAbs (K (table start3) j) ≤ 100000000)
   none-large =
       let s = solves (c .before) in
-      none-too-large (table start3) (no-weak (c .before .before .before) .0) (c .before .correlates .result .from) (s .large) (s .within) (omega arith)
+      none-too-large (table start3) (no-weak (sound (c .before)) .0) (c .before .correlates .result .from) (s .large) (s .within) (omega arith)
 
   k-is : (j : ℕ) → j < table start3 .n → getD (c .before .correlates .result .k) j (pos 0) ≡ K (table start3) j
   k-is j l = solves (c .before) .correlates j (omega arith) l
@@ -71,8 +83,8 @@ module _ (c : tie.After-corrections) where
 reduce-requires : tie.Need-reduce-requires
 reduce-requires c κs = search needs
 
-add-t16 : tie.Need-add-t16
-add-t16 c = search needs
+add-t20 : tie.Need-add-t20
+add-t20 c = search needs
 
 refused-requires : tie.Need-refused-requires
 refused-requires c κs = search needs
@@ -80,13 +92,13 @@ refused-requires c κs = search needs
 returns : tie.Need-returns
 returns c =
     let b = c .before .before in (
-      c .refused .ensures ∙ weak-refused (table (b .before)) (b .reduce .result .sound) (b .reduce .ensures .0) (c .before .if1 .taken),
+      c .refused .ensures ∙ weak-refused (table (b .before .before .before)) (b .reduce .result) (b .reduce .ensures .0) (c .before .if1 .taken),
       no-solution (c .refused .ensures),
     )
 
 correlates-requires : tie.Need-correlates-requires
 correlates-requires c κs =
-    let s = start1 (c .before) in (s .pre .n-most, λ j l. triangle-within (table s) (c .before .before .reduce .result .rows) (triangle (c .before)) j l)
+    let e = c .before .before in (start1 e .pre .n-most, triangle-within (table (start1 e)) (rows e) (multipliers e) (triangle e))
 
 refused-requires-2 : tie.Need-refused-requires-2
 refused-requires-2 c κs = search needs
@@ -94,7 +106,7 @@ refused-requires-2 c κs = search needs
 returns-2 : tie.Need-returns-2
 returns-2 c =
     let b = c .before .before in let s = solves b in (
-      c .refused2 .ensures ∙ large-refused (table (start2 b)) (no-weak (b .before .before) .0) (b .correlates .result .from) (s .large) (s .within) (c .before .if2 .taken),
+      c .refused2 .ensures ∙ large-refused (table (start2 b)) (no-weak (sound b) .0) (b .correlates .result .from) (s .large) (s .within) (c .before .if2 .taken),
       no-solution (c .refused2 .ensures),
     )
 
@@ -114,8 +126,8 @@ remainders-requires c κs =
       ),
     )
 
-add-t24 : tie.Need-add-t24
-add-t24 c = search needs
+add-t30 : tie.Need-add-t30
+add-t30 c = search needs
 
 refused-requires-3 : tie.Need-refused-requires-3
 refused-requires-3 c κs = search needs
@@ -124,14 +136,14 @@ returns-3 : tie.Need-returns-3
 returns-3 c =
     let r = c .before .before in let b = r .before .before in let s = start4 b in let e = b .before .before in (
       c .refused3 .ensures
-          ∙ open-refused (table s) (b .corrections .result) (v-is b) (r .remainders .result .close) (r .remainders .ensures .0) (no-weak (e .before .before .before) .0) (none-large e .0) (c .before .if3 .taken),
+          ∙ open-refused (table s) (b .corrections .result) (v-is b) (r .remainders .result .close) (r .remainders .ensures .0) (no-weak (sound (e .before)) .0) (none-large e .0) (c .before .if3 .taken),
       no-solution (c .refused3 .ensures),
     )
 
 returns-4 : tie.Need-returns-4
 returns-4 c =
     let r = c .before .before in let b = r .before .before in let s = start4 b in let e = b .before .before in (
-      none-open (table s) (b .corrections .result) (v-is b) (r .remainders .result .close) (r .remainders .ensures .0) (no-weak (e .before .before .before) .0) (none-large e .0) (c .before .if3 .left),
+      none-open (table s) (b .corrections .result) (v-is b) (r .remainders .result .close) (r .remainders .ensures .0) (no-weak (sound (e .before)) .0) (none-large e .0) (c .before .if3 .left),
       λ f. record {
         k = k-is e;
         v = v-is b;
@@ -145,7 +157,7 @@ solve-spec =
     tie.close
     (tie.spec
     reduce-requires
-    add-t16
+    add-t20
     refused-requires
     returns
     correlates-requires
@@ -154,7 +166,7 @@ solve-spec =
     corrections-requires
     slice-aggregate-remainders
     remainders-requires
-    add-t24
+    add-t30
     refused-requires-3
     returns-3
     returns-4)

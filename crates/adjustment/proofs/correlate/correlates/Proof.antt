@@ -1,25 +1,27 @@
 -- `correlate::correlates` meets its contract. Assumes nothing.
 use mathlib.Core.Path.{_≡_, refl, sym, _∙_, ap, subst}
+use mathlib.Core.List.{List}
 use Prim.Native.Nat.{ℕ, _-_, _≤_, _<_}
 use native.Mathlib.Omega.{arith}
 use borrow.Author.Needs.{needs}
+use denote.Ref.{now}
 use lib.ListN.{length, getD, length-set}
 use lib.IntN.{ℤ, pos, natAbs}
 use mir.Syntax.{w64}
 use mir.Val.{toZ, ofZ}
 use Rattle.exact.proofs.Bound.{read-at}
 use Rattle.adjustment.specs.Table.{Table}
-use Rattle.adjustment.specs.Solution.{M, K}
-use Rattle.adjustment.specs.Inner.{Triangle, backOf, From, noRow}
+use Rattle.adjustment.specs.Solution.{K}
+use Rattle.adjustment.specs.Inner.{Triangle, backOf, From, rowAt}
 use Rattle.adjustment.proofs.Correlating.{next-correlate, first-large, none-large, one-before}
 use Rattle.adjustment.proofs.correlate.correlates.Statement.{statement}
 use Rattle.adjustment.proofs.correlate.correlates.Tie as tie
 
 abbrev Inv-loop : tie.InvT-loop
-Inv-loop n rows k₀ left₀ k left = (left ≤ n) × (length k ≡ 24) × From left n (λ j. natAbs (getD k j (pos 0)) ≤ 100000000) × ((t : Table) → t .n ≡ n → Triangle t rows → From left n (λ j. getD k j (pos 0) ≡ K t j))
+Inv-loop rows multipliers n k₀ left₀ k left = (left ≤ n) × (length k ≡ 24) × From left n (λ j. natAbs (getD k j (pos 0)) ≤ 100000000) × ((t : Table) → t .n ≡ n → Triangle t rows multipliers → From left n (λ j. getD k j (pos 0) ≡ K t j))
 
 abbrev μ-loop : tie.MeasureT-loop
-μ-loop n rows k₀ left₀ k left = left
+μ-loop rows multipliers n k₀ left₀ k left = left
 
 loop-holds : tie.Need-loop-holds Inv-loop μ-loop
 loop-holds c = (omega arith, refl, (λ j a b. absurd (omega arith)), λ t e r j a b. absurd (omega arith))
@@ -30,12 +32,18 @@ sub-j c = search needs
 mul-row : tie.Need-mul-row Inv-loop μ-loop
 mul-row c = search needs
 
-array-copy-out-row : tie.Need-array-copy-out-row Inv-loop μ-loop
-array-copy-out-row c = search needs
+element-copy-out-row : tie.Need-element-copy-out-row Inv-loop μ-loop
+element-copy-out-row c = search needs
+
+mul-m : tie.Need-mul-m Inv-loop μ-loop
+mul-m c = search needs
+
+element-copy-out-m : tie.Need-element-copy-out-m Inv-loop μ-loop
+element-copy-out-m c = search needs
 
 correlate-requires : tie.Need-correlate-requires Inv-loop μ-loop
 correlate-requires c κs =
-    let l = c .before .before in let s = l .before in
+    let l = c .before .before .before .before in let s = l .before in
     ((omega arith, s .pre .0), (s .pre .1 (l .loop .left - 1) (omega arith), λ e a b. l .loop .inv .2 e (omega arith) b))
 
 magnitude-requires : tie.Need-magnitude-requires Inv-loop μ-loop
@@ -44,7 +52,13 @@ magnitude-requires c κs = search needs
 -- in a turn: the correlate, of whatever table the rows are
 module _ (c : tie.After-magnitude Inv-loop μ-loop) where
   abbrev loop : tie.At-loop Inv-loop μ-loop
-  loop = c .before .before .before .before
+  loop = c .before .before .before .before .before .before
+
+  abbrev rows : List (List ℤ)
+  rows = now (loop .before .args .rows)
+
+  abbrev multipliers : List (List ℤ)
+  multipliers = now (loop .before .args .multipliers)
 
   abbrev j : ℕ
   j = loop .loop .left - 1
@@ -55,13 +69,13 @@ module _ (c : tie.After-magnitude Inv-loop μ-loop) where
   size-is : c .magnitude .result ≡ natAbs x
   size-is = c .magnitude .ensures ∙ ap natAbs (read-at x (c .before .correlate .ok))
 
-  correlate-is : (t : Table) → t .n ≡ loop .before .args .n → Triangle t (loop .before .args .t1) → x ≡ K t j
+  correlate-is : (t : Table) → t .n ≡ loop .before .args .n → Triangle t rows multipliers → x ≡ K t j
   correlate-is t e r =
-      c .before .correlate .ensures ∙ ap (backOf (getD (loop .before .args .t1) j noRow) (loop .loop .k) j) (sym e)
-      ∙ next-correlate t (loop .before .args .t1) r j (loop .loop .k) (omega (arith, e)) (λ h a b. loop .loop .inv .3 t e r h (omega arith) (omega (arith, e)))
+      c .before .correlate .ensures ∙ ap (backOf (rowAt rows j) (rowAt multipliers j) (loop .loop .k) j) (sym e)
+      ∙ next-correlate t rows multipliers r j (loop .loop .k) (omega (arith, e)) (λ h a b. loop .loop .inv .3 t e r h (omega arith) (omega (arith, e)))
 
   -- the correlates of the rows from `left` on are within 10^8
-  all-within : (t : Table) → t .n ≡ loop .before .args .n → Triangle t (loop .before .args .t1) → From (loop .loop .left) (t .n) (λ h. natAbs (K t h) ≤ 100000000)
+  all-within : (t : Table) → t .n ≡ loop .before .args .n → Triangle t rows multipliers → From (loop .loop .left) (t .n) (λ h. natAbs (K t h) ≤ 100000000)
   all-within t e r h a b = rw (loop .loop .inv .3 t e r h a (omega (arith, e))) at (loop .loop .inv .2 h a (omega (arith, e)))
 
 returns : tie.Need-returns Inv-loop μ-loop
@@ -112,7 +126,9 @@ correlates-spec =
     loop-holds
     sub-j
     mul-row
-    array-copy-out-row
+    element-copy-out-row
+    mul-m
+    element-copy-out-m
     correlate-requires
     magnitude-requires
     returns

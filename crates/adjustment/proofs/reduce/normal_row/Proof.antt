@@ -1,10 +1,11 @@
 -- `reduce::normal_row` meets its contract. Assumes nothing.
-use mathlib.Core.Path.{_≡_, refl, sym, _∙_, ap, ap₂, subst}
+use mathlib.Core.Path.{_≡_, sym, _∙_, ap, ap₂, subst}
+use mathlib.Core.List.{List}
 use Prim.Native.Nat.{ℕ, _+_, _*_, _-_, _≤_, _<_}
 use native.Mathlib.Omega.{arith}
 use borrow.Author.Needs.{needs}
 use denote.Ref.{now}
-use lib.ListN.{length, getD, replicate}
+use lib.ListN.{length, getD, set, replicate}
 use lib.IntN.{ℤ, pos, _*ℤ_}
 use mir.Syntax.{w64}
 use mir.Val.{toZ, ofZ}
@@ -12,14 +13,14 @@ use Rattle.exact.specs.Sum.{sum}
 use Rattle.exact.proofs.Bound.{read-at, read-within}
 use Rattle.exact.proofs.Filling.{Filled, filled-none, filled-more}
 use Rattle.adjustment.specs.Table.{tableOf}
-use Rattle.adjustment.specs.Solution.{N, reduced, M}
+use Rattle.adjustment.specs.Solution.{N}
 use Rattle.adjustment.specs.Inner.{Within}
 use Rattle.adjustment.proofs.Sizes.{row-end, next-row}
 use Rattle.adjustment.proofs.reduce.normal_row.Statement.{statement}
 use Rattle.adjustment.proofs.reduce.normal_row.Tie as tie
 
 abbrev Inv-loop : tie.InvT-loop
-Inv-loop q a w j at x row₀ to₀ k₀ row to k = (j ≤ k) × (k ≤ length w) × (to ≡ k * length q) × (row .l ≡ row₀ .l) × Filled (pos 0) (N (tableOf q a w) j) j k (row₀ .d) (row .d)
+Inv-loop q a w j at x row₀ to₀ k₀ row to k = (j ≤ k) × (k ≤ length w) × (to ≡ k * length q) × Filled (pos 0) (N (tableOf q a w) j) j k row₀ row
 
 abbrev μ-loop : tie.MeasureT-loop
 μ-loop q a w j at x row₀ to₀ k₀ row to k = length w - k
@@ -34,14 +35,20 @@ constant-requires : tie.Need-constant-requires Inv-loop μ-loop
 constant-requires c κs =
     let s = c .before in read-within (getD (now (s .args .w)) (s .args .j) (pos 0)) (c .x .given) (s .pre .0 .w-most (s .args .j) (s .pre .1 .0))
 
+array-set-from-row : tie.Need-array-set-from-row Inv-loop μ-loop
+array-set-from-row c = search needs
+
+-- the row as the loop finds it: the constant alone
+abbrev first-row : tie.After-constant Inv-loop μ-loop → List ℤ
+first-row c = set (replicate 25 (pos 0)) 24 (toZ w64 (ofZ w64 (c .constant .result)))
+
 loop-holds : tie.Need-loop-holds Inv-loop μ-loop
 loop-holds c =
     let s = c .before .before in (
       omega arith,
       omega arith,
       s .pre .1 .1,
-      refl,
-      filled-none (pos 0) (N (tableOf (now (s .args .q)) (now (s .args .a)) (now (s .args .w))) (s .args .j)) (s .args .j) (replicate 24 (pos 0)),
+      filled-none (pos 0) (N (tableOf (now (s .args .q)) (now (s .args .a)) (now (s .args .w))) (s .args .j)) (s .args .j) (first-row c),
     )
 
 normal-requires : tie.Need-normal-requires Inv-loop μ-loop
@@ -64,11 +71,11 @@ normal-requires c κs =
       ),
     )
 
-mul-t15 : tie.Need-mul-t15 Inv-loop μ-loop
-mul-t15 c = search needs
+mul-row : tie.Need-mul-row Inv-loop μ-loop
+mul-row c = search needs
 
-element-set-from-row : tie.Need-element-set-from-row Inv-loop μ-loop
-element-set-from-row c = search needs
+array-set-from-row-2 : tie.Need-array-set-from-row-2 Inv-loop μ-loop
+array-set-from-row-2 c = search needs
 
 add-to : tie.Need-add-to Inv-loop μ-loop
 add-to c =
@@ -96,18 +103,16 @@ loop-again c =
       omega arith,
       omega arith,
       next-row k (length (now (s .args .q))) (i .2),
-      i .3,
-      filled-more (pos 0) (N (tableOf (now (s .args .q)) (now (s .args .a)) (now (s .args .w))) (s .args .j)) (s .args .j) k (replicate 24 (pos 0)) (l .loop .row .d)
-          (toZ w64 (ofZ w64 (c .normal .result))) (omega (arith, s .pre .0 .n-most)) (i .4) (read-at (c .normal .result) (c .normal .ok) ∙ entry-is c),
+      filled-more (pos 0) (N (tableOf (now (s .args .q)) (now (s .args .a)) (now (s .args .w))) (s .args .j)) (s .args .j) k (first-row (l .before)) (l .loop .row)
+          (toZ w64 (ofZ w64 (c .normal .result))) (omega (arith, s .pre .0 .n-most)) (i .3) (read-at (c .normal .result) (c .normal .ok) ∙ entry-is c),
     )
 
 returns : tie.Need-returns Inv-loop μ-loop
-unfolding reduced
 returns c =
     let l = c .before in let k = l .before in let s = k .before .before in let i = l .loop .inv in
     record {
-      d = λ h e f. i .4 .done h e (omega arith);
-      l = i .3 ∙ read-at (k .constant .result) (k .constant .ok) ∙ k .constant .ensures
+      coefficients = λ h e f. i .3 .done h e (omega arith);
+      constant = i .3 .rest 24 (omega (arith, s .pre .0 .n-most)) ∙ read-at (k .constant .result) (k .constant .ok) ∙ k .constant .ensures
           ∙ ap (λ (z : ℤ). pos 1000 *ℤ z) (read-at (getD (now (s .args .w)) (s .args .j) (pos 0)) (k .before .x .given));
     }
 
@@ -120,10 +125,11 @@ normal-row-spec =
     mul-x
     shared-slice-copy-out-x
     constant-requires
+    array-set-from-row
     loop-holds
     normal-requires
-    mul-t15
-    element-set-from-row
+    mul-row
+    array-set-from-row-2
     add-to
     add-k
     loop-less

@@ -12,7 +12,6 @@ use lib.ListN.{getD}
 use lib.IntN.{ℤ, pos, natAbs}
 use Rattle.exact.proofs.Bound.{read-at}
 use Rattle.exact.proofs.Searching.{Failed, failed-more, some-at, some-none, from-failed, from-test}
-use Rattle.adjustment.specs.Solution.{M}
 use Rattle.adjustment.proofs.reduce.some_large.Statement.{statement}
 use Rattle.adjustment.proofs.reduce.some_large.Tie as tie
 
@@ -32,8 +31,8 @@ loop-holds c = (omega arith, omega arith, from-failed (c .args .from) (large (no
 mul-x : tie.Need-mul-x Inv-loop μ-loop
 mul-x c = search needs
 
-element-copy-out-x : tie.Need-element-copy-out-x Inv-loop μ-loop
-element-copy-out-x c = search needs
+shared-slice-copy-out-x : tie.Need-shared-slice-copy-out-x Inv-loop μ-loop
+shared-slice-copy-out-x c = search needs
 
 magnitude-requires : tie.Need-magnitude-requires Inv-loop μ-loop
 magnitude-requires c κs = search needs
@@ -87,7 +86,7 @@ some-large-spec =
     μ-loop
     loop-holds
     mul-x
-    element-copy-out-x
+    shared-slice-copy-out-x
     magnitude-requires
     returns
     add-k
