@@ -6,7 +6,7 @@ use mathlib.Core.List.{List, [], _∷_}
 use Prim.Native.Nat.{ℕ, zero, suc}
 use lib.ListN.{length, take, drop}
 use lib.Dec.{ltb}
-use Rattle.network.specs.Parts.{before, placeFrom}
+use Rattle.network.specs.Parts.{bytesBefore, placeFrom}
 use Rattle.network.specs.Lines.{LF, lineAt}
 
 first-taken : (n : ℕ) (bytes : List ℕ) → take (length (take n bytes)) bytes ≡ take n bytes
@@ -20,4 +20,4 @@ either false n bytes = refl
 
 pub own-bytes : (file : List ℕ) (start : ℕ) → take (length (lineAt file start)) (drop start file) ≡ lineAt file start
 unfolding lineAt
-own-bytes file start = either (ltb (placeFrom LF file start) (length file)) (before LF (drop start file)) (drop start file)
+own-bytes file start = either (ltb (placeFrom LF file start) (length file)) (bytesBefore LF (drop start file)) (drop start file)
