@@ -2,3 +2,4 @@ pub mod Telling
 pub mod Lettered
 pub mod OwnBytes
 pub mod Unique
+pub mod Leaving
