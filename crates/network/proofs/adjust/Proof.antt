@@ -18,7 +18,7 @@ use Rattle.network.proofs.adjust.Tie as tie
 returns : tie.Need-returns
 returns c =
     let a = c .before .before .before .args in
-    too-short (now (a .file)) (now (a .out)) (c .if1 .taken)
+    too-short (now (a .file)) (now (a .out)) (omega (arith, c .if1 .taken))
 
 scan-requires : tie.Need-scan-requires
 scan-requires c κs = search needs

@@ -10,7 +10,7 @@ use Rattle.network.proofs.list.Statement.{statement}
 use Rattle.network.proofs.list.Tie as tie
 
 returns : tie.Need-returns
-returns c = let a = c .before .before .before .args in (no-listing (now (a .file)) (now (a .out)) (c .if1 .taken), omega arith)
+returns c = let a = c .before .before .before .args in (no-listing (now (a .file)) (now (a .out)) (omega (arith, c .if1 .taken)), omega arith)
 
 adjust-requires : tie.Need-adjust-requires
 adjust-requires c κs = search needs
