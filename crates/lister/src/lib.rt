@@ -1,4 +1,4 @@
-// Reads a network file whole, has `network` make its listing, and writes that: what the adjusting program does, and the
+// Reads a network file whole, has `listing` make its listing, and writes that: what the adjusting program does, and the
 // program that runs the figures.
 //
 // What cannot be done is said on standard error, a line for each file that opens with the program's name, and nothing else
@@ -65,8 +65,8 @@ fn read_whole(fd: i32, buf: &mut [u8]) -> Input
 
 // Writes the listing of a file. Answers whether all of it was written.
 fn write_listing(file: &[u8]) -> bool {
-    let mut out = [0u8; network::LISTING];
-    let n = network::list(file, &mut out);
+    let mut out = [0u8; listing::LISTING];
+    let n = listing::list(file, &mut out);
     io::write_all(STDOUT_FILENO, &out[..n])
 }
 

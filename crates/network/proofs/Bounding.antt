@@ -22,8 +22,8 @@ use Rattle.reply.proofs.Checking.{never, neither, both-accepted, if-accepted}
 use Rattle.exact.specs.Outside.{outside}
 use Rattle.direction.specs.Ranges.{outOfRange}
 use Rattle.condition.specs.Terms.{termFault}
-use Rattle.network.specs.Parts.{onFirst, parted}
-use Rattle.network.specs.Lines.{LF, linesOf}
+use Rattle.text.specs.Parts.{onFirst, parted}
+use Rattle.text.specs.Lines.{LF, linesOf}
 use Rattle.network.specs.Records.{recordOf}
 use Rattle.network.specs.Scan.{none, belongs, outOfTurn, oneTooMany, directionReply, anglesReply, sidesReply, termReply, lineReply, counted, ifLast, scanned, scanReply}
 use Rattle.network.specs.Net.{Net, lineBefore, netOf, netFrom}

@@ -5,9 +5,9 @@ use mathlib.Core.List.{List, [], _∷_}
 use Prim.Native.Nat.{ℕ}
 use Rattle.reply.specs.declared.Refusal.the-variants.{Malformed, Count, OutOfRange}
 use Rattle.reply.specs.declared.Reply.the-variants.{Accepted, Refused}
-use Rattle.network.specs.Parts.{onFirst, parted}
-use Rattle.network.specs.Fields.{fieldsOf, fieldAt, letterOf}
-use Rattle.network.specs.Numbers.{readDigits, unsignedOf, plus, minus, numeral}
+use Rattle.text.specs.Parts.{onFirst, parted}
+use Rattle.text.specs.Fields.{fieldsOf, fieldAt, letterOf}
+use Rattle.text.specs.Numbers.{readDigits, unsignedOf, plus, minus, numeral}
 use Rattle.network.specs.Records.{with, directionLine, anglesLine, sidesLine, conditionLine, angleLine, fixedLine, sideLine, lineOf, recordOf}
 use Rattle.exact.specs.Same.{same}
 use Rattle.condition.specs.Terms as terms

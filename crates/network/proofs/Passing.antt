@@ -27,8 +27,8 @@ use Rattle.condition.specs.declared.Kind.the-variants.{Angle, Side}
 use Rattle.condition.specs.declared.term.Term.{Term}
 use Rattle.condition.specs.Terms.{letterOf, suits, fault, termFault}
 use Rattle.condition.specs.Rules.{termAt, directionsMiscounted, termsMiscounted, countsFault, targetFault, targetCheck, termCheck, termsCheck, checks, beyond, coefficientsReply, misclosure, misclosureFigure, Lent}
-use Rattle.network.specs.Lines.{LF, linesOf}
-use Rattle.network.specs.Parts.{parted}
+use Rattle.text.specs.Lines.{LF, linesOf}
+use Rattle.text.specs.Parts.{parted}
 use Rattle.network.specs.Records.{letter-A, letter-S, letter-P, letter-F, letter-L, letter-R, recordOf}
 use Rattle.network.specs.Scan.{none, belongs, outOfTurn, oneTooMany, directionReply, anglesReply, sidesReply, termReply, lineReply, counted, endFault, endReply, scanned, scanReply}
 use Rattle.network.specs.Net.{Condition, Net, noTerms, headed, withTerm, lineBefore, netOf, netFrom, lentOf, refusedAs, conditionReply}

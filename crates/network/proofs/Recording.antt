@@ -7,7 +7,7 @@ use Prim.Native.Nat.{ℕ}
 use borrow.Author.Tests.{eq-eqb, ne-eqb}
 use lib.Dec.{eqb}
 use lib.ListN.{length}
-use Rattle.network.specs.Fields.{fieldsOf}
+use Rattle.text.specs.Fields.{fieldsOf}
 
 module _ (line : List ℕ) (n count : ℕ) (q : count ≡ length (fieldsOf line)) where
   pub count-right : count ≡ n → eqb (length (fieldsOf line)) n ≡ true

@@ -16,14 +16,14 @@ use Rattle.reply.specs.declared.Refusal.the-variants.{Malformed}
 use Rattle.reply.specs.declared.Reply.{Reply}
 use Rattle.reply.specs.declared.Reply.the-variants.{Accepted, Refused}
 use Rattle.reply.specs.Checks.{_andThen_}
-use Rattle.network.specs.Parts.{placeFrom, onFirst, parted}
-use Rattle.network.specs.Lines.{LF, lineAt}
+use Rattle.text.specs.Parts.{placeFrom, onFirst, parted}
+use Rattle.text.specs.Lines.{LF, lineAt}
 use Rattle.network.specs.Records.{recordOf}
 use Rattle.network.specs.Scan.{Low, lineReply, counted, endReply, ifLast, scanned}
 use Rattle.network.specs.declared.record.Record.{Record}
 use Rattle.network.specs.declared.record.Record.the-variants.{Direction, Angles, Sides, Term, Unreadable}
 use Rattle.network.specs.declared.scan.Counts.{Counts}
-use Rattle.network.proofs.Parting.{parts-more, parts-last}
+use Rattle.text.proofs.Parting.{parts-more, parts-last}
 
 -- ---- the counters
 pub record Passed (lines : ℕ) (c : Counts) : Type 0 where

@@ -15,8 +15,8 @@ use borrow.Author.Tests.{lt-ltb, le-ltb, ltb-true, ltb-false}
 use lib.Dec.{ltb}
 use lib.ListN.{length, take, set, length-append}
 use lib.Seq.{take-suc-set, append-snoc, length-take-le}
-use Rattle.network.specs.Parts.{placeFrom}
-use Rattle.network.specs.Lines.{LF, lineAt}
+use Rattle.text.specs.Parts.{placeFrom}
+use Rattle.text.specs.Lines.{LF, lineAt}
 use Rattle.network.specs.Records.{recordOf}
 use Rattle.network.specs.Net.{Net, noTerms, lineBefore, netOf, netFrom}
 use Rattle.network.specs.Cursor.{turnOf}
@@ -25,8 +25,8 @@ use Rattle.network.specs.declared.record.Record.the-variants.{Direction,
 use Rattle.network.specs.declared.cursor.Turn.{Turn}
 use Rattle.network.specs.declared.cursor.Turn.the-variants.{Line, End}
 use Rattle.network.proofs.record.Record.{the-type}
-use Rattle.network.proofs.Parting.{place-after}
-use Rattle.network.proofs.Splitting.{lines-whole, lines-rest}
+use Rattle.text.proofs.Parting.{place-after}
+use Rattle.text.proofs.Splitting.{lines-whole, lines-rest}
 
 -- ---- the reader of lines
 module _ (file : List ℕ) (start : ℕ) where

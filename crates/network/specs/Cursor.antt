@@ -4,8 +4,8 @@ use mathlib.Core.List.{List}
 use Prim.Native.Nat.{ℕ, _+_}
 use lib.Dec.{ltb}
 use lib.ListN.{length}
-use Rattle.network.specs.Parts.{placeFrom}
-use Rattle.network.specs.Lines.{LF, lineAt}
+use Rattle.text.specs.Parts.{placeFrom}
+use Rattle.text.specs.Lines.{LF, lineAt}
 use Rattle.network.specs.Records.{recordOf}
 use Rattle.network.specs.declared.cursor.Turn.{Turn}
 use Rattle.network.specs.declared.cursor.Turn.the-variants.{Line, End}

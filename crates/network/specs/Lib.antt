@@ -1,12 +1,5 @@
-pub mod Parts
-pub mod Lines
-pub mod Fields
-pub mod Numbers
-pub mod Decimal
 pub mod Records
 pub mod Scan
-pub mod Listing
 pub mod Net
 pub mod Cursor
 pub mod Gathered
-pub mod File

@@ -12,12 +12,8 @@ use Rattle.reply.specs.Checks.{_andThen_, figureReply, figureValue}
 use Rattle.condition.specs.declared.Kind.{Kind}
 use Rattle.condition.specs.declared.Kind.the-variants.{Angle, Side}
 use Rattle.condition.specs.Rules.{Lent, lent, coefficientsReply, coefficientsList, misclosureFigure}
-use Rattle.adjustment.specs.Table.{Table, at, tableOf}
-use Rattle.adjustment.specs.Solution.{K}
-use Rattle.adjustment.specs.Promise.{Answers, lists, adjustReply, answersOf}
-use Rattle.network.specs.Lines.{linesOf}
+use Rattle.text.specs.Lines.{linesOf}
 use Rattle.network.specs.Records.{recordOf}
-use Rattle.network.specs.Scan.{scanReply}
 use Rattle.network.specs.declared.record.Record.{Record}
 use Rattle.network.specs.declared.record.Record.the-variants.{Direction, Angles, Sides, Term, Unreadable}
 
@@ -102,25 +98,3 @@ module _ (directions q : List ℤ) where
   unfoldable pub misclosuresOf : List Condition → List ℤ
   misclosuresOf [] = []
   misclosuresOf (c ∷ cs) = misclosureOf c ∷ misclosuresOf cs
-
-unfoldable pub tableIn : Net → Table
-tableIn net = tableOf (net .q) (rowsOf (net .directions) (net .q) (net .conditions)) (misclosuresOf (net .directions) (net .q) (net .conditions))
-
--- the answer lists as the file's operation lends them to `adjustment`
-unfoldable pub room : ℕ → ℕ → Answers
-room m n = lists (zeros m) (zeros m) (zeros m) (zeros n) (zeros n) (zeros n)
-
-unfoldable pub netReply : Net → Reply
-netReply net =
-    formedReply (net .directions) (net .q) 1 (net .conditions)
-    andThen adjustReply (net .directions) (net .q)
-    (rowsOf (net .directions) (net .q) (net .conditions))
-    (misclosuresOf (net .directions) (net .q) (net .conditions))
-    (room (length (net .directions)) (length (net .conditions)))
-
-unfoldable pub netAnswers : Net → Answers
-netAnswers net = answersOf (tableIn net) (K (tableIn net)) (at (net .directions))
-
--- ---- the file
-unfoldable pub fileReply : List ℕ → Reply
-fileReply file = scanReply file andThen netReply (netOf (linesOf file))

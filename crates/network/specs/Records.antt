@@ -5,10 +5,10 @@ use Prim.Native.Nat.{ℕ}
 use lib.Dec.{eqb}
 use lib.IntN.{ℤ, pos}
 use lib.ListN.{length}
-use Rattle.network.specs.Fields.{fieldsOf, fieldAt, letterOf}
-use Rattle.network.specs.Numbers.{numeral}
-use Rattle.network.specs.declared.number.Number.{Number}
-use Rattle.network.specs.declared.number.Number.the-variants.{Value, Malformed}
+use Rattle.text.specs.Fields.{fieldsOf, fieldAt, letterOf}
+use Rattle.text.specs.Numbers.{numeral}
+use Rattle.text.specs.declared.number.Number.{Number}
+use Rattle.text.specs.declared.number.Number.the-variants.{Value, Malformed}
 use Rattle.network.specs.declared.record.Record.{Record}
 use Rattle.network.specs.declared.record.Record.the-variants.{Direction, Angles, Sides, Term, Unreadable}
 

@@ -9,8 +9,8 @@ use Rattle.reply.specs.declared.Refusal.the-variants.{Malformed, Count, OutOfRa
 use Rattle.reply.specs.declared.Reply.{Reply}
 use Rattle.reply.specs.declared.Reply.the-variants.{Accepted, Refused}
 use Rattle.reply.specs.Checks.{refuseIf, _andThen_}
-use Rattle.network.specs.Parts.{parted}
-use Rattle.network.specs.Lines.{LF}
+use Rattle.text.specs.Parts.{parted}
+use Rattle.text.specs.Lines.{LF}
 use Rattle.network.specs.Records.{letter-A, letter-S, letter-P, letter-F, letter-L, letter-R, recordOf}
 use Rattle.condition.specs.Terms.{termFault}
 use Rattle.condition.specs.Rules.{targetFault}

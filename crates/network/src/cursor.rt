@@ -1,10 +1,10 @@
 // One line of the file after the other: what it says, and where the next one starts.
 ghost use mathlib.Core.Path.{_≡_};
 ghost use Rattle.network.specs.Cursor.{turnOf};
-use crate::line;
-use crate::line::LineStatus;
 use crate::record;
 use crate::record::Record;
+use text::line;
+use text::line::LineStatus;
 
 pub enum Turn {
     // A line with its LF, and the start of the next.

@@ -1,11 +1,11 @@
 // One line of the network file as a record: what it says, before any count, heading or range is looked at.
 ghost use mathlib.Core.Path.{_≡_};
-ghost use Rattle.network.specs.Fields.{fieldAt};
-ghost use Rattle.network.specs.Numbers.{numeral};
+ghost use Rattle.text.specs.Fields.{fieldAt};
+ghost use Rattle.text.specs.Numbers.{numeral};
 ghost use Rattle.network.specs.Records.{directionLine, anglesLine, sidesLine, conditionLine, angleLine, fixedLine, sideLine, recordOf};
-use crate::field;
-use crate::number;
-use crate::number::Number;
+use text::field;
+use text::number;
+use text::number::Number;
 
 // What a line says.
 pub enum Record {

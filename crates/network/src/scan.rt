@@ -4,12 +4,12 @@ ghost use Prim.Native.Nat.{_≤_};
 ghost use Rattle.reply.specs.Verdicts.{Replies};
 ghost use Rattle.network.specs.Scan.{Low, belongs, outOfTurn, oneTooMany, directionReply, anglesReply, sidesReply, termReply};
 ghost use Rattle.network.specs.Scan.{lineReply, counted, endFault, endReply, scanReply};
-use crate::line;
-use crate::line::LineStatus;
 use crate::record;
 use crate::record::Record;
 use reply::Refusal;
 use reply::Reply;
+use text::line;
+use text::line::LineStatus;
 
 // The longest file, and the most directions, conditions and terms of a condition.
 const MOST_BYTES: usize = 65_535;

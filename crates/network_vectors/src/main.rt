@@ -1,10 +1,10 @@
 // Runs the line reader, the numbers and the scan on chosen inputs and prints what they answer. What it must print was worked out apart from it.
-use network::line;
-use network::line::LineStatus;
-use network::number;
-use network::number::Number;
 use network::scan;
 use reply::Reply;
+use text::line;
+use text::line::LineStatus;
+use text::number;
+use text::number::Number;
 
 // A start's status and line.
 fn show_line(file: &[u8], start: usize) {

@@ -24,7 +24,7 @@ use Rattle.condition.specs.Rules.{Lent, coefficientsReply}
 use Rattle.condition.proofs.Answering.{kept}
 use Rattle.adjustment.specs.Promise.{Answers as Lists, adjustReply, Adjusts}
 use Rattle.adjustment.proofs.Promising.{refusal-leaves-lists as table-kept}
-use Rattle.network.specs.File.{adjustFileReply}
+use Rattle.listing.specs.File.{adjustFileReply}
 use Rattle.office.specs.declared.Heading.{Heading}
 use Rattle.office.specs.declared.Heading.the-variants.{Named, Unknown}
 use Rattle.office.specs.Promises.{Means, Coefficients, Misclosed, Table, File}

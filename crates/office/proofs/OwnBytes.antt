@@ -6,8 +6,8 @@ use mathlib.Core.List.{List, [], _∷_}
 use Prim.Native.Nat.{ℕ, zero, suc}
 use lib.ListN.{length, take, drop}
 use lib.Dec.{ltb}
-use Rattle.network.specs.Parts.{bytesBefore, placeFrom}
-use Rattle.network.specs.Lines.{LF, lineAt}
+use Rattle.text.specs.Parts.{bytesBefore, placeFrom}
+use Rattle.text.specs.Lines.{LF, lineAt}
 
 first-taken : (n : ℕ) (bytes : List ℕ) → take (length (take n bytes)) bytes ≡ take n bytes
 first-taken zero bytes = refl

@@ -16,8 +16,8 @@ use Rattle.reply.specs.Verdicts.{verdictOf}
 use Rattle.station.specs.Sightings.{Book}
 use Rattle.station.specs.Replies.{Answers}
 use Rattle.adjustment.specs.Promise.{Answers as Lists, Adjusts}
-use Rattle.network.specs.declared.Listed.{Listed}
-use Rattle.network.specs.File.{fileListing, AdjustsFile}
+use Rattle.listing.specs.declared.Listed.{Listed}
+use Rattle.listing.specs.File.{fileListing, AdjustsFile}
 use Rattle.office.specs.Promises.{Means, Table, File}
 
 module _ (v : Verdict) (r : Reply) (told : v ≡ verdictOf r) where

@@ -14,7 +14,7 @@ use Rattle.condition.specs.declared.Kind.{Kind}
 use Rattle.condition.specs.Rules.{Lent}
 use Rattle.adjustment.specs.Promise.{Answers as Lists}
 use Rattle.adjustment.proofs.Promising.{only-reply}
-use Rattle.network.specs.Lines.{lineAt, statusAt}
+use Rattle.text.specs.Lines.{lineAt, statusAt}
 use Rattle.office.specs.declared.Heading.{Heading}
 use Rattle.office.specs.Promises.{Means, Coefficients, Misclosed, Table, File}
 use Rattle.office.specs.Statuses.{statusNumber}

@@ -15,7 +15,7 @@ use Rattle.station.specs.Replies.{replyOf, Answers}
 use Rattle.condition.specs.declared.Kind.{Kind}
 use Rattle.condition.specs.Rules.{Lent}
 use Rattle.adjustment.specs.Promise.{Answers as Lists, adjustReply, Adjusts}
-use Rattle.network.specs.File.{fileListing, FileDemand3, adjustFileReply}
+use Rattle.listing.specs.File.{fileListing, FileDemand3, adjustFileReply}
 use Rattle.office.specs.declared.Heading.{Heading}
 use Rattle.office.specs.Terms.{coefficientsReplyUnder, coefficientsListUnder, misclosureUnder}
 

@@ -5,18 +5,18 @@ ghost use Prim.Native.Nat.{_≤_};
 ghost use lib.ListN.{length, take, drop};
 ghost use Rattle.station.specs.Sightings.{book};
 ghost use Rattle.adjustment.specs.Promise.{lists};
-ghost use Rattle.network.specs.Lines.{lineAt, statusAt};
-ghost use Rattle.network.specs.Listing.{Wrote};
-ghost use Rattle.network.specs.File.{refusedLineIn, listingIn};
+ghost use Rattle.text.specs.Lines.{lineAt, statusAt};
+ghost use Rattle.text.specs.Written.{Wrote};
+ghost use Rattle.listing.specs.File.{refusedLineIn, listingIn};
 ghost use Rattle.office.specs.Promises.{Means, Coefficients, Misclosed, Table, File};
 ghost use Rattle.office.specs.Terms.{headingOf, termsOf};
 ghost use Rattle.office.specs.Statuses.{statusNumber};
 use condition::Kind;
-use network::line::LineStatus;
 use reply::Figure;
 use reply::Refusal;
 use reply::Reply;
 use reply::Verdict;
+use text::line::LineStatus;
 
 // The kind of condition that a letter names.
 enum Heading {
@@ -153,7 +153,7 @@ pub extern "C" fn molsadriu_adjust_table(
 pub extern "C" fn molsadriu_adjust_file(file: &[u8], out: &mut [u8], length: &mut usize) -> Verdict
     ensures { λ v. ⌜ File (now (file .entry)) (now (out .entry)) (now (length .entry)) v (now (out .exit)) (now (length .exit)) ⌝ }
 {
-    let listed = network::adjust(file, out);
+    let listed = listing::adjust(file, out);
     let reply = listed.reply;
     if let Reply::Refused(why) = reply {
         return reply::refuse(why);
@@ -168,7 +168,7 @@ pub extern "C" fn molsadriu_refused_line(number: u64, place: u64, out: &mut [u8]
     ensures line { λ r. ⌜ Wrote (now (out .entry)) 0 (refusedLineIn (record { number = number; place = place }) (length (now (out .entry)))) (now (out .exit)) r ⌝ }
     ensures within { λ r. ⌜ r ≤ length (now (out .entry)) ⌝ }
 {
-    network::refused_line(Verdict { number, place }, out)
+    listing::refused_line(Verdict { number, place }, out)
 }
 
 // The listing of any network file, accepted or refused, into a lent buffer of at least 6,560 bytes, and how many bytes it has.
@@ -177,7 +177,7 @@ pub extern "C" fn molsadriu_list_file(file: &[u8], out: &mut [u8]) -> usize
     ensures listing { λ r. ⌜ Wrote (now (out .entry)) 0 (listingIn (now (file .entry)) (length (now (out .entry)))) (now (out .exit)) r ⌝ }
     ensures within { λ r. ⌜ r ≤ length (now (out .entry)) ⌝ }
 {
-    network::list(file, out)
+    listing::list(file, out)
 }
 
 // The length of the line that starts at `start`, without its LF. Its bytes are the file's own, from there on.
@@ -186,7 +186,7 @@ pub extern "C" fn molsadriu_line(file: &[u8], start: usize) -> usize
     ensures length { λ r. ⌜ r ≡ length (lineAt (now (file .entry)) start) ⌝ }
     ensures bytes { λ r. ⌜ take r (drop start (now (file .entry))) ≡ lineAt (now (file .entry)) start ⌝ }
 {
-    let line = network::line::line(file, start);
+    let line = text::line::line(file, start);
     line.len()
 }
 
@@ -195,7 +195,7 @@ pub extern "C" fn molsadriu_line(file: &[u8], start: usize) -> usize
 pub extern "C" fn molsadriu_line_status(file: &[u8], start: usize) -> u64
     ensures { λ r. ⌜ r ≡ statusNumber (statusAt (now (file .entry)) start) ⌝ }
 {
-    let status = network::line::line_status(file, start);
+    let status = text::line::line_status(file, start);
     match status {
         LineStatus::Whole => 0,
         LineStatus::NoneLeft => 1,

@@ -4,7 +4,7 @@ use mathlib.Core.List.{List}
 use Prim.Native.Nat.{ℕ}
 use denote.Ref.{now}
 use lib.ListN.{length, take, drop}
-use Rattle.network.specs.Lines.{lineAt}
+use Rattle.text.specs.Lines.{lineAt}
 use Rattle.office.proofs.OwnBytes.{own-bytes}
 use borrow.Author.Needs.{needs}
 use Rattle.office.proofs.molsadriu_line.Statement.{statement}

@@ -6,11 +6,11 @@ use native.Mathlib.Omega.{arith}
 use borrow.Author.Needs.{needs}
 use denote.Ref.{now}
 use lib.ListN.{length}
-use Rattle.network.specs.Parts.{placeFrom}
-use Rattle.network.specs.Lines.{LF}
+use Rattle.text.specs.Parts.{placeFrom}
+use Rattle.text.specs.Lines.{LF}
 use Rattle.network.specs.Records.{recordOf}
-use Rattle.network.proofs.Parting.{place-after}
-use Rattle.network.proofs.Splitting.{whole-within, missing-past, none-past, line-next}
+use Rattle.text.proofs.Parting.{place-after}
+use Rattle.text.proofs.Splitting.{whole-within, missing-past, none-past, line-next}
 use Rattle.network.proofs.Walking.{turn-here, turn-past}
 use Rattle.network.proofs.cursor.read.Statement.{statement}
 use Rattle.network.proofs.cursor.read.Tie as tie

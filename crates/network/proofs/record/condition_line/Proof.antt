@@ -7,7 +7,7 @@ use borrow.Author.Needs.{needs}
 use borrow.Author.Tests.{eq-eqb, ne-eqb}
 use denote.Ref.{now}
 use lib.Dec.{eqb}
-use Rattle.network.specs.Fields.{fieldAt, letterOf}
+use Rattle.text.specs.Fields.{fieldAt, letterOf}
 use Rattle.network.specs.Records.{letter-A, letter-S, conditionLine}
 use Rattle.network.proofs.record.condition_line.Statement.{statement}
 use Rattle.network.proofs.record.condition_line.Tie as tie

@@ -1,7 +1,7 @@
 -- `network::record::number_at` meets its contract. Assumes nothing.
 use mathlib.Core.Path.{_∙_, ap}
 use borrow.Author.Needs.{needs}
-use Rattle.network.specs.Numbers.{numeral}
+use Rattle.text.specs.Numbers.{numeral}
 use Rattle.network.proofs.record.number_at.Statement.{statement}
 use Rattle.network.proofs.record.number_at.Tie as tie
 

@@ -7,7 +7,7 @@ use borrow.Author.Needs.{needs}
 use borrow.Author.Tests.{eq-eqb, ne-eqb}
 use denote.Ref.{now}
 use lib.Dec.{eqb}
-use Rattle.network.specs.Fields.{fieldAt, letterOf}
+use Rattle.text.specs.Fields.{fieldAt, letterOf}
 use Rattle.network.specs.Records.{letter-C, letter-D, letter-F, letter-L, letter-P, letter-R, sideLine, lineOf, recordOf}
 use Rattle.network.proofs.record.of.Statement.{statement}
 use Rattle.network.proofs.record.of.Tie as tie

@@ -7,7 +7,7 @@ use borrow.Author.Needs.{needs}
 use denote.Ref.{now}
 use lib.Dec.{eqb}
 use lib.ListN.{length}
-use Rattle.network.specs.Fields.{fieldsOf}
+use Rattle.text.specs.Fields.{fieldsOf}
 use Rattle.network.specs.Records.{sidesLine}
 use Rattle.network.proofs.Recording.{count-right, count-wrong}
 use Rattle.network.proofs.record.sides_line.Statement.{statement}

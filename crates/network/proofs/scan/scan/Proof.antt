@@ -7,13 +7,13 @@ use borrow.Author.Needs.{needs}
 use borrow.Author.Tests.{lt-ltb, le-ltb}
 use denote.Ref.{now}
 use lib.ListN.{length}
-use Rattle.network.specs.Parts.{placeFrom}
-use Rattle.network.specs.Lines.{LF, lineAt}
+use Rattle.text.specs.Parts.{placeFrom}
+use Rattle.text.specs.Lines.{LF, lineAt}
 use Rattle.network.specs.Records.{recordOf}
 use Rattle.reply.proofs.Unique.{replies}
 use Rattle.network.specs.Scan.{Low, none, lineReply, counted, scanned, scanReply}
 use Rattle.network.specs.declared.scan.Counts.{Counts}
-use Rattle.network.proofs.Splitting.{whole-within, missing-within, missing-past, none-past, line-next}
+use Rattle.text.proofs.Splitting.{whole-within, missing-within, missing-past, none-past, line-next}
 use Rattle.network.proofs.Scanning.{Passed, passed-more, passed-low, left, scan-refused, scan-accepted, scan-missing, scan-none}
 use Rattle.network.proofs.scan.scan.Statement.{statement}
 use Rattle.network.proofs.scan.scan.Tie as tie

@@ -1,0 +1,104 @@
+-- Laws of the reply to a condition table and to a net, and of their listings, by what `adjustment` and the conditions have answered. Assumes nothing.
+--   Lent                                        answer lists as long as they must be
+--   listed-refused, listed-accepted, relisted   what is left by a refusal, and by an accepted listing
+--   answered, table-accepted                    the reply to a table, and the listing of an accepted one
+--   misclosures-length                          a misclosure for each condition
+--   net-refused, net-accepted, net-listing      the reply to a net whose conditions are refused, and to one whose are not; its listing
+--   answers-most                                no listing has more than 6,560 bytes
+use mathlib.Core.Path.{_≡_, refl, sym, _∙_, ap, ap₂, subst}
+use mathlib.Core.List.{List, [], _∷_}
+use Prim.Native.Nat.{ℕ, suc, _≤_}
+use native.Mathlib.Nat.{zero-add}
+use native.Mathlib.Omega.{arith}
+use lib.IntN.{ℤ}
+use lib.ListN.{length}
+use Rattle.exact.proofs.Filling.{tabulate-length}
+use Rattle.reply.specs.declared.Refusal.{Refusal}
+use Rattle.reply.specs.declared.Reply.{Reply}
+use Rattle.reply.specs.declared.Reply.the-variants.{Accepted, Refused}
+use Rattle.reply.specs.Checks.{leaves}
+use Rattle.adjustment.specs.Table.{at, tableOf}
+use Rattle.adjustment.specs.Solution.{K}
+use Rattle.adjustment.specs.Promise.{Answers, adjustReply, answersOf, Adjusts}
+use Rattle.network.specs.Net.{Condition, Net, zeros, formedReply, rowsOf, misclosuresOf}
+use Rattle.listing.specs.File.{tableIn, room, netReply, netAnswers}
+use Rattle.listing.specs.declared.Listed.{Listed}
+use Rattle.listing.specs.Listing.{acceptedListing}
+use Rattle.text.specs.Written.{Wrote}
+use Rattle.listing.specs.File.{answersListing, tableListing, netListing, ListedBy}
+use Rattle.listing.proofs.Composing.{accepted-most}
+
+-- the lengths of lent answer lists, m by direction and n by condition
+pub record Lent (m n : ℕ) (lent : Answers) : Type 0 where
+  pub corrections : length (lent .corrections) ≡ m
+  pub printed : length (lent .printed) ≡ m
+  pub adjusted : length (lent .adjusted) ≡ m
+  pub correlates : length (lent .correlates) ≡ n
+  pub remainders : length (lent .remainders) ≡ n
+  pub misses : length (lent .misses) ≡ n
+
+-- ---- what the operations that list leave
+pub listed-refused : {rule : Reply} {listing before : List ℕ} (why : Refusal) → rule ≡ Refused why → ListedBy rule listing before (record { reply = Refused why; length = 0 }) before
+listed-refused why e = record { answer = sym e; length-is = refl; buffer = refl }
+
+pub listed-accepted : {rule : Reply} {listing before after : List ℕ} {n : ℕ} → rule ≡ Accepted → Wrote before 0 listing after n → ListedBy rule listing before (record { reply = Accepted; length = n }) after
+listed-accepted {listing = listing} e w = record { answer = sym e; length-is = w .place ∙ zero-add (length listing); buffer = w .buffer }
+
+-- by another rule, and with another listing, that are the same
+pub relisted : {rule rule' : Reply} {listing listing' before after : List ℕ} {listed : Listed} → rule ≡ rule' → listing ≡ listing' → ListedBy rule listing before listed after → ListedBy rule' listing' before listed after
+relisted {rule} {listing' = listing'} {before} {after} {listed} r l b =
+    subst (λ (x : Reply). ListedBy x listing' before listed after) r (subst (λ (x : List ℕ). ListedBy rule x before listed after) l b)
+
+-- ---- a condition table
+module _ (ds q a w : List ℤ) {lent : Answers} (l : Lent (length ds) (length w) lent) where
+  -- the reply depends on the lengths alone
+  by-room : adjustReply ds q a w (room (length ds) (length w)) ≡ adjustReply ds q a w lent
+  unfolding adjustReply room zeros
+  by-room =
+      rw (l .corrections, l .printed, l .adjusted, l .correlates, l .remainders, l .misses, tabulate-length (length ds), tabulate-length (length w))
+
+  abbrev answers : Answers
+  answers = answersOf (tableOf q a w) (K (tableOf q a w)) (at ds)
+
+  module _ {reply : Reply} {left : Answers} (p : Adjusts ds q a w lent reply left) where
+    pub answered : adjustReply ds q a w (room (length ds) (length w)) ≡ reply
+    answered = by-room ∙ sym (p .answer)
+
+    pub table-accepted : length q ≡ length ds → reply ≡ Accepted
+        → acceptedListing (length ds) (length w) (left .printed) (left .adjusted) (left .correlates) (left .remainders) (left .misses) ≡ tableListing ds q a w
+    unfolding tableListing answersListing
+    table-accepted l e =
+        ap (λ (x : Answers). acceptedListing (length ds) (length w) (x .printed) (x .adjusted) (x .correlates) (x .remainders) (x .misses)) (p .lists ∙ ap (λ (r : Reply). leaves r answers lent) e)
+        ∙ ap₂ (λ (m n : ℕ). acceptedListing m n (answers .printed) (answers .adjusted) (answers .correlates) (answers .remainders) (answers .misses)) (sym (tabulate-length (length q) _ ∙ l)) (sym (tabulate-length (length w) _))
+
+-- ---- the net
+pub misclosures-length : (directions q : List ℤ) (cs : List Condition) → length (misclosuresOf directions q cs) ≡ length cs
+unfolding misclosuresOf
+misclosures-length directions q [] = refl
+misclosures-length directions q (c ∷ cs) = ap suc (misclosures-length directions q cs)
+
+module _ (net : Net) (ds q : List ℤ) (d : ds ≡ net .directions) (e : q ≡ net .q) where
+  pub net-refused : (why : Refusal) → formedReply ds q 1 (net .conditions) ≡ Refused why → netReply net ≡ Refused why
+  unfolding netReply
+  net-refused why h = rw (sym d, sym e, h)
+
+  -- the table of its conditions
+  module _ (a w : List ℤ) (rows : a ≡ rowsOf ds q (net .conditions)) (closings : w ≡ misclosuresOf ds q (net .conditions)) where
+    pub net-accepted : formedReply ds q 1 (net .conditions) ≡ Accepted → adjustReply ds q a w (room (length ds) (length w)) ≡ netReply net
+    unfolding netReply
+    net-accepted h = rw (rows, closings, sym d, sym e, h, misclosures-length ds q (net .conditions))
+
+    pub net-listing : tableListing ds q a w ≡ netListing net
+    unfolding netListing netAnswers tableIn tableListing
+    net-listing = rw (rows, closings, sym d, sym e)
+
+-- ---- the longest listing
+pub answers-most : (x : Answers) → length (x .printed) ≤ 64 → length (x .correlates) ≤ 24 → length (answersListing x) ≤ 6560
+unfolding answersListing
+answers-most x m n =
+    omega (
+      arith,
+      m,
+      n,
+      accepted-most (length (x .printed)) (length (x .correlates)) (x .printed) (x .adjusted) (x .correlates) (x .remainders) (x .misses),
+    )

@@ -1,0 +1,89 @@
+-- `listing::put_refused` meets its contract. Assumes nothing.
+use mathlib.Core.Path.{_∙_}
+use native.Mathlib.Omega.{arith}
+use borrow.Author.Needs.{needs}
+use denote.Ref.{now}
+use Rattle.text.proofs.Putting.{Come, then, wrote-length, come, come-on, count-on}
+use Rattle.listing.proofs.lines.put_refused.Statement.{statement}
+use Rattle.listing.proofs.lines.put_refused.Tie as tie
+
+put-three-requires : tie.Need-put-three-requires
+put-three-requires c κs = search needs
+
+-- how far each part has come
+abbrev start1 : tie.After-put-three → tie.Start
+start1 c = c .before .before .before
+
+come1 : (c : tie.After-put-three) → Come (now (start1 c .args .out)) (start1 c .args .at) 3 (c .put-three .last .0) (c .put-three .result)
+come1 c = come (c .put-three .ensures)
+
+put-three-requires-2 : tie.Need-put-three-requires-2
+put-three-requires-2 c κs = let b = c .before .before .before in omega (arith, start1 b .pre, come1 b .far, come1 b .kept)
+
+abbrev start2 : tie.After-put-three2 → tie.Start
+start2 c = start1 (c .before .before .before .before)
+
+come2 : (c : tie.After-put-three2) → Come (now (start2 c .args .out)) (start2 c .args .at) 6 (c .put-three2 .last .0) (c .put-three2 .result)
+come2 c = come-on 3 (come1 (c .before .before .before .before)) (omega arith) (c .put-three2 .ensures)
+
+put-byte-requires : tie.Need-put-byte-requires
+put-byte-requires c κs = let b = c .before .before .before in omega (arith, start2 b .pre, come2 b .far, come2 b .kept)
+
+abbrev start3 : tie.After-put-byte → tie.Start
+start3 c = start2 (c .before .before .before .before)
+
+come3 : (c : tie.After-put-byte) → Come (now (start3 c .args .out)) (start3 c .args .at) 7 (c .put-byte .last .0) (c .put-byte .result)
+come3 c = come-on 1 (come2 (c .before .before .before .before)) (omega arith) (c .put-byte .ensures)
+
+put-count-requires : tie.Need-put-count-requires
+put-count-requires c κs = let b = c .before .before .before in omega (arith, start3 b .pre, come3 b .far, come3 b .kept)
+
+abbrev start4 : tie.After-put-count → tie.Start
+start4 c = start3 (c .before .before .before .before)
+
+come4 : (c : tie.After-put-count) → Come (now (start4 c .args .out)) (start4 c .args .at) 29 (c .put-count .last .0) (c .put-count .result)
+come4 c = count-on _ (come3 (c .before .before .before .before)) (c .put-count .ensures)
+
+put-count-requires-2 : tie.Need-put-count-requires-2
+put-count-requires-2 c κs = let b = c .before .before .before in omega (arith, start4 b .pre, come4 b .far, come4 b .kept)
+
+abbrev start5 : tie.After-put-count2 → tie.Start
+start5 c = start4 (c .before .before .before .before)
+
+come5 : (c : tie.After-put-count2) → Come (now (start5 c .args .out)) (start5 c .args .at) 51 (c .put-count2 .last .0) (c .put-count2 .result)
+come5 c = count-on _ (come4 (c .before .before .before .before)) (c .put-count2 .ensures)
+
+put-byte-requires-2 : tie.Need-put-byte-requires-2
+put-byte-requires-2 c κs = let b = c .before .before .before in omega (arith, start5 b .pre, come5 b .far, come5 b .kept)
+
+same-length : tie.Need-same-length
+same-length c = let b = c .before .before in wrote-length (b .put-byte2 .ensures) ∙ come5 (b .before .before .before .before) .kept
+
+returns : tie.Need-returns
+returns c =
+    let e6 = c .before .before in
+    let e5 = e6 .before .before .before .before in
+    let e4 = e5 .before .before .before .before in
+    let e3 = e4 .before .before .before .before in
+    let e2 = e3 .before .before .before .before in
+    let e1 = e2 .before .before .before .before in
+    let s = e1 .before .before .before in
+    (then (e1 .put-three .ensures)
+    (then (e2 .put-three2 .ensures)
+    (then (e3 .put-byte .ensures)
+    (then (e4 .put-count .ensures)
+    (then (e5 .put-count2 .ensures)
+    (e6 .put-byte2 .ensures))))))
+
+pub put-refused-spec : {M : Type 1} → statement M
+put-refused-spec =
+    tie.close
+    (tie.spec
+    put-three-requires
+    put-three-requires-2
+    put-byte-requires
+    put-count-requires
+    put-count-requires-2
+    put-byte-requires-2
+    same-length
+    returns)

@@ -1,0 +1,108 @@
+-- `listing::solve::list_table` meets its contract. Assumes nothing.
+use mathlib.Core.Path.{_∙_}
+use borrow.Author.Needs.{needs}
+use denote.Ref.{now}
+use lib.ListN.{length}
+use Rattle.adjustment.specs.Promise.{lists}
+use Rattle.text.proofs.Putting.{rewrote}
+use Rattle.listing.proofs.Tabling.{Lent, listed-refused, listed-accepted, answered, table-accepted}
+use Rattle.listing.proofs.solve.list_table.Statement.{statement}
+use Rattle.listing.proofs.solve.list_table.Tie as tie
+
+adjust-requires : tie.Need-adjust-requires
+adjust-requires c κs = search needs
+
+-- ---- what `adjust` has answered
+module _ (c : tie.After-adjust) where
+  abbrev start : tie.Start
+  start = c .before .before .before .before .before .before .before .before
+
+  lent-lists : Lent (length (now (start .args .directions))) (length (now (start .args .w)))
+      (lists (now (start .args .v)) (now (start .args .u)) (now (start .args .adjusted)) (now (start .args .k)) (now (start .args .r)) (now (start .args .misses)))
+  lent-lists =
+      let d = start .pre .1 .0 in let n = start .pre .1 .1 in
+      record { corrections = d .0; printed = d .1; adjusted = d .2; correlates = n .0; remainders = n .1; misses = n .2 }
+
+enum-known-reply : tie.Need-enum-known-reply
+enum-known-reply c = search needs
+
+same-length : tie.Need-same-length
+same-length c = search needs
+
+same-length-2 : tie.Need-same-length-2
+same-length-2 c = search needs
+
+same-length-3 : tie.Need-same-length-3
+same-length-3 c = search needs
+
+same-length-4 : tie.Need-same-length-4
+same-length-4 c = search needs
+
+same-length-5 : tie.Need-same-length-5
+same-length-5 c = search needs
+
+same-length-6 : tie.Need-same-length-6
+same-length-6 c = search needs
+
+returns : tie.Need-returns
+returns c =
+    let r = c .before in let a = r .before .before .before .before .before .before .before .before in let s = start a in
+    listed-refused _ (answered (now (s .args .directions)) (now (s .args .q)) (now (s .args .a)) (now (s .args .w)) (lent-lists a) (a .adjust .ensures) ∙ r .reply .given .1)
+
+enum-told : tie.Need-enum-told
+enum-told c = search needs
+
+put-accepted-requires : tie.Need-put-accepted-requires
+put-accepted-requires c κs = search needs
+
+same-length-7 : tie.Need-same-length-7
+same-length-7 c = search needs
+
+same-length-8 : tie.Need-same-length-8
+same-length-8 c = search needs
+
+same-length-9 : tie.Need-same-length-9
+same-length-9 c = search needs
+
+same-length-10 : tie.Need-same-length-10
+same-length-10 c = search needs
+
+same-length-11 : tie.Need-same-length-11
+same-length-11 c = search needs
+
+same-length-12 : tie.Need-same-length-12
+same-length-12 c = search needs
+
+same-length-13 : tie.Need-same-length-13
+same-length-13 c = search needs
+
+returns-2 : tie.Need-returns-2
+returns-2 c =
+    let p = c .before .before in let t = p .before .before .before .before .before .before .before in let a = t .before .before .before .before .before .before .before .before in let s = start a in
+    let e = t .enum-told .given .1 in
+    listed-accepted (answered (now (s .args .directions)) (now (s .args .q)) (now (s .args .a)) (now (s .args .w)) (lent-lists a) (a .adjust .ensures) ∙ e)
+    (rewrote (table-accepted (now (s .args .directions)) (now (s .args .q)) (now (s .args .a)) (now (s .args .w)) (lent-lists a) (a .adjust .ensures) (s .pre .0 .3) e) (p .put-accepted .ensures))
+
+pub list-table-spec : {M : Type 1} → statement M
+list-table-spec =
+    tie.close
+    (tie.spec
+    adjust-requires
+    enum-known-reply
+    same-length
+    same-length-2
+    same-length-3
+    same-length-4
+    same-length-5
+    same-length-6
+    returns
+    enum-told
+    put-accepted-requires
+    same-length-7
+    same-length-8
+    same-length-9
+    same-length-10
+    same-length-11
+    same-length-12
+    same-length-13
+    returns-2)

@@ -1,0 +1,44 @@
+-- The listing of an adjusted net, byte for byte. "Its output: ADJ with m and n; V with number, u, adjusted; K with condition, K, R, Q. Tabs part these
+-- fields too." "A refusal prints one line: REFUSED, number, place."
+use mathlib.Core.List.{List, [], _∷_, _++_}
+use Prim.Native.Nat.{ℕ, _+_}
+use lib.ListN.{getD}
+use lib.IntN.{ℤ, pos}
+use Rattle.text.specs.Written.{signedField, countField, lineEnd, inOrder}
+
+-- ADJ, m, n
+abbrev pub adjLine : ℕ → ℕ → List ℕ
+adjLine m n = (65 ∷ 68 ∷ 74 ∷ []) ++ (countField m ++ (countField n ++ lineEnd))
+
+-- the head of a V or a K line: its letter, a number and two signed numbers
+abbrev pub lineHead : ℕ → ℕ → ℤ → ℤ → List ℕ
+lineHead letter number first second = (letter ∷ []) ++ (countField number ++ (signedField first ++ signedField second))
+
+-- V, number, u, adjusted
+abbrev pub vLine : ℕ → ℤ → ℤ → List ℕ
+vLine number u adjusted = lineHead 86 number u adjusted ++ lineEnd
+
+-- K, condition, K, R, Q
+abbrev pub kLine : ℕ → ℤ → ℤ → ℤ → List ℕ
+kLine condition k r q = lineHead 75 condition k r ++ (signedField q ++ lineEnd)
+
+-- REFUSED, number, place
+abbrev pub refusedLine : ℕ → ℕ → List ℕ
+refusedLine number place = (82 ∷ 69 ∷ 70 ∷ []) ++ ((85 ∷ 83 ∷ 69 ∷ []) ++ ((68 ∷ []) ++ (countField number ++ (countField place ++ lineEnd))))
+
+-- line i + 1 of each kind, by the numbers at place i of their lists
+abbrev pub vLineOf : (u adjusted : List ℤ) → ℕ → List ℕ
+vLineOf u adjusted i = vLine (i + 1) (getD u i (pos 0)) (getD adjusted i (pos 0))
+
+abbrev pub kLineOf : (k r q : List ℤ) → ℕ → List ℕ
+kLineOf k r q j = kLine (j + 1) (getD k j (pos 0)) (getD r j (pos 0)) (getD q j (pos 0))
+
+abbrev pub vLines : (m : ℕ) (u adjusted : List ℤ) → List ℕ
+vLines m u adjusted = inOrder m (vLineOf u adjusted)
+
+abbrev pub kLines : (n : ℕ) (k r q : List ℤ) → List ℕ
+kLines n k r q = inOrder n (kLineOf k r q)
+
+-- the whole listing of an accepted net
+abbrev pub acceptedListing : (m n : ℕ) (u adjusted k r q : List ℤ) → List ℕ
+acceptedListing m n u adjusted k r q = adjLine m n ++ (vLines m u adjusted ++ kLines n k r q)

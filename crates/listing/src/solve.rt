@@ -1,0 +1,75 @@
+// The last pass: a net's condition table through `adjustment`, and its listing.
+ghost use mathlib.Core.Path.{_≡_};
+ghost use Prim.Native.Nat.{_≤_};
+ghost use lib.ListN.{length};
+ghost use Rattle.adjustment.specs.Promise.{adjustReply};
+ghost use Rattle.listing.specs.File.{room};
+ghost use Rattle.listing.specs.File.{tableListing, ListedBy};
+use crate::Listed;
+use crate::lines;
+use reply::Reply;
+
+// The listing of a lent condition table that is accepted, from the start of the buffer; the six answer lists are lent too.
+fn list_table(
+    directions: &[i64],
+    q: &[i64],
+    a: &[i64],
+    w: &[i64],
+    v: &mut [i64],
+    u: &mut [i64],
+    adjusted: &mut [i64],
+    k: &mut [i64],
+    r: &mut [i64],
+    misses: &mut [i64],
+    out: &mut [u8],
+) -> Listed
+    requires { ⌜ (length (now directions) ≤ 64) × (length (now w) ≤ 24) × (6560 ≤ length (now out)) × (length (now q) ≡ length (now directions)) ⌝ }
+    requires { ⌜ (length (now v) ≡ length (now directions)) × (length (now u) ≡ length (now directions)) × (length (now adjusted) ≡ length (now directions)) ⌝ }
+    requires { ⌜ (length (now k) ≡ length (now w)) × (length (now r) ≡ length (now w)) × (length (now misses) ≡ length (now w)) ⌝ }
+    ensures { λ l. ⌜ ListedBy
+        (adjustReply (now (directions .entry)) (now (q .entry)) (now (a .entry)) (now (w .entry)) (room (length (now (directions .entry))) (length (now (w .entry)))))
+        (tableListing (now (directions .entry)) (now (q .entry)) (now (a .entry)) (now (w .entry))) (now (out .entry)) l (now (out .exit)) ⌝ }
+{
+    let reply = adjustment::adjust(directions, q, a, w, v, u, adjusted, k, r, misses);
+    if let Reply::Refused(why) = reply {
+        return Listed {
+            reply: Reply::Refused(why),
+            length: 0,
+        };
+    }
+    let length = lines::put_accepted(out, directions.len(), w.len(), u, adjusted, k, r, misses);
+    Listed {
+        reply: Reply::Accepted,
+        length,
+    }
+}
+
+// The same, with answer lists of its own.
+pub fn solve(directions: &[i64], q: &[i64], a: &[i64], w: &[i64], out: &mut [u8]) -> Listed
+    requires { ⌜ (length (now directions) ≤ 64) × (length (now w) ≤ 24) × (6560 ≤ length (now out)) × (length (now q) ≡ length (now directions)) ⌝ }
+    ensures { λ l. ⌜ ListedBy
+        (adjustReply (now (directions .entry)) (now (q .entry)) (now (a .entry)) (now (w .entry)) (room (length (now (directions .entry))) (length (now (w .entry)))))
+        (tableListing (now (directions .entry)) (now (q .entry)) (now (a .entry)) (now (w .entry))) (now (out .entry)) l (now (out .exit)) ⌝ }
+{
+    let m = directions.len();
+    let n = w.len();
+    let mut v = [0i64; 64];
+    let mut u = [0i64; 64];
+    let mut adjusted = [0i64; 64];
+    let mut k = [0i64; 24];
+    let mut r = [0i64; 24];
+    let mut misses = [0i64; 24];
+    list_table(
+        directions,
+        q,
+        a,
+        w,
+        &mut v[..m],
+        &mut u[..m],
+        &mut adjusted[..m],
+        &mut k[..n],
+        &mut r[..n],
+        &mut misses[..n],
+        out,
+    )
+}

@@ -1,0 +1,134 @@
+-- Laws of the numbers that the network file writes. Assumes nothing.
+--   digit-low, digit-high, digit-next, digit-end   how the digits are read on from a place
+--   small-next, small-11                           i digits have a value below 10 ^ i, 11 digits at most below 10 ^ 11
+--   small-of                                       the same, of an enum that is known to hold the value
+--   small-fits, minus-fits                         so the value fits a signed number, with and without the minus
+--   plus-whole, plus-none, minus-..                the number, with and without the minus
+--   unsigned-empty, -long, -zero, -many, -one      the digits, by their count and the first of them
+--   number-empty, number-minus, number-plus        the number, by the first byte of its text
+--   rest                                           what the code cuts off after the first byte is the text without it
+use mathlib.Core.Path.{_≡_, refl, sym, _∙_, ap, subst}
+use mathlib.Core.List.{List, [], _∷_}
+use Prim.Native.Nat.{ℕ, zero, suc, _+_, _-_, _*_, _<_, _≤_, _^_}
+use native.Mathlib.Numerals.{add-one}
+use native.Mathlib.Nat.{pow-succ', pow-le-pow-right}
+use native.Mathlib.Omega.{arith}
+use borrow.Author.Tests.{lt-ltb, le-ltb, eq-eqb, ne-eqb}
+use lib.Dec.{lit<}
+use lib.ListN.{length, getD, take, drop, drop-of-length-le, length-drop}
+use lib.IntN.{ℤ, pos, negℤ, _-ℤ_, +ℤ-idl}
+use lib.Seq.{drop-cons, take-all}
+use mir.Syntax.{w64}
+use mir.Val.{SFits, toZ, ofZ}
+use Rattle.exact.proofs.Bound.{read}
+use Rattle.text.specs.Numbers.{readDigits, Small, plus, minus, unsignedOf, numeral}
+use Rattle.text.specs.declared.number.Number.the-variants.{Value, Malformed}
+use Rattle.text.specs.declared.number.Digits.{Digits}
+use Rattle.text.specs.declared.number.Digits.the-variants.{Whole, NoDigits}
+
+-- ---- reading on from place i, after the value v
+module _ (s : List ℕ) (v i : ℕ) where
+  pub digit-low : i < length s → getD s i 0 < 48 → NoDigits ≡ readDigits v (drop i s)
+  unfolding readDigits
+  digit-low l h = rw (drop-cons s i 0 l, lt-ltb (getD s i 0) 48 h)
+
+  pub digit-high : i < length s → 48 ≤ getD s i 0 → 57 < getD s i 0 → NoDigits ≡ readDigits v (drop i s)
+  unfolding readDigits
+  digit-high l h k = rw (drop-cons s i 0 l, le-ltb (getD s i 0) 48 h, lt-ltb 57 (getD s i 0) k)
+
+  pub digit-next : i < length s → 48 ≤ getD s i 0 → getD s i 0 ≤ 57
+      → readDigits (10 * v + (getD s i 0 - 48)) (drop (i + 1) s) ≡ readDigits v (drop i s)
+  unfolding readDigits
+  digit-next l h k = rw (drop-cons s i 0 l, le-ltb (getD s i 0) 48 h, le-ltb 57 (getD s i 0) k, add-one i)
+
+  pub digit-end : length s ≤ i → Whole v ≡ readDigits v (drop i s)
+  unfolding readDigits
+  digit-end l = rw (drop-of-length-le s l)
+
+-- ---- the size of the value
+pub small-next : (v d i : ℕ) → v < 10 ^ i → d ≤ 9 → 10 * v + d < 10 ^ (i + 1)
+small-next v d i h k = rw (add-one i, pow-succ' 10 i) (omega arith)
+
+pub small-11 : (v i : ℕ) → v < 10 ^ i → i ≤ 11 → v < 10 ^ 11
+small-11 v i h l = omega (arith, pow-le-pow-right {n = 10} (lit< tt) l)
+
+pub small-of : {d : Digits} {v : ℕ} → d ≡ Whole v → Small d → v < 10 ^ 11
+small-of e h = subst Small e h
+
+pub small-fits : (v : ℕ) → v < 10 ^ 11 → SFits w64 (pos v)
+small-fits v h = record { sfits = omega arith }
+
+small-read : (v : ℕ) → v < 10 ^ 11 → toZ w64 v ≡ pos v
+small-read v h = read (small-fits v h)
+
+neg-fits : (v : ℕ) → v < 10 ^ 11 → SFits w64 (negℤ (pos v))
+neg-fits zero h = record { sfits = omega arith }
+neg-fits (suc v) h = record { sfits = omega arith }
+
+-- 0 - v, as the machine forms it from the bits of v
+minus-is : (v : ℕ) → v < 10 ^ 11 → pos 0 -ℤ toZ w64 v ≡ negℤ (pos v)
+minus-is v h = ap (λ (z : ℤ). pos 0 -ℤ z) (small-read v h) ∙ +ℤ-idl (negℤ (pos v))
+
+pub minus-fits : (v : ℕ) → v < 10 ^ 11 → SFits w64 (pos 0 -ℤ toZ w64 v)
+minus-fits v h = subst (SFits w64) (sym (minus-is v h)) (neg-fits v h)
+
+-- ---- with and without the minus
+module _ {d : Digits} {v : ℕ} (e : d ≡ Whole v) where
+  pub plus-whole : v < 10 ^ 11 → Value (toZ w64 v) ≡ plus d
+  unfolding plus
+  plus-whole h = rw (e, small-read v h)
+
+  pub minus-zero : v ≡ 0 → Malformed ≡ minus d
+  unfolding minus
+  minus-zero z = rw (e, eq-eqb v 0 z)
+
+  pub minus-whole : (v ≡ 0 → ⊥) → v < 10 ^ 11 → Value (toZ w64 (ofZ w64 (pos 0 -ℤ toZ w64 v))) ≡ minus d
+  unfolding minus
+  minus-whole z h = rw (e, ne-eqb v 0 z, read (minus-fits v h) ∙ minus-is v h)
+
+pub plus-none : {d : Digits} → d ≡ NoDigits → Malformed ≡ plus d
+unfolding plus
+plus-none e = rw e
+
+pub minus-none : {d : Digits} → d ≡ NoDigits → Malformed ≡ minus d
+unfolding minus
+minus-none e = rw e
+
+-- ---- the digits of a text s, and its number
+module _ (s : List ℕ) where
+  pub unsigned-empty : length s ≡ 0 → NoDigits ≡ unsignedOf s
+  unfolding unsignedOf
+  unsigned-empty e = rw (eq-eqb (length s) 0 e)
+
+  pub unsigned-long : (length s ≡ 0 → ⊥) → 11 < length s → NoDigits ≡ unsignedOf s
+  unfolding unsignedOf
+  unsigned-long e l = rw (ne-eqb (length s) 0 e, lt-ltb 11 (length s) l)
+
+  module _ (e : length s ≡ 0 → ⊥) (l : length s ≤ 11) where
+    pub unsigned-zero : 1 < length s → getD s 0 0 ≡ 48 → NoDigits ≡ unsignedOf s
+    unfolding unsignedOf
+    unsigned-zero m z = rw (ne-eqb (length s) 0 e, le-ltb 11 (length s) l, lt-ltb 1 (length s) m, eq-eqb (getD s 0 0) 48 z)
+
+    pub unsigned-many : 1 < length s → (getD s 0 0 ≡ 48 → ⊥) → readDigits 0 s ≡ unsignedOf s
+    unfolding unsignedOf
+    unsigned-many m z = rw (ne-eqb (length s) 0 e, le-ltb 11 (length s) l, lt-ltb 1 (length s) m, ne-eqb (getD s 0 0) 48 z)
+
+    pub unsigned-one : length s ≤ 1 → readDigits 0 s ≡ unsignedOf s
+    unfolding unsignedOf
+    unsigned-one m = rw (ne-eqb (length s) 0 e, le-ltb 11 (length s) l, le-ltb 1 (length s) m)
+
+  pub number-minus : getD s 0 0 ≡ 45 → minus (unsignedOf (drop 1 s)) ≡ numeral s
+  unfolding numeral
+  number-minus e = rw (eq-eqb (getD s 0 0) 45 e)
+
+  pub number-plus : (getD s 0 0 ≡ 45 → ⊥) → plus (unsignedOf s) ≡ numeral s
+  unfolding numeral
+  number-plus e = rw (ne-eqb (getD s 0 0) 45 e)
+
+pub number-empty : (s : List ℕ) → length s ≡ 0 → Malformed ≡ numeral s
+unfolding numeral unsignedOf plus
+number-empty [] e = refl
+number-empty (x ∷ s) e = absurd (omega (arith, e))
+
+pub rest : (s : List ℕ) → take (length s - 1) (drop 1 s) ≡ drop 1 s
+rest s = take-all (length s - 1) (drop 1 s) (simp length-drop (omega arith))

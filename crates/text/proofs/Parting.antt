@@ -1,0 +1,95 @@
+-- Laws of a search for a byte in a text, and of the parts into which the byte parts it. Assumes nothing.
+--   place-here, place-next, place-end      the search stands on the byte, on another one, at the end
+--   place-after, place-within              it ends at or after its start, and within a text in which it begins
+--   parts-more                             the parts from a start: the one there, and those after the byte that ends it
+--   parts-dropped, parts-last              the parts of a text without the byte: none, or the text itself
+use mathlib.Core.Path.{_≡_, refl}
+use mathlib.Core.Bool.{Bool, true, false, cond}
+use mathlib.Core.List.{List, [], _∷_}
+use Prim.Native.Nat.{ℕ, suc, _+_, _<_, _≤_}
+use native.Mathlib.Numerals.{add-one}
+use native.Mathlib.Nat.{add-zero, add-assoc}
+use native.Mathlib.Omega.{arith}
+use borrow.Author.Tests.{eq-eqb, ne-eqb}
+use lib.Dec.{eqb}
+use lib.ListN.{length, getD, take, drop, drop-of-length-le, length-drop}
+use lib.Seq.{drop-cons, drop-drop}
+use Rattle.text.specs.Parts.{bytesBefore, placeFrom, onFirst, parted}
+
+-- ---- the search
+module _ (byte : ℕ) (s : List ℕ) (i : ℕ) where
+  pub place-here : i < length s → getD s i 0 ≡ byte → placeFrom byte s i ≡ i
+  unfolding placeFrom bytesBefore
+  place-here l e = rw (drop-cons s i 0 l, eq-eqb (getD s i 0) byte e, add-zero)
+
+  pub place-next : i < length s → (getD s i 0 ≡ byte → ⊥) → placeFrom byte s i ≡ placeFrom byte s (i + 1)
+  unfolding placeFrom bytesBefore
+  place-next l ne = rw (drop-cons s i 0 l, ne-eqb (getD s i 0) byte ne, add-one i) (omega arith)
+
+  pub place-end : length s ≤ i → placeFrom byte s i ≡ i
+  unfolding placeFrom bytesBefore
+  place-end l = rw (drop-of-length-le s l, add-zero)
+
+  pub place-after : i ≤ placeFrom byte s i
+  unfolding placeFrom
+  place-after = omega arith
+
+before-step : (s : List ℕ) (n : ℕ) (b : Bool) → n ≤ length s → cond b 0 (suc n) ≤ suc (length s)
+before-step s n true h = omega arith
+before-step s n false h = omega arith
+
+pub before-le : (byte : ℕ) (s : List ℕ) → bytesBefore byte s ≤ length s
+unfolding bytesBefore
+before-le byte [] = omega arith
+before-le byte (x ∷ s) = before-step s (bytesBefore byte s) (eqb x byte) (before-le byte s)
+
+pub place-within : (byte : ℕ) (s : List ℕ) (i : ℕ) → i ≤ length s → placeFrom byte s i ≤ length s
+unfolding placeFrom
+place-within byte s i l = omega (arith, before-le byte (drop i s), length-drop i s)
+
+-- ---- the parts
+module _ (byte : ℕ) (end : List (List ℕ)) where
+  more-step : (x : ℕ) (xs : List ℕ) (b : Bool)
+      → (bytesBefore byte xs < length xs → parted byte end xs ≡ take (bytesBefore byte xs) xs ∷ parted byte end (drop (bytesBefore byte xs + 1) xs))
+      → cond b 0 (suc (bytesBefore byte xs)) < suc (length xs)
+      → cond b ([] ∷ parted byte end xs) (onFirst x (parted byte end xs))
+      ≡ take (cond b 0 (suc (bytesBefore byte xs))) (x ∷ xs) ∷ parted byte end (drop (cond b 0 (suc (bytesBefore byte xs)) + 1) (x ∷ xs))
+  unfolding onFirst
+  more-step x xs true rec l = refl
+  more-step x xs false rec l = rw (rec (omega arith), add-one (suc (bytesBefore byte xs)), add-one (bytesBefore byte xs))
+
+  more : (r : List ℕ) → bytesBefore byte r < length r → parted byte end r ≡ take (bytesBefore byte r) r ∷ parted byte end (drop (bytesBefore byte r + 1) r)
+  unfolding parted bytesBefore
+  more [] l = absurd (omega arith)
+  more (x ∷ xs) l = more-step x xs (eqb x byte) (more xs) l
+
+  pub parts-more : (s : List ℕ) (i : ℕ) → placeFrom byte s i < length s
+      → parted byte end (drop i s) ≡ take (bytesBefore byte (drop i s)) (drop i s) ∷ parted byte end (drop (placeFrom byte s i + 1) s)
+  unfolding placeFrom
+  parts-more s i l =
+      let far : bytesBefore byte (drop i s) < length (drop i s) = omega (arith, length-drop i s) in
+      rw (more (drop i s) far, drop-drop, add-assoc)
+
+module _ (byte : ℕ) where
+  dropped-step : (x : ℕ) (xs : List ℕ) (b : Bool) → (length xs ≤ bytesBefore byte xs → parted byte [] xs ≡ [])
+      → suc (length xs) ≤ cond b 0 (suc (bytesBefore byte xs)) → cond b ([] ∷ parted byte [] xs) (onFirst x (parted byte [] xs)) ≡ []
+  unfolding onFirst
+  dropped-step x xs true rec l = absurd (omega arith)
+  dropped-step x xs false rec l = rw (rec (omega arith))
+
+  pub parts-dropped : (r : List ℕ) → length r ≤ bytesBefore byte r → parted byte [] r ≡ []
+  unfolding parted bytesBefore
+  parts-dropped [] l = refl
+  parts-dropped (x ∷ xs) l = dropped-step x xs (eqb x byte) (parts-dropped xs) l
+
+  last-step : (x : ℕ) (xs : List ℕ) (b : Bool) → (length xs ≤ bytesBefore byte xs → parted byte ([] ∷ []) xs ≡ xs ∷ [])
+      → suc (length xs) ≤ cond b 0 (suc (bytesBefore byte xs))
+      → cond b ([] ∷ parted byte ([] ∷ []) xs) (onFirst x (parted byte ([] ∷ []) xs)) ≡ (x ∷ xs) ∷ []
+  unfolding onFirst
+  last-step x xs true rec l = absurd (omega arith)
+  last-step x xs false rec l = rw (rec (omega arith))
+
+  pub parts-last : (r : List ℕ) → length r ≤ bytesBefore byte r → parted byte ([] ∷ []) r ≡ r ∷ []
+  unfolding parted bytesBefore
+  parts-last [] l = refl
+  parts-last (x ∷ xs) l = last-step x xs (eqb x byte) (parts-last xs) l

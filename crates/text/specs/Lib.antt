@@ -1,0 +1,6 @@
+pub mod Parts
+pub mod Lines
+pub mod Fields
+pub mod Numbers
+pub mod Decimal
+pub mod Written

@@ -1,0 +1,24 @@
+-- The lines of a file, "each ended by LF": the line at a start, what the companion says of that start, and the list of all lines.
+use mathlib.Core.Bool.{cond}
+use mathlib.Core.List.{List, []}
+use Prim.Native.Nat.{ℕ}
+use lib.ListN.{length, take, drop}
+use lib.Dec.{ltb}
+use Rattle.text.specs.Parts.{bytesBefore, placeFrom, parted}
+use Rattle.text.specs.declared.line.LineStatus.{LineStatus}
+use Rattle.text.specs.declared.line.LineStatus.the-variants.{Whole, NoneLeft, LfMissing}
+
+abbrev pub LF : ℕ
+LF = 10
+
+-- "The reader hands back the line itself as the caller's own bytes, without its LF." Where none is left or its LF is missing "the part handed back is empty"
+unfoldable pub lineAt : List ℕ → ℕ → List ℕ
+lineAt file start = cond (ltb (placeFrom LF file start) (length file)) (take (bytesBefore LF (drop start file)) (drop start file)) []
+
+-- "A companion reply for the same start says line, none left (start at or past the end) or LF missing"
+unfoldable pub statusAt : List ℕ → ℕ → LineStatus
+statusAt file start = cond (ltb start (length file)) (cond (ltb (placeFrom LF file start) (length file)) Whole LfMissing) NoneLeft
+
+-- all lines of a file that have their LF, in order, each without it; bytes after the last LF are no line
+unfoldable pub linesOf : List ℕ → List (List ℕ)
+linesOf file = parted LF [] file

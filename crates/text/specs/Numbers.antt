@@ -1,0 +1,43 @@
+-- Numbers as the network file writes them: "optional minus, no leading zero except "0" itself, no "-0", 1 to 11 digits".
+use mathlib.Core.Bool.{Bool, cond, _||_, _&&_}
+use mathlib.Core.List.{List, [], _∷_}
+use Prim.Native.Nat.{ℕ, _+_, _*_, _-_, _<_, _^_}
+use lib.ListN.{length, getD, drop}
+use lib.IntN.{pos, negℤ}
+use lib.Dec.{eqb, ltb}
+use Rattle.text.specs.declared.number.Digits.{Digits}
+use Rattle.text.specs.declared.number.Digits.the-variants.{Whole, NoDigits}
+use Rattle.text.specs.declared.number.Number.{Number}
+use Rattle.text.specs.declared.number.Number.the-variants.{Value, Malformed}
+
+-- the digits 0 to 9 are the bytes 48 to 57
+abbrev pub noDigit : ℕ → Bool
+noDigit b = ltb b 48 || ltb 57 b
+
+-- a text of digits alone, after the value v of those before it
+unfoldable pub readDigits : ℕ → List ℕ → Digits
+readDigits v [] = Whole v
+readDigits v (b ∷ bs) = cond (noDigit b) NoDigits (readDigits (10 * v + (b - 48)) bs)
+
+-- "no leading zero except "0" itself", "1 to 11 digits"
+unfoldable pub unsignedOf : List ℕ → Digits
+unsignedOf text =
+    cond (eqb (length text) 0 || (ltb 11 (length text) || (ltb 1 (length text) && eqb (getD text 0 0) 48))) NoDigits (readDigits 0 text)
+
+-- a value of at most 11 digits
+abbrev pub Small : Digits → Type 0
+Small (Whole v) = v < 10 ^ 11
+Small NoDigits = Unit
+
+unfoldable pub plus : Digits → Number
+plus (Whole v) = Value (pos v)
+plus NoDigits = Malformed
+
+-- "no "-0""
+unfoldable pub minus : Digits → Number
+minus (Whole v) = cond (eqb v 0) Malformed (Value (negℤ (pos v)))
+minus NoDigits = Malformed
+
+-- "optional minus", the byte 45
+unfoldable pub numeral : List ℕ → Number
+numeral text = cond (eqb (getD text 0 0) 45) (minus (unsignedOf (drop 1 text))) (plus (unsignedOf text))
