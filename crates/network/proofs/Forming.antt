@@ -2,9 +2,12 @@
 --   row-refused, closing-refused, closing-accepted    what the two operations on its terms say of condition j
 --   row-is, row-length                               the row of a condition that is accepted, whatever stood there before
 --   part-length                                      the part of a list that a row takes
+--   heading-here                                     the condition that a C line begins
+--   closes                                           one condition, from its gathered terms
 --   FormedTo                                         what has been formed and what the conditions left give are all there is
---   formed-none, terms-fit, form-room                before the first line; what a C line needs
---   form-refused, form-more, form-other, form-end    after a C line that is refused or accepted, another line, the last line
+--   same-left                                        the same conditions left
+--   formed-none, terms-fit, form-turn, form-room     before the first; what one more needs
+--   form-refused, forms-refused, form-more, row-put, form-end   after one that is refused, or accepted, and after the last
 use mathlib.Core.Path.{_≡_, refl, sym, _∙_, ap, subst}
 use mathlib.Core.List.{List, [], _∷_, _++_, append-assoc}
 use Prim.Native.Nat.{ℕ, suc, _+_, _-_, _*_, _<_, _≤_}
@@ -26,14 +29,14 @@ use Rattle.reply.specs.Checks.{figureOf, figureReply, figureLeaves, figureValue
 use Rattle.reply.proofs.Checking.{never, both-accepted}
 use Rattle.condition.specs.declared.Kind.{Kind}
 use Rattle.condition.specs.Rules.{coefficientsReply, coefficientsList, misclosureFigure}
-use Rattle.network.specs.Net.{Condition, Net, headed, lineBefore, netOf, netFrom}
+use Rattle.network.specs.Net.{Condition, Net, headed, lineBefore, netFrom}
 use Rattle.network.specs.Net.{refusedAs, zeros, lentOf, conditionReply, formedReply, rowOf, misclosureOf, rowsOf, misclosuresOf}
-use Rattle.network.specs.Gathered.{headingIn, Fit}
+use Rattle.network.specs.Gathered.{headingIn, conditionIn, Gathers, Closes, Fit, Forms}
 use Rattle.network.specs.declared.conditions.Heading.{Heading}
 use Rattle.network.specs.declared.conditions.Heading.the-variants.{Of, NoHeading}
 use Rattle.network.specs.declared.record.Record.{Record}
 use Rattle.network.specs.declared.record.Record.the-variants.{Direction, Angles, Sides, Term, Unreadable}
-use Rattle.network.proofs.Walking.{Walked, taken-more, taken-all}
+use Rattle.network.proofs.Walking.{taken-more, taken-all}
 
 module _ (directions q : List ℤ) (j : ℕ) (c : Condition) where
   pub row-refused : (why : Refusal) → coefficientsReply (lentOf directions q c) (length directions) ≡ Refused why
@@ -89,22 +92,7 @@ module _ (directions q : List ℤ) (c : Condition) where
 pub part-length : (at m : ℕ) (a : List ℤ) → at + m ≤ 1536 → length a ≡ 1536 → length (take (at + m - at) (drop at a)) ≡ m
 part-length at m a l e = length-take-le (at + m - at) (drop at a) (omega (arith, l, e, length-drop at a)) ∙ omega arith
 
--- ---- the conditions in their order
-pub record FormedTo (file : List ℕ) (directions q a w : List ℤ) (start at n : ℕ) : Type 0 where
-  pub within : start ≤ length file
-  pub place : at ≡ n * length directions
-  pub count : n + length (netFrom file start .conditions) ≡ length (netFrom file 0 .conditions)
-  pub a-long : length a ≡ 1536
-  pub w-long : length w ≡ 24
-  pub fit : Fit (netFrom file start .conditions)
-  pub reply : formedReply directions q (n + 1) (netFrom file start .conditions) ≡ formedReply directions q 1 (netFrom file 0 .conditions)
-  pub rows : take at a ++ rowsOf directions q (netFrom file start .conditions) ≡ rowsOf directions q (netFrom file 0 .conditions)
-  pub closings : take n w ++ misclosuresOf directions q (netFrom file start .conditions) ≡ misclosuresOf directions q (netFrom file 0 .conditions)
-
-pub formed-none : (file : List ℕ) (directions q a w : List ℤ) → length a ≡ 1536 → length w ≡ 24 → Fit (netFrom file 0 .conditions) → FormedTo file directions q a w 0 0 0
-formed-none file directions q a w l k f =
-    record { within = omega arith; place = omega (arith, zero-mul (length directions)); count = omega arith; a-long = l; w-long = k; fit = f; reply = refl; rows = refl; closings = refl }
-
+-- ---- a C line
 -- what a heading says of the conditions
 abbrev kindOf : Kind → Heading → Kind
 kindOf other (Of kind target) = kind
@@ -118,7 +106,7 @@ abbrev headings : Heading → ℕ
 headings (Of kind target) = 1
 headings NoHeading = 0
 
-heading-here : (said : Record) (net : Net) (kind : Kind) (target : ℤ) → headingIn said ≡ Of kind target
+pub heading-here : (said : Record) (net : Net) (kind : Kind) (target : ℤ) → headingIn said ≡ Of kind target
     → lineBefore said net .conditions ≡ headed kind target (net .pending) ∷ net .conditions
 unfolding lineBefore headingIn
 heading-here (Direction number direction q) net kind target e = absurd (omega (arith, ap headings e))
@@ -128,159 +116,159 @@ heading-here Sides net kind target e = λ i. headed (ap (kindOf kind) e i) (ap (
 heading-here (Term letter value d i k) net kind target e = absurd (omega (arith, ap headings e))
 heading-here Unreadable net kind target e = absurd (omega (arith, ap headings e))
 
-heading-none : (said : Record) (net : Net) → headingIn said ≡ NoHeading → lineBefore said net .conditions ≡ net .conditions
-unfolding lineBefore headingIn
-heading-none (Direction number direction q) net e = refl
-heading-none (Angles x) net e = absurd (omega (arith, ap headings e))
-heading-none Sides net e = absurd (omega (arith, ap headings e))
-heading-none (Term letter value d i k) net e = refl
-heading-none Unreadable net e = refl
+-- ---- the conditions in their order: those in the first n rows and those left are all
+pub record FormedTo (all left : List Condition) (directions q a w : List ℤ) (at n : ℕ) : Type 0 where
+  pub place : at ≡ n * length directions
+  pub count : n + length left ≡ length all
+  pub a-long : length a ≡ 1536
+  pub w-long : length w ≡ 24
+  pub fit : Fit left
+  pub reply : formedReply directions q (n + 1) left ≡ formedReply directions q 1 all
+  pub rows : take at a ++ rowsOf directions q left ≡ rowsOf directions q all
+  pub closings : take n w ++ misclosuresOf directions q left ≡ misclosuresOf directions q all
 
-module _ {file : List ℕ} {directions q a w : List ℤ} {start at n : ℕ} (f : FormedTo file directions q a w start at n) where
+pub formed-none : (all : List Condition) (directions q a w : List ℤ) → length a ≡ 1536 → length w ≡ 24 → Fit all → FormedTo all all directions q a w 0 0
+formed-none all directions q a w l k f =
+    record { place = omega (arith, zero-mul (length directions)); count = omega arith; a-long = l; w-long = k; fit = f; reply = refl; rows = refl; closings = refl }
+
+pub same-left : {all left others : List Condition} {directions q a w : List ℤ} {at n : ℕ} → others ≡ left → FormedTo all left directions q a w at n → FormedTo all others directions q a w at n
+same-left {all} {left} {others} {directions} {q} {a} {w} {at} {n} e f = subst (λ (cs : List Condition). FormedTo all cs directions q a w at n) (sym e) f
+
+module _ {all left : List Condition} {directions q a w : List ℤ} {at n : ℕ} (f : FormedTo all left directions q a w at n) where
   abbrev m : ℕ
   m = length directions
 
-  module _ {said : Record} {next : ℕ} (walked : Walked file start said next) where
-    -- a C line
-    module _ (kind : Kind) (target : ℤ) (e : headingIn said ≡ Of kind target) where
-      abbrev c : Condition
-      c = headed kind target (netFrom file next .pending)
+  -- one more, c, and others after it
+  module _ {c : Condition} {rest : List Condition} (here : left ≡ c ∷ rest) where
+    fits : (length (c .kinds) ≤ 12) × Fit rest
+    unfolding Fit
+    fits = subst Fit here (f .fit)
 
-      abbrev rest : List Condition
-      rest = netFrom file next .conditions
+    pub terms-fit : length (c .kinds) ≤ 12
+    terms-fit = fits .0
 
-      here : netFrom file start .conditions ≡ c ∷ rest
-      here = ap (λ (net : Net). net .conditions) (walked .net) ∙ heading-here said (netFrom file next) kind target e
+    module _ (few : length all ≤ 24) (narrow : length directions ≤ 64) where
+      pub form-turn : n < 24
+      form-turn = omega (arith, few, f .count, ap length here)
 
-      fits : (length (c .kinds) ≤ 12) × Fit rest
-      unfolding Fit
-      fits = subst Fit here (f .fit)
+      pub form-room : at + m ≤ 1536
+      form-room = omega (arith, f .place, suc-mul n m, mul-le-mul {n₁ = suc n} {m₁ = m} {n₂ = 24} {m₂ = 64} (omega (arith, form-turn)) narrow)
 
-      pub terms-fit : length (netFrom file next .pending .kinds) ≤ 12
-      terms-fit = fits .0
+    onward : conditionReply directions q (n + 1) c andThen formedReply directions q (n + 1 + 1) rest ≡ formedReply directions q 1 all
+    unfolding formedReply
+    onward = rw (add-one (n + 1)) (ap (formedReply directions q (n + 1)) (sym here) ∙ f .reply)
 
-      module _ (few : length (netFrom file 0 .conditions) ≤ 24) (narrow : length directions ≤ 64) where
-        pub form-turn : n < 24
-        form-turn = omega (arith, few, f .count, ap length here)
+    abbrev figure : Figure
+    figure = figureOf (conditionReply directions q (n + 1) c) (misclosureOf directions q c)
 
-        pub form-room : at + m ≤ 1536
-        form-room = omega (arith, f .place, suc-mul n m, mul-le-mul {n₁ = suc n} {m₁ = m} {n₂ = 24} {m₂ = 64} (omega (arith, form-turn)) narrow)
+    pub form-refused : (why : Refusal) → figure ≡ NoFigure why → Refused why ≡ formedReply directions q 1 all
+    form-refused why z =
+        let refused : conditionReply directions q (n + 1) c ≡ Refused why
+        = sym (figure-reply (conditionReply directions q (n + 1) c) (misclosureOf directions q c)) ∙ ap figureReply z in
+        ap (λ (r : Reply). r andThen formedReply directions q (n + 1 + 1) rest) (sym refused) ∙ onward
 
-      onward : conditionReply directions q (n + 1) c andThen formedReply directions q (n + 1 + 1) rest ≡ formedReply directions q 1 (netFrom file 0 .conditions)
-      unfolding formedReply
-      onward = rw (add-one (n + 1)) (ap (formedReply directions q (n + 1)) (sym here) ∙ f .reply)
+    -- what stands in the row after it, and after the row is put back into its place
+    module _ (few : length all ≤ 24) (narrow : length directions ≤ 64)
+        (row old : List ℤ) (k : ℕ) (h : row ≡ coefficientsList (lentOf directions q c) old) (l : length old ≡ length directions) (wide : k ≡ length directions) where
+      row-long : length row ≡ length directions
+      row-long = ap length h ∙ row-length directions q c old l ∙ l
 
-      abbrev figure : Figure
-      figure = figureOf (conditionReply directions q (n + 1) c) (misclosureOf directions q c)
+      at-most : at ≤ length a
+      at-most = omega (arith, f .a-long, form-room few narrow)
 
-      pub form-refused : (why : Refusal) → figure ≡ NoFigure why → Refused why ≡ formedReply directions q 1 (netFrom file 0 .conditions)
-      form-refused why z =
-          let refused : conditionReply directions q (n + 1) c ≡ Refused why
-          = sym (figure-reply (conditionReply directions q (n + 1) c) (misclosureOf directions q c)) ∙ ap figureReply z in
-          ap (λ (r : Reply). r andThen formedReply directions q (n + 1 + 1) rest) (sym refused) ∙ onward
+      pub row-put : length (putMid at k a row) ≡ length a
+      row-put =
+          omega (
+            arith,
+            f .a-long,
+            form-room few narrow,
+            row-long,
+            wide,
+            length-append (take at a) (row ++ postOf at k a),
+            length-append row (postOf at k a),
+            length-take-le at a at-most,
+            length-drop k (drop at a),
+            length-drop at a,
+          )
 
-      -- what stands in the row after it, and after the row is put back into its place
-      module _ (few : length (netFrom file 0 .conditions) ≤ 24) (narrow : length directions ≤ 64)
-          (row old : List ℤ) (k : ℕ) (h : row ≡ coefficientsList (lentOf directions q c) old) (l : length old ≡ length directions) (wide : k ≡ length directions) where
-        row-long : length row ≡ length directions
-        row-long = ap length h ∙ row-length directions q c old l ∙ l
+      module _ (x : ℤ) (z : figure ≡ Value x) where
+        accepted : conditionReply directions q (n + 1) c ≡ Accepted
+        accepted = sym (figure-reply (conditionReply directions q (n + 1) c) (misclosureOf directions q c)) ∙ ap figureReply z
 
-        at-most : at ≤ length a
-        at-most = omega (arith, f .a-long, form-room few narrow)
+        closed : misclosureOf directions q c ≡ x
+        closed = sym (figure-value (conditionReply directions q (n + 1) c) (misclosureOf directions q c)) ∙ ap (λ (f : Figure). figureLeaves f (misclosureOf directions q c)) z
 
-        pub row-put : length (putMid at k a row) ≡ length a
-        row-put =
-            omega (
-              arith,
-              f .a-long,
-              form-room few narrow,
-              row-long,
-              wide,
-              length-append (take at a) (row ++ postOf at k a),
-              length-append row (postOf at k a),
-              length-take-le at a at-most,
-              length-drop k (drop at a),
-              length-drop at a,
-            )
+        row-here : row ≡ rowOf directions q c
+        row-here = h ∙ row-is directions q c (n + 1) accepted old l
 
-        module _ (x : ℤ) (z : figure ≡ Value x) where
-          accepted : conditionReply directions q (n + 1) c ≡ Accepted
-          accepted = sym (figure-reply (conditionReply directions q (n + 1) c) (misclosureOf directions q c)) ∙ ap figureReply z
+        head-long : length (take at a ++ row) ≡ at + m
+        head-long = omega (arith, length-append (take at a) row, length-take-le at a at-most, row-long)
 
-          closed : misclosureOf directions q c ≡ x
-          closed = sym (figure-value (conditionReply directions q (n + 1) c) (misclosureOf directions q c)) ∙ ap (λ (f : Figure). figureLeaves f (misclosureOf directions q c)) z
+        rows-here : take (at + m) (putMid at k a row) ++ rowsOf directions q rest ≡ rowsOf directions q all
+        unfolding rowsOf
+        rows-here =
+            ap (λ (xs : List ℤ). take (at + m) xs ++ rowsOf directions q rest) (sym (append-assoc (take at a) row (postOf at k a)))
+            ∙ ap (λ (xs : List ℤ). xs ++ rowsOf directions q rest) (take-at (take at a ++ row) (postOf at k a) (at + m) head-long)
+            ∙ append-assoc (take at a) row (rowsOf directions q rest)
+            ∙ ap (λ (r : List ℤ). take at a ++ (r ++ rowsOf directions q rest)) row-here
+            ∙ ap (λ (cs : List Condition). take at a ++ rowsOf directions q cs) (sym here)
+            ∙ f .rows
 
-          row-here : row ≡ rowOf directions q c
-          row-here = h ∙ row-is directions q c (n + 1) accepted old l
-
-          head-long : length (take at a ++ row) ≡ at + m
-          head-long = omega (arith, length-append (take at a) row, length-take-le at a at-most, row-long)
-
-          rows-here : take (at + m) (putMid at k a row) ++ rowsOf directions q rest ≡ rowsOf directions q (netFrom file 0 .conditions)
-          unfolding rowsOf
-          rows-here =
-              ap (λ (xs : List ℤ). take (at + m) xs ++ rowsOf directions q rest) (sym (append-assoc (take at a) row (postOf at k a)))
-              ∙ ap (λ (xs : List ℤ). xs ++ rowsOf directions q rest) (take-at (take at a ++ row) (postOf at k a) (at + m) head-long)
-              ∙ append-assoc (take at a) row (rowsOf directions q rest)
-              ∙ ap (λ (r : List ℤ). take at a ++ (r ++ rowsOf directions q rest)) row-here
-              ∙ ap (λ (cs : List Condition). take at a ++ rowsOf directions q cs) (sym here)
-              ∙ f .rows
-
-          pub form-more : (y : ℤ) → y ≡ x → FormedTo file directions q (putMid at k a row) (set w n y) next (at + m) (n + 1)
-          unfolding misclosuresOf
-          form-more y same = record {
-            within = walked .within;
-            place = omega (arith, f .place, add-one n, suc-mul n m, ap (λ (j : ℕ). j * m) (add-one n));
-            count = omega (arith, f .count, ap length here);
-            a-long = row-put ∙ f .a-long;
-            w-long = length-set w n y ∙ f .w-long;
-            fit = fits .1;
-            reply = ap (λ (r : Reply). r andThen formedReply directions q (n + 1 + 1) rest) (sym accepted) ∙ onward;
-            rows = rows-here;
-            closings = taken-more w (misclosuresOf directions q rest) (misclosuresOf directions q (netFrom file 0 .conditions)) n y
-                (omega (arith, form-turn few narrow, f .w-long))
-                (ap (λ (v : ℤ). take n w ++ (v ∷ misclosuresOf directions q rest)) (same ∙ sym closed)
-                ∙ ap (λ (cs : List Condition). take n w ++ misclosuresOf directions q cs) (sym here) ∙ f .closings);
-          }
-
-    -- another line
-    pub form-other : headingIn said ≡ NoHeading → FormedTo file directions q a w next at n
-    form-other e =
-        let same : netFrom file start .conditions ≡ netFrom file next .conditions
-        = ap (λ (net : Net). net .conditions) (walked .net) ∙ heading-none said (netFrom file next) e in record {
-          within = walked .within;
-          place = f .place;
-          count = omega (arith, f .count, ap length same);
-          a-long = f .a-long;
-          w-long = f .w-long;
-          fit = subst Fit same (f .fit);
-          reply = ap (formedReply directions q (n + 1)) (sym same) ∙ f .reply;
-          rows = ap (λ (cs : List Condition). take at a ++ rowsOf directions q cs) (sym same) ∙ f .rows;
-          closings = ap (λ (cs : List Condition). take n w ++ misclosuresOf directions q cs) (sym same) ∙ f .closings;
+        pub form-more : (y : ℤ) → y ≡ x → FormedTo all rest directions q (putMid at k a row) (set w n y) (at + m) (n + 1)
+        unfolding misclosuresOf
+        form-more y same = record {
+          place = omega (arith, f .place, add-one n, suc-mul n m, ap (λ (j : ℕ). j * m) (add-one n));
+          count = omega (arith, f .count, ap length here);
+          a-long = row-put ∙ f .a-long;
+          w-long = length-set w n y ∙ f .w-long;
+          fit = fits .1;
+          reply = ap (λ (r : Reply). r andThen formedReply directions q (n + 1 + 1) rest) (sym accepted) ∙ onward;
+          rows = rows-here;
+          closings = taken-more w (misclosuresOf directions q rest) (misclosuresOf directions q all) n y
+              (omega (arith, form-turn few narrow, f .w-long))
+              (ap (λ (v : ℤ). take n w ++ (v ∷ misclosuresOf directions q rest)) (same ∙ sym closed)
+              ∙ ap (λ (cs : List Condition). take n w ++ misclosuresOf directions q cs) (sym here) ∙ f .closings);
         }
 
-  -- no line is left
-  module _ (e : netFrom file start ≡ netOf []) where
-    none : netFrom file start .conditions ≡ []
-    unfolding netOf
-    none = ap (λ (net : Net). net .conditions) e
-
-    pub end-reply : Accepted ≡ formedReply directions q 1 (netFrom file 0 .conditions)
-    unfolding formedReply
-    end-reply = ap (formedReply directions q (n + 1)) (sym none) ∙ f .reply
-
-    pub end-count : n ≡ length (netFrom file 0 .conditions)
-    end-count = omega (arith, f .count, ap length none)
-
-    pub end-rows : take (n * length directions) a ≡ rowsOf directions q (netFrom file 0 .conditions)
+  -- none is left
+  module _ (none : left ≡ []) where
+    end-rows : take (n * length directions) a ≡ rowsOf directions q all
     unfolding rowsOf
     end-rows =
         ap (λ (k : ℕ). take k a) (sym (f .place))
-        ∙ taken-all a (rowsOf directions q (netFrom file 0 .conditions)) at
-        (ap (λ (cs : List Condition). take at a ++ rowsOf directions q cs) (sym none) ∙ f .rows)
+        ∙ taken-all a (rowsOf directions q all) at (ap (λ (cs : List Condition). take at a ++ rowsOf directions q cs) (sym none) ∙ f .rows)
 
-    pub end-closings : take n w ≡ misclosuresOf directions q (netFrom file 0 .conditions)
+    end-closings : take n w ≡ misclosuresOf directions q all
     unfolding misclosuresOf
     end-closings =
-        taken-all w (misclosuresOf directions q (netFrom file 0 .conditions)) n
-        (ap (λ (cs : List Condition). take n w ++ misclosuresOf directions q cs) (sym none) ∙ f .closings)
+        taken-all w (misclosuresOf directions q all) n (ap (λ (cs : List Condition). take n w ++ misclosuresOf directions q cs) (sym none) ∙ f .closings)
+
+    pub form-end : Forms directions q all Accepted n a w
+    unfolding formedReply
+    form-end = record {
+      answer = ap (formedReply directions q (n + 1)) (sym none) ∙ f .reply;
+      count = λ e. omega (arith, f .count, ap length none);
+      rows = λ e. end-rows;
+      misclosures = λ e. end-closings;
+    }
+
+-- a refusal: the lists are not promised
+pub forms-refused : {directions q a w : List ℤ} {all : List Condition} {n : ℕ} (why : Refusal) → Refused why ≡ formedReply directions q 1 all → Forms directions q all (Refused why) n a w
+forms-refused why e = record { answer = e; count = never why; rows = never why; misclosures = never why }
+
+-- ---- one condition, from its gathered terms; z is the target as the machine reads it
+pub closes : {file : List ℕ} {start count next : ℕ} {kinds values d i k : List ℤ} → Gathers file start kinds values d i k count next
+    → {directions q old row : List ℤ} {j : ℕ} {kind : Kind} {target z : ℤ} {figure : Figure} → z ≡ target
+    → let c = conditionIn kind z (take count kinds) (take count values) (take count d) (take count i) (take count k) in
+    figure ≡ figureOf (conditionReply directions q j c) (misclosureOf directions q c) → row ≡ coefficientsList (lentOf directions q c) old
+    → Closes file start directions q j (headed kind target (netFrom file start .pending)) old row figure next
+closes {count = count} {kinds = kinds} {values} {d} {i} {k} g {directions} {q} {old} {j = j} {kind} {target} same e l =
+    let asked = ap (λ (x : ℤ). conditionIn kind x (take count kinds) (take count values) (take count d) (take count i) (take count k)) same ∙ g .terms kind target in
+    record {
+      answer = e ∙ ap (λ (c : Condition). figureOf (conditionReply directions q j c) (misclosureOf directions q c)) asked;
+      list = l ∙ ap (λ (c : Condition). coefficientsList (lentOf directions q c) old) asked;
+      conditions = g .conditions;
+      opened = g .opened;
+      on = g .on;
+      within = g .within;
+    }

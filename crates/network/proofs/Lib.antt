@@ -1,8 +1,10 @@
 pub mod Recording
+pub mod Walking
 pub mod Scanning
 pub mod Figures
-pub mod Walking
 pub mod Reading
 pub mod Forming
 pub mod Bounding
+pub mod Leading
 pub mod Passing
+pub mod Tables

@@ -2,14 +2,15 @@
 --   Passed, passed-more, passed-low      the counters never pass the count of lines
 --   scan-refused, scan-accepted                       from a whole line on: its own refusal, or the reply of what follows it
 --   scan-missing, scan-none                           from a last line without LF, and from the end
-use mathlib.Core.Path.{_≡_, refl, sym, _∙_}
+--   never-said, readable, said-refused, said-accepted             the same by what the line at a start says; one that is accepted says something
+use mathlib.Core.Path.{_≡_, refl, sym, _∙_, ap}
 use mathlib.Core.Bool.{Bool, true, false, cond}
 use mathlib.Core.List.{List, [], _∷_}
 use Prim.Native.Nat.{ℕ, suc, _+_, _<_, _≤_}
 use native.Mathlib.Numerals.{add-one}
 use native.Mathlib.Omega.{arith}
-use borrow.Author.Tests.{lt-ltb}
-use lib.Dec.{eqb}
+use borrow.Author.Tests.{lt-ltb, ltb-true, ltb-false}
+use lib.Dec.{eqb, ltb}
 use lib.ListN.{length, drop, drop-of-length-le, length-drop}
 use Rattle.reply.specs.declared.Refusal.{Refusal}
 use Rattle.reply.specs.declared.Refusal.the-variants.{Malformed}
@@ -20,10 +21,13 @@ use Rattle.text.specs.Parts.{placeFrom, onFirst, parted}
 use Rattle.text.specs.Lines.{LF, lineAt}
 use Rattle.network.specs.Records.{recordOf}
 use Rattle.network.specs.Scan.{Low, lineReply, counted, endReply, ifLast, scanned}
+use Rattle.reply.proofs.Checking.{never}
+use Rattle.network.specs.Turns.{saidAt, Readable}
 use Rattle.network.specs.declared.record.Record.{Record}
 use Rattle.network.specs.declared.record.Record.the-variants.{Direction, Angles, Sides, Term, Unreadable}
 use Rattle.network.specs.declared.scan.Counts.{Counts}
 use Rattle.text.proofs.Parting.{parts-more, parts-last}
+use Rattle.network.proofs.Walking.{walked}
 
 -- ---- the counters
 pub record Passed (lines : ℕ) (c : Counts) : Type 0 where
@@ -88,3 +92,39 @@ module _ (file : List ℕ) (start place : ℕ) (c : Counts) where
   pub scan-none : length file ≤ start → scanned place c (left file start) ≡ endReply c
   unfolding scanned parted
   scan-none l = rw (drop-of-length-le file l)
+
+-- ---- by what the line at a start says
+pub never-said : {A : Type 0} (place : ℕ) (c : Counts) → lineReply place c Unreadable ≡ Accepted → A
+unfolding lineReply
+never-said place c e = never (Malformed place) e
+
+pub readable : (place : ℕ) (c : Counts) (said : Record) → lineReply place c said ≡ Accepted → Readable said
+readable place c (Direction number direction q) e = tt
+readable place c (Angles target) e = tt
+readable place c Sides e = tt
+readable place c (Term letter value d i k) e = tt
+readable place c Unreadable e = never-said place c e
+
+module _ (file : List ℕ) (start place : ℕ) (c : Counts) (h : start < length file) where
+  abbrev found : Bool
+  found = ltb (placeFrom LF file start) (length file)
+
+  refused-by : (b : Bool) → found ≡ b → (why : Refusal) → lineReply place c (saidAt file start) ≡ Refused why → scanned place c (left file start) ≡ Refused why
+  unfolding saidAt lineReply
+  refused-by true t why e =
+      scan-refused file start place c (ltb-true (placeFrom LF file start) (length file) t) why
+      (ap (λ (b : Bool). lineReply place c (cond b (recordOf (lineAt file start)) Unreadable)) (sym t) ∙ e)
+  refused-by false t why e =
+      scan-missing file start place c h (ltb-false (placeFrom LF file start) (length file) t)
+      ∙ ap (λ (b : Bool). lineReply place c (cond b (recordOf (lineAt file start)) Unreadable)) (sym t) ∙ e
+
+  pub said-refused : (why : Refusal) → lineReply place c (saidAt file start) ≡ Refused why → scanned place c (left file start) ≡ Refused why
+  said-refused why e = refused-by found refl why e
+
+  -- it is accepted, so its LF follows
+  pub said-accepted : (said : Record) (counts : Counts) (next : ℕ) → said ≡ saidAt file start → counts ≡ counted c said → next ≡ placeFrom LF file start + 1
+      → lineReply place c said ≡ Accepted → scanned (place + 1) counts (left file next) ≡ scanned place c (left file start)
+  said-accepted said counts next s q n e =
+      let w = walked file start said next s (readable place c said e) n in
+      ap (λ (p : ℕ). scanned (place + 1) counts (left file p)) n
+      ∙ scan-accepted file start place c (omega (arith, n, w .within)) said counts (placeFrom LF file start) (sym (w .says)) q refl (ap (lineReply place c) (w .says) ∙ e)

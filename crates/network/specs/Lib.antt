@@ -1,5 +1,5 @@
 pub mod Records
 pub mod Scan
 pub mod Net
-pub mod Cursor
+pub mod Turns
 pub mod Gathered

@@ -1,8 +1,9 @@
 -- The net of a file whose scan is accepted: its directions with their q, and its conditions with their terms, in the order of their lines.
+use mathlib.Core.Path.{_≡_}
 use mathlib.Core.List.{List, [], _∷_, _++_}
-use Prim.Native.Nat.{ℕ, suc}
+use Prim.Native.Nat.{ℕ, suc, _*_, _≤_}
 use lib.IntN.{ℤ, pos}
-use lib.ListN.{length, drop}
+use lib.ListN.{length, take, drop}
 use Rattle.exact.specs.Tabulate.{tabulate}
 use Rattle.reply.specs.declared.Refusal.{Refusal}
 use Rattle.reply.specs.declared.Refusal.the-variants.{Coefficient, Misclosure}
@@ -14,6 +15,8 @@ use Rattle.condition.specs.declared.Kind.the-variants.{Angle, Side}
 use Rattle.condition.specs.Rules.{Lent, lent, coefficientsReply, coefficientsList, misclosureFigure}
 use Rattle.text.specs.Lines.{linesOf}
 use Rattle.network.specs.Records.{recordOf}
+use Rattle.network.specs.Scan.{scanReply}
+use Rattle.network.specs.declared.Tabled.{Tabled}
 use Rattle.network.specs.declared.record.Record.{Record}
 use Rattle.network.specs.declared.record.Record.the-variants.{Direction, Angles, Sides, Term, Unreadable}
 
@@ -98,3 +101,17 @@ module _ (directions q : List ℤ) where
   unfoldable pub misclosuresOf : List Condition → List ℤ
   misclosuresOf [] = []
   misclosuresOf (c ∷ cs) = misclosureOf c ∷ misclosuresOf cs
+
+-- ---- refusals 1 to 5 of a file, and its condition table
+unfoldable pub tableReply : List ℕ → Reply
+tableReply file = let net = netOf (linesOf file) in scanReply file andThen formedReply (net .directions) (net .q) 1 (net .conditions)
+
+-- the table of an accepted net stands in the first places of the lists
+pub record Tables (rule : Reply) (net : Net) (t : Tabled) (directions q a w : List ℤ) : Type 0 where
+  pub answer : t .reply ≡ rule
+  pub m-most : t .reply ≡ Accepted → t .m ≤ 64
+  pub n-most : t .reply ≡ Accepted → t .n ≤ 24
+  pub directions-are : t .reply ≡ Accepted → take (t .m) directions ≡ net .directions
+  pub q-are : t .reply ≡ Accepted → take (t .m) q ≡ net .q
+  pub rows-are : t .reply ≡ Accepted → take (t .n * t .m) a ≡ rowsOf (net .directions) (net .q) (net .conditions)
+  pub misclosures-are : t .reply ≡ Accepted → take (t .n) w ≡ misclosuresOf (net .directions) (net .q) (net .conditions)

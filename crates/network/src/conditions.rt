@@ -1,17 +1,15 @@
 // Each condition's terms through `condition`: its row of coefficients and its misclosure, or refusal 4 or 5 with the condition's number.
 ghost use mathlib.Core.Path.{_≡_};
-ghost use Prim.Native.Nat.{_*_, _≤_};
-ghost use lib.ListN.{length, take};
-ghost use Rattle.reply.specs.declared.Reply.the-variants.{Accepted};
+ghost use Prim.Native.Nat.{_≤_};
+ghost use lib.ListN.{length, drop};
+ghost use Rattle.text.specs.Lines.{linesOf};
 ghost use Rattle.reply.specs.Checks.{figureOf};
 ghost use Rattle.condition.specs.Rules.{coefficientsList};
-ghost use Rattle.network.specs.Net.{lentOf, conditionReply, formedReply, misclosureOf, rowsOf, misclosuresOf, netFrom};
-ghost use Rattle.network.specs.Gathered.{conditionIn, headingIn, Full, Fit};
-use crate::cursor;
-use crate::cursor::Turn;
+ghost use Rattle.network.specs.Net.{headed, lentOf, conditionReply, misclosureOf, netFrom};
+ghost use Rattle.network.specs.Gathered.{conditionIn, headingIn, Body, Opened, Fit, Closes, Forms};
+use crate::record;
 use crate::record::Record;
 use crate::terms;
-use crate::terms::Terms;
 use condition::Kind;
 use reply::Figure;
 use reply::Refusal;
@@ -57,48 +55,80 @@ fn form(
     q: &[i64],
     kind: Kind,
     target: i64,
-    t: Terms,
+    kinds: &[i64],
+    values: &[i64],
+    d: &[i64],
+    i: &[i64],
+    k: &[i64],
     row: &mut [i64],
     j: u64,
 ) -> Figure
-    requires { ⌜ Full t ⌝ }
     requires { ⌜ length (now row) ≡ length (now directions) ⌝ }
     ensures figure { λ r. ⌜ r ≡ figureOf
-        (conditionReply (now (directions .entry)) (now (q .entry)) j (conditionIn kind target t))
-        (misclosureOf (now (directions .entry)) (now (q .entry)) (conditionIn kind target t)) ⌝ }
+        (conditionReply (now (directions .entry)) (now (q .entry)) j
+        (conditionIn kind target (now (kinds .entry)) (now (values .entry)) (now (d .entry)) (now (i .entry)) (now (k .entry))))
+        (misclosureOf (now (directions .entry)) (now (q .entry))
+        (conditionIn kind target (now (kinds .entry)) (now (values .entry)) (now (d .entry)) (now (i .entry)) (now (k .entry)))) ⌝ }
     ensures list { λ r. ⌜ now (row .exit) ≡ coefficientsList
-        (lentOf (now (directions .entry)) (now (q .entry)) (conditionIn kind target t)) (now (row .entry)) ⌝ }
+        (lentOf (now (directions .entry)) (now (q .entry))
+        (conditionIn kind target (now (kinds .entry)) (now (values .entry)) (now (d .entry)) (now (i .entry)) (now (k .entry)))) (now (row .entry)) ⌝ }
 {
-    let n = t.count;
-    let kinds = t.kinds;
-    let values = t.values;
-    let d = t.d;
-    let i = t.i;
-    let k = t.k;
-    let letters = &kinds[..n];
-    let figures = &values[..n];
-    let ds = &d[..n];
-    let is = &i[..n];
-    let ks = &k[..n];
-    let checked = condition::coefficients(
+    let checked = condition::coefficients(directions, q, kind, target, kinds, values, d, i, k, row);
+    if let Reply::Refused(_) = checked {
+        return Figure::Refused(Refusal::Coefficient(j));
+    }
+    let closed = condition::misclosure(directions, q, kind, target, kinds, values, d, i, k);
+    match closed {
+        Figure::Value(w) => Figure::Value(w),
+        Figure::Refused(_) => Figure::Refused(Refusal::Misclosure(j)),
+    }
+}
+
+// What has become of one condition: its misclosure, or why not, and where the first line after its terms starts.
+pub struct Closed {
+    pub figure: Figure,
+    pub next: usize,
+}
+
+// Condition j, whose terms stand at `at`.
+fn form_at(
+    file: &[u8],
+    at: usize,
+    directions: &[i64],
+    q: &[i64],
+    kind: Kind,
+    target: i64,
+    row: &mut [i64],
+    j: u64,
+) -> Closed
+    requires { ⌜ (at ≤ length (now file)) × (length (netFrom (now file) at .pending .kinds) ≤ 12) × Body (linesOf (drop at (now file))) ⌝ }
+    requires { ⌜ length (now row) ≡ length (now directions) ⌝ }
+    ensures { λ r. ⌜ Closes (now (file .entry)) at (now (directions .entry)) (now (q .entry)) j (headed kind target (netFrom (now (file .entry)) at .pending))
+        (now (row .entry)) (now (row .exit)) (r .figure) (r .next) ⌝ }
+{
+    let mut kinds = [0i64; 12];
+    let mut values = [0i64; 12];
+    let mut ds = [0i64; 12];
+    let mut is = [0i64; 12];
+    let mut ks = [0i64; 12];
+    let terms = terms::gather(file, at, &mut kinds, &mut values, &mut ds, &mut is, &mut ks);
+    let n = terms.count;
+    let figure = form(
         directions,
         q,
         kind,
         target,
-        letters,
-        figures,
-        ds,
-        is,
-        ks,
+        &kinds[..n],
+        &values[..n],
+        &ds[..n],
+        &is[..n],
+        &ks[..n],
         row,
+        j,
     );
-    if let Reply::Refused(_) = checked {
-        return Figure::Refused(Refusal::Coefficient(j));
-    }
-    let closed = condition::misclosure(directions, q, kind, target, letters, figures, ds, is, ks);
-    match closed {
-        Figure::Value(w) => Figure::Value(w),
-        Figure::Refused(_) => Figure::Refused(Refusal::Misclosure(j)),
+    Closed {
+        figure,
+        next: terms.next,
     }
 }
 
@@ -108,56 +138,57 @@ pub struct Formed {
     pub n: usize,
 }
 
-// All conditions of a file whose scan is accepted, in their order: rows of m coefficients into a, misclosures into w.
-pub fn form_all(file: &[u8], directions: &[i64], q: &[i64], a: &mut [i64], w: &mut [i64]) -> Formed
-    requires { ⌜ (length (now directions) ≤ 64) × (length (now a) ≡ 1536) × (length (now w) ≡ 24) ⌝ }
-    requires { ⌜ (length (netFrom (now file) 0 .conditions) ≤ 24) × Fit (netFrom (now file) 0 .conditions) ⌝ }
-    ensures reply { λ r. ⌜ r .reply ≡ formedReply
-        (now (directions .entry)) (now (q .entry)) 1 (netFrom (now (file .entry)) 0 .conditions) ⌝ }
-    ensures count { λ r. ⌜ (r .reply ≡ Accepted → r .n ≡ length (netFrom (now (file .entry)) 0 .conditions)) ⌝ }
-    ensures rows { λ r. ⌜ (r .reply ≡ Accepted → take (r .n * length (now (directions .entry))) (now (a .exit))
-        ≡ rowsOf (now (directions .entry)) (now (q .entry)) (netFrom (now (file .entry)) 0 .conditions)) ⌝ }
-    ensures misclosures { λ r. ⌜ (r .reply ≡ Accepted → take (r .n) (now (w .exit))
-        ≡ misclosuresOf (now (directions .entry)) (now (q .entry)) (netFrom (now (file .entry)) 0 .conditions)) ⌝ }
+// All conditions that stand at `first` and after it, in their order: rows of m coefficients into a, misclosures into w.
+pub fn form_all(
+    file: &[u8],
+    first: usize,
+    directions: &[i64],
+    q: &[i64],
+    a: &mut [i64],
+    w: &mut [i64],
+) -> Formed
+    requires { ⌜ (first ≤ length (now file)) × (length (now directions) ≤ 64) × (length (now a) ≡ 1536) × (length (now w) ≡ 24) ⌝ }
+    requires { ⌜ (length (netFrom (now file) first .conditions) ≤ 24) × Fit (netFrom (now file) first .conditions) × Opened (linesOf (drop first (now file))) ⌝ }
+    ensures { λ r. ⌜ Forms (now (directions .entry)) (now (q .entry)) (netFrom (now (file .entry)) first .conditions) (r .reply) (r .n) (now (a .exit)) (now (w .exit)) ⌝ }
 {
     let m = directions.len();
-    let mut start = 0;
+    let mut start = first;
     let mut at = 0;
     let mut n = 0;
     loop {
-        let turn = cursor::read(file, start);
-        let Turn::Line { said, next } = turn else {
+        let turn = record::read(file, start);
+        let said = turn.said;
+        let heading = heading_of(said);
+        let Heading::Of { kind, target } = heading else {
             return Formed {
                 reply: Reply::Accepted,
                 n,
             };
         };
-        let heading = heading_of(said);
-        if let Heading::Of { kind, target } = heading {
-            let t = terms::gather(file, next);
-            let formed = form(
-                directions,
-                q,
-                kind,
-                target,
-                t,
-                &mut a[at..at + m],
-                (n + 1) as u64,
-            );
-            match formed {
-                Figure::Value(x) => {
-                    w[n] = x;
-                }
-                Figure::Refused(why) => {
-                    return Formed {
-                        reply: Reply::Refused(why),
-                        n,
-                    };
-                }
+        let closed = form_at(
+            file,
+            turn.next,
+            directions,
+            q,
+            kind,
+            target,
+            &mut a[at..at + m],
+            (n + 1) as u64,
+        );
+        let figure = closed.figure;
+        match figure {
+            Figure::Value(x) => {
+                w[n] = x;
             }
-            at += m;
-            n += 1;
+            Figure::Refused(why) => {
+                return Formed {
+                    reply: Reply::Refused(why),
+                    n,
+                };
+            }
         }
-        start = next;
+        at += m;
+        n += 1;
+        start = closed.next;
     }
 }

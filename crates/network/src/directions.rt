@@ -1,43 +1,40 @@
-// The directions of a file whose scan is accepted, with their inverse weights.
+// The directions of a file whose scan is accepted, with their inverse weights: its first lines, up to the first that is no D line.
 ghost use mathlib.Core.Path.{_≡_};
 ghost use Prim.Native.Nat.{_≤_};
-ghost use lib.ListN.{length, take};
+ghost use lib.ListN.{length};
+ghost use Rattle.text.specs.Lines.{linesOf};
 ghost use Rattle.network.specs.Net.{netFrom};
-use crate::cursor;
-use crate::cursor::Turn;
+ghost use Rattle.network.specs.Gathered.{Led, Directed};
+use crate::record;
 use crate::record::Record;
 
-// The first m of each list.
+// How many there are, and where the first line after them starts.
 pub struct Directions {
-    pub direction: [i64; 64],
-    pub q: [i64; 64],
     pub m: usize,
+    pub next: usize,
 }
 
-pub fn read(file: &[u8]) -> Directions
-    requires { ⌜ length (netFrom (now file) 0 .directions) ≤ 64 ⌝ }
-    ensures count { λ r. ⌜ (r .m ≤ 64) × (length (r .direction) ≡ 64) × (length (r .q) ≡ 64) ⌝ }
-    ensures directions { λ r. ⌜ take (r .m) (r .direction) ≡ netFrom (now (file .entry)) 0 .directions ⌝ }
-    ensures weights { λ r. ⌜ take (r .m) (r .q) ≡ netFrom (now (file .entry)) 0 .q ⌝ }
+pub fn read(file: &[u8], directions: &mut [i64], q: &mut [i64]) -> Directions
+    requires { ⌜ (length (netFrom (now file) 0 .directions) ≤ 64) × Led (linesOf (now file)) ⌝ }
+    requires { ⌜ (length (now directions) ≡ 64) × (length (now q) ≡ 64) ⌝ }
+    ensures { λ r. ⌜ Directed (now (file .entry)) (now (directions .exit)) (now (q .exit)) (r .m) (r .next) ⌝ }
 {
-    let mut direction = [0i64; 64];
-    let mut q = [0i64; 64];
     let mut m = 0;
     let mut start = 0;
     loop {
-        let turn = cursor::read(file, start);
-        let Turn::Line { said, next } = turn else {
-            return Directions { direction, q, m };
-        };
-        if let Record::Direction {
+        let turn = record::read(file, start);
+        let said = turn.said;
+        let Record::Direction {
             number: _,
             direction: x,
             q: g,
-        } = said {
-            direction[m] = x;
-            q[m] = g;
-            m += 1;
-        }
-        start = next;
+        } = said
+        else {
+            return Directions { m, next: start };
+        };
+        directions[m] = x;
+        q[m] = g;
+        m += 1;
+        start = turn.next;
     }
 }

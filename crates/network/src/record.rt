@@ -1,11 +1,18 @@
-// One line of the network file as a record: what it says, before any count, heading or range is looked at.
+// One line of the network file as a record: what it says, before any count, heading or range is looked at. It is read once, from its letter to its LF.
 ghost use mathlib.Core.Path.{_≡_};
-ghost use Rattle.text.specs.Fields.{fieldAt};
-ghost use Rattle.text.specs.Numbers.{numeral};
-ghost use Rattle.network.specs.Records.{directionLine, anglesLine, sidesLine, conditionLine, angleLine, fixedLine, sideLine, recordOf};
-use text::field;
-use text::number;
-use text::number::Number;
+ghost use Prim.Native.Nat.{_+_, _≤_};
+ghost use lib.ListN.{length, getD};
+ghost use Rattle.text.specs.Parts.{placeFrom};
+ghost use Rattle.text.specs.Lines.{LF};
+ghost use Rattle.text.specs.Fields.{TAB};
+ghost use Rattle.network.specs.Records.{letter-C};
+ghost use Rattle.network.specs.Turns.{Readable, numbersOf, recordWith, numberedAt, saidAt};
+use text::row;
+use text::row::RowEnd;
+
+const TAB: u8 = 9;
+
+const LF: u8 = 10;
 
 // What a line says.
 pub enum Record {
@@ -33,158 +40,159 @@ pub enum Record {
     Unreadable,
 }
 
-// The number in the field after k tabs.
-fn number_at(line: &[u8], k: usize) -> Number
-    ensures { λ r. ⌜ r ≡ numeral (fieldAt (now (line .entry)) k) ⌝ }
-{
-    number::read(field::at(line, k))
+// What the line at a start says, and where the next one starts if it says something.
+pub struct Turn {
+    pub said: Record,
+    pub next: usize,
 }
 
-fn direction_line(line: &[u8]) -> Record
-    ensures { λ r. ⌜ r ≡ directionLine (now (line .entry)) ⌝ }
+// How many numbers the line of a letter has; C stands for a line C A, and 0 for a letter that no such line has.
+fn numbers_of(letter: u8) -> usize
+    ensures { λ r. ⌜ r ≡ numbersOf letter ⌝ }
 {
-    if field::count(line) != 4 {
-        return Record::Unreadable;
-    }
-    let Number::Value(number) = number_at(line, 1) else {
-        return Record::Unreadable;
-    };
-    let Number::Value(direction) = number_at(line, 2) else {
-        return Record::Unreadable;
-    };
-    let Number::Value(q) = number_at(line, 3) else {
-        return Record::Unreadable;
-    };
-    Record::Direction {
-        number,
-        direction,
-        q,
-    }
-}
-
-fn angles_line(line: &[u8]) -> Record
-    ensures { λ r. ⌜ r ≡ anglesLine (now (line .entry)) ⌝ }
-{
-    if field::count(line) != 3 {
-        return Record::Unreadable;
-    }
-    let Number::Value(target) = number_at(line, 2) else {
-        return Record::Unreadable;
-    };
-    Record::Angles { target }
-}
-
-fn sides_line(line: &[u8]) -> Record
-    ensures { λ r. ⌜ r ≡ sidesLine (now (line .entry)) ⌝ }
-{
-    if field::count(line) != 2 {
-        return Record::Unreadable;
-    }
-    Record::Sides
-}
-
-fn condition_line(line: &[u8]) -> Record
-    ensures { λ r. ⌜ r ≡ conditionLine (now (line .entry)) ⌝ }
-{
-    let kind = field::letter(field::at(line, 1));
-    if kind == b'A' {
-        return angles_line(line);
-    }
-    if kind == b'S' {
-        return sides_line(line);
-    }
-    Record::Unreadable
-}
-
-fn angle_line(line: &[u8]) -> Record
-    ensures { λ r. ⌜ r ≡ angleLine (now (line .entry)) ⌝ }
-{
-    if field::count(line) != 3 {
-        return Record::Unreadable;
-    }
-    let Number::Value(i) = number_at(line, 1) else {
-        return Record::Unreadable;
-    };
-    let Number::Value(k) = number_at(line, 2) else {
-        return Record::Unreadable;
-    };
-    Record::Term {
-        letter: b'P',
-        value: 0,
-        d: 0,
-        i,
-        k,
-    }
-}
-
-fn fixed_line(line: &[u8]) -> Record
-    ensures { λ r. ⌜ r ≡ fixedLine (now (line .entry)) ⌝ }
-{
-    if field::count(line) != 2 {
-        return Record::Unreadable;
-    }
-    let Number::Value(value) = number_at(line, 1) else {
-        return Record::Unreadable;
-    };
-    Record::Term {
-        letter: b'F',
-        value,
-        d: 0,
-        i: 0,
-        k: 0,
-    }
-}
-
-// Left and right alike.
-fn side_line(letter: u8, line: &[u8]) -> Record
-    ensures { λ r. ⌜ r ≡ sideLine (now (line .entry)) letter ⌝ }
-{
-    if field::count(line) != 5 {
-        return Record::Unreadable;
-    }
-    let Number::Value(value) = number_at(line, 1) else {
-        return Record::Unreadable;
-    };
-    let Number::Value(d) = number_at(line, 2) else {
-        return Record::Unreadable;
-    };
-    let Number::Value(i) = number_at(line, 3) else {
-        return Record::Unreadable;
-    };
-    let Number::Value(k) = number_at(line, 4) else {
-        return Record::Unreadable;
-    };
-    Record::Term {
-        letter,
-        value,
-        d,
-        i,
-        k,
-    }
-}
-
-// What a line says, by the letter in its first field.
-pub fn of(line: &[u8]) -> Record
-    ensures { λ r. ⌜ r ≡ recordOf (now (line .entry)) ⌝ }
-{
-    let letter = field::letter(field::at(line, 0));
     if letter == b'D' {
-        return direction_line(line);
+        return 3;
     }
     if letter == b'C' {
-        return condition_line(line);
+        return 1;
     }
     if letter == b'P' {
-        return angle_line(line);
+        return 2;
     }
     if letter == b'F' {
-        return fixed_line(line);
+        return 1;
     }
     if letter == b'L' {
-        return side_line(letter, line);
+        return 4;
     }
     if letter == b'R' {
-        return side_line(letter, line);
+        return 4;
     }
-    Record::Unreadable
+    0
+}
+
+// The record of a letter and the numbers x.
+fn record_with(letter: u8, x: &[i64]) -> Record
+    requires { ⌜ length (now x) ≡ 4 ⌝ }
+    ensures { λ r. ⌜ r ≡ recordWith letter (now (x .entry)) ⌝ }
+{
+    if letter == b'D' {
+        return Record::Direction {
+            number: x[0],
+            direction: x[1],
+            q: x[2],
+        };
+    }
+    if letter == b'C' {
+        return Record::Angles { target: x[0] };
+    }
+    if letter == b'P' {
+        return Record::Term {
+            letter,
+            value: 0,
+            d: 0,
+            i: x[0],
+            k: x[1],
+        };
+    }
+    if letter == b'F' {
+        return Record::Term {
+            letter,
+            value: x[0],
+            d: 0,
+            i: 0,
+            k: 0,
+        };
+    }
+    Record::Term {
+        letter,
+        value: x[0],
+        d: x[1],
+        i: x[2],
+        k: x[3],
+    }
+}
+
+// A line of numbers, from the first of them on.
+fn numbered(file: &[u8], at: usize, letter: u8) -> Turn
+    requires { ⌜ at ≤ length (now file) ⌝ }
+    ensures said { λ r. ⌜ r .said ≡ numberedAt (now (file .entry)) at letter ⌝ }
+    ensures next { λ r. ⌜ (Readable (r .said) → r .next ≡ placeFrom LF (now (file .entry)) at + 1) ⌝ }
+{
+    let count = numbers_of(letter);
+    let mut x = [0i64; 4];
+    if count == 0 {
+        return Turn {
+            said: Record::Unreadable,
+            next: at,
+        };
+    }
+    let end = row::read(file, at, count, &mut x);
+    let RowEnd::Next(next) = end else {
+        return Turn {
+            said: Record::Unreadable,
+            next: at,
+        };
+    };
+    Turn {
+        said: record_with(letter, &x),
+        next,
+    }
+}
+
+// The C line at a start: S and the LF, or A, a tab and a number.
+fn heading(file: &[u8], start: usize) -> Turn
+    requires { ⌜ (start + 2 ≤ length (now file)) × (getD (now file) (start + 1) 0 ≡ TAB) × (getD (now file) start 0 ≡ letter-C) ⌝ }
+    ensures said { λ r. ⌜ r .said ≡ saidAt (now (file .entry)) start ⌝ }
+    ensures next { λ r. ⌜ (Readable (r .said) → r .next ≡ placeFrom LF (now (file .entry)) start + 1) ⌝ }
+{
+    let unreadable = Turn {
+        said: Record::Unreadable,
+        next: start,
+    };
+    let at = start + 2;
+    if file.len() - at < 2 {
+        return unreadable;
+    }
+    let kind = file[at];
+    let end = file[at + 1];
+    if kind == b'S' {
+        if end == LF {
+            return Turn {
+                said: Record::Sides,
+                next: at + 2,
+            };
+        }
+        return unreadable;
+    }
+    if kind == b'A' {
+        if end == TAB {
+            return numbered(file, at + 2, b'C');
+        }
+        return unreadable;
+    }
+    unreadable
+}
+
+// The line at a start, by its letter.
+pub fn read(file: &[u8], start: usize) -> Turn
+    requires { ⌜ start ≤ length (now file) ⌝ }
+    ensures said { λ r. ⌜ r .said ≡ saidAt (now (file .entry)) start ⌝ }
+    ensures next { λ r. ⌜ (Readable (r .said) → r .next ≡ placeFrom LF (now (file .entry)) start + 1) ⌝ }
+{
+    let unreadable = Turn {
+        said: Record::Unreadable,
+        next: start,
+    };
+    if file.len() - start < 2 {
+        return unreadable;
+    }
+    if file[start + 1] != TAB {
+        return unreadable;
+    }
+    let letter = file[start];
+    if letter == b'C' {
+        return heading(file, start);
+    }
+    numbered(file, start + 2, letter)
 }

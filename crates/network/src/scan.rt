@@ -8,8 +8,6 @@ use crate::record;
 use crate::record::Record;
 use reply::Refusal;
 use reply::Reply;
-use text::line;
-use text::line::LineStatus;
 
 // The longest file, and the most directions, conditions and terms of a condition.
 const MOST_BYTES: usize = 65_535;
@@ -246,21 +244,16 @@ pub fn scan(file: &[u8]) -> Reply
         terms: 0,
         heading: 0,
     };
-    loop {
-        let status = line::line_status(file, start);
-        match status {
-            LineStatus::NoneLeft => return end_reply(counts),
-            LineStatus::LfMissing => return Reply::Refused(Refusal::Malformed(place)),
-            LineStatus::Whole => {}
-        }
-        let text = line::line(file, start);
-        let said = record::of(text);
+    while start < file.len() {
+        let turn = record::read(file, start);
+        let said = turn.said;
         let checked = line_reply(place, counts, said);
         if let Reply::Refused(why) = checked {
             return Reply::Refused(why);
         }
         counts = counted(counts, said);
-        start = start + text.len() + 1;
+        start = turn.next;
         place += 1;
     }
+    end_reply(counts)
 }

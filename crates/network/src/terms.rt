@@ -1,43 +1,38 @@
 // The terms of one condition, from the line after its C line on.
 ghost use mathlib.Core.Path.{_≡_};
 ghost use Prim.Native.Nat.{_≤_};
-ghost use lib.ListN.{length};
-ghost use lib.IntN.{ℤ};
-ghost use Rattle.condition.specs.declared.Kind.{Kind};
-ghost use Rattle.network.specs.Net.{headed, netFrom};
-ghost use Rattle.network.specs.Gathered.{conditionIn, Full};
-use crate::cursor;
-use crate::cursor::Turn;
+ghost use lib.ListN.{length, drop};
+ghost use Rattle.text.specs.Lines.{linesOf};
+ghost use Rattle.network.specs.Net.{netFrom};
+ghost use Rattle.network.specs.Gathered.{Body, Twelve, Gathers};
+use crate::record;
 use crate::record::Record;
 
-// The fields of the terms, as `condition` takes them: the first `count` of each list.
+// How many there are, and where the first line after them starts.
 pub struct Terms {
-    pub kinds: [i64; 12],
-    pub values: [i64; 12],
-    pub d: [i64; 12],
-    pub i: [i64; 12],
-    pub k: [i64; 12],
     pub count: usize,
+    pub next: usize,
 }
 
-// The terms that stand at `start`, up to the first line that is none.
-pub fn gather(file: &[u8], start: usize) -> Terms
-    requires { ⌜ length (netFrom (now file) start .pending .kinds) ≤ 12 ⌝ }
-    ensures terms { λ r. ⌜ ((kind : Kind) (target : ℤ) → conditionIn kind target r ≡ headed kind target (netFrom (now (file .entry)) start .pending)) ⌝ }
-    ensures full { λ r. ⌜ Full r ⌝ }
+// The terms that stand at `start`, up to the first line that is none. Their fields, as `condition` takes them, go into the first places of the lists.
+pub fn gather(
+    file: &[u8],
+    start: usize,
+    kinds: &mut [i64],
+    values: &mut [i64],
+    ds: &mut [i64],
+    is: &mut [i64],
+    ks: &mut [i64],
+) -> Terms
+    requires { ⌜ (start ≤ length (now file)) × (length (netFrom (now file) start .pending .kinds) ≤ 12) × Body (linesOf (drop start (now file))) ⌝ }
+    requires { ⌜ Twelve (now kinds) (now values) (now ds) (now is) (now ks) ⌝ }
+    ensures { λ r. ⌜ Gathers (now (file .entry)) start (now (kinds .exit)) (now (values .exit)) (now (ds .exit)) (now (is .exit)) (now (ks .exit)) (r .count) (r .next) ⌝ }
 {
-    let mut kinds = [0i64; 12];
-    let mut values = [0i64; 12];
-    let mut ds = [0i64; 12];
-    let mut is = [0i64; 12];
-    let mut ks = [0i64; 12];
     let mut count = 0;
     let mut at = start;
     loop {
-        let turn = cursor::read(file, at);
-        let Turn::Line { said, next } = turn else {
-            break;
-        };
+        let turn = record::read(file, at);
+        let said = turn.said;
         let Record::Term {
             letter,
             value,
@@ -46,7 +41,7 @@ pub fn gather(file: &[u8], start: usize) -> Terms
             k,
         } = said
         else {
-            break;
+            return Terms { count, next: at };
         };
         kinds[count] = letter as i64;
         values[count] = value;
@@ -54,14 +49,6 @@ pub fn gather(file: &[u8], start: usize) -> Terms
         is[count] = i;
         ks[count] = k;
         count += 1;
-        at = next;
-    }
-    Terms {
-        kinds,
-        values,
-        d: ds,
-        i: is,
-        k: ks,
-        count,
+        at = turn.next;
     }
 }

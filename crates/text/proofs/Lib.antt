@@ -2,6 +2,8 @@ pub mod Parting
 pub mod Splitting
 pub mod Fielding
 pub mod Numerals
+pub mod Spanning
+pub mod Rowing
 pub mod Writing
 pub mod ReadingBack
 pub mod Putting

@@ -1,12 +1,15 @@
--- Numbers as the network file writes them: "optional minus, no leading zero except "0" itself, no "-0", 1 to 11 digits".
-use mathlib.Core.Bool.{Bool, cond, _||_, _&&_}
+-- Numbers as the files write them: "optional minus, no leading zero except "0" itself, no "-0", 1 to 11 digits".
+use mathlib.Core.Path.{_≡_}
+use mathlib.Core.Bool.{Bool, true, cond, _||_, _&&_}
 use mathlib.Core.List.{List, [], _∷_}
-use Prim.Native.Nat.{ℕ, _+_, _*_, _-_, _<_, _^_}
-use lib.ListN.{length, getD, drop}
+use Prim.Native.Nat.{ℕ, _+_, _*_, _-_, _<_, _≤_, _^_}
+use lib.ListN.{length, getD, take, drop}
 use lib.IntN.{pos, negℤ}
 use lib.Dec.{eqb, ltb}
+use Rattle.text.specs.Parts.{bytesBefore, placeFrom}
 use Rattle.text.specs.declared.number.Digits.{Digits}
 use Rattle.text.specs.declared.number.Digits.the-variants.{Whole, NoDigits}
+use Rattle.text.specs.declared.number.Span.{Span}
 use Rattle.text.specs.declared.number.Number.{Number}
 use Rattle.text.specs.declared.number.Number.the-variants.{Value, Malformed}
 
@@ -41,3 +44,22 @@ minus NoDigits = Malformed
 -- "optional minus", the byte 45
 unfoldable pub numeral : List ℕ → Number
 numeral text = cond (eqb (getD text 0 0) 45) (minus (unsignedOf (drop 1 text))) (plus (unsignedOf text))
+
+-- ---- what inner functions hand each other: a number that stands in a text from a start on, up to the first byte `ending`; none, where there is no such byte
+abbrev pub upTo : (ending : ℕ) (text : List ℕ) (start : ℕ) → List ℕ
+upTo ending text start = take (bytesBefore ending (drop start text)) (drop start text)
+
+unfoldable pub unsignedTo : (ending : ℕ) (text : List ℕ) (start : ℕ) → Digits
+unsignedTo ending text start = cond (ltb (placeFrom ending text start) (length text)) (unsignedOf (upTo ending text start)) NoDigits
+
+unfoldable pub numberTo : (ending : ℕ) (text : List ℕ) (start : ℕ) → Number
+numberTo ending text start = cond (ltb (placeFrom ending text start) (length text)) (numeral (upTo ending text start)) Malformed
+
+-- the digits that stand at a start: no more than 11, and where there are fewer, a byte that is none or the text's end follows
+pub record Spans (text : List ℕ) (start : ℕ) (s : Span) : Type 0 where
+  pub from : start ≤ s .end
+  pub within : s .end ≤ length text
+  pub few : s .end ≤ start + 11
+  pub value : readDigits 0 (take (s .end - start) (drop start text)) ≡ Whole (s .value)
+  pub small : s .value < 10 ^ 11
+  pub stop : s .end < length text → s .end < start + 11 → noDigit (getD text (s .end) 0) ≡ true

@@ -1,8 +1,13 @@
-// Numbers as the network file writes them: an optional minus, no leading zero except "0" itself, no "-0", 1 to 11 digits.
+// Numbers as the files write them: an optional minus, no leading zero except "0" itself, no "-0", 1 to 11 digits. Each is read once, from its first
+// byte to the one that ends it.
 ghost use mathlib.Core.Path.{_≡_};
-ghost use Prim.Native.Nat.{_≤_};
+ghost use Prim.Native.Nat.{ℕ, _+_, _<_, _≤_};
 ghost use lib.ListN.{length};
-ghost use Rattle.text.specs.Numbers.{readDigits, unsignedOf, numeral, Small, plus, minus};
+ghost use lib.IntN.{ℤ};
+ghost use Rattle.text.specs.declared.number.Digits.the-variants.{Whole};
+ghost use Rattle.text.specs.declared.number.Number.the-variants.{Value};
+ghost use Rattle.text.specs.Parts.{placeFrom};
+ghost use Rattle.text.specs.Numbers.{Small, plus, minus, Spans, unsignedTo, numberTo};
 
 const ZERO: u8 = 48;
 
@@ -23,46 +28,87 @@ pub enum Number {
     Malformed,
 }
 
-// The value of a text of digits alone.
-fn read_digits(text: &[u8]) -> Digits
-    requires { ⌜ length (now text) ≤ 11 ⌝ }
-    ensures value { λ r. ⌜ r ≡ readDigits 0 (now (text .entry)) ⌝ }
-    ensures small { λ r. ⌜ Small r ⌝ }
-{
-    let mut v: u64 = 0;
-    let mut i = 0;
-    while i < text.len() {
-        let byte = text[i];
-        if byte < ZERO {
-            return Digits::NoDigits;
-        }
-        if NINE < byte {
-            return Digits::NoDigits;
-        }
-        v = 10 * v + (byte - ZERO) as u64;
-        i += 1;
-    }
-    Digits::Whole(v)
+// The digits that stand at a start, 11 at most: their value, and where they end.
+struct Span {
+    value: u64,
+    end: usize,
 }
 
-// The same, where there are 1 to 11 digits and no leading zero.
-fn unsigned(text: &[u8]) -> Digits
-    ensures value { λ r. ⌜ r ≡ unsignedOf (now (text .entry)) ⌝ }
-    ensures small { λ r. ⌜ Small r ⌝ }
+// The digits up to a byte, and the place after that byte.
+struct Unsigned {
+    digits: Digits,
+    next: usize,
+}
+
+// The number up to a byte, and the place after that byte.
+pub struct Read {
+    pub number: Number,
+    pub next: usize,
+}
+
+// Where 11 digits from a start on would end, or the text's end where that comes first.
+fn furthest(start: usize, n: usize) -> usize
+    requires { ⌜ start ≤ n ⌝ }
+    ensures { λ r. ⌜ (start ≤ r) × (r ≤ n) × (r ≤ start + 11) × (r < n → r ≡ start + 11) ⌝ }
 {
-    let n = text.len();
-    if n == 0 {
-        return Digits::NoDigits;
+    if n - start < MOST_DIGITS {
+        return n;
     }
-    if MOST_DIGITS < n {
-        return Digits::NoDigits;
+    start + MOST_DIGITS
+}
+
+fn digits_from(text: &[u8], start: usize) -> Span
+    requires { ⌜ start ≤ length (now text) ⌝ }
+    ensures { λ r. ⌜ Spans (now (text .entry)) start r ⌝ }
+{
+    let most = furthest(start, text.len());
+    let mut value: u64 = 0;
+    let mut end = start;
+    while end < most {
+        let byte = text[end];
+        if byte < ZERO {
+            return Span { value, end };
+        }
+        if NINE < byte {
+            return Span { value, end };
+        }
+        value = 10 * value + (byte - ZERO) as u64;
+        end += 1;
     }
-    if 1 < n {
-        if text[0] == ZERO {
-            return Digits::NoDigits;
+    Span { value, end }
+}
+
+// The digits from a start up to the first byte `ending`, where there are 1 to 11 and no leading zero.
+fn unsigned_to(text: &[u8], start: usize, ending: u8) -> Unsigned
+    requires { ⌜ (start ≤ length (now text)) × (ending < 45) ⌝ }
+    ensures value { λ r. ⌜ r .digits ≡ unsignedTo ending (now (text .entry)) start ⌝ }
+    ensures small { λ r. ⌜ Small (r .digits) ⌝ }
+    ensures next { λ r. ⌜ ((v : ℕ) → r .digits ≡ Whole v → r .next ≡ placeFrom ending (now (text .entry)) start + 1) ⌝ }
+{
+    let span = digits_from(text, start);
+    let end = span.end;
+    let none = Unsigned {
+        digits: Digits::NoDigits,
+        next: start,
+    };
+    if text.len() <= end {
+        return none;
+    }
+    if text[end] != ending {
+        return none;
+    }
+    if end == start {
+        return none;
+    }
+    if start + 1 < end {
+        if text[start] == ZERO {
+            return none;
         }
     }
-    read_digits(text)
+    Unsigned {
+        digits: Digits::Whole(span.value),
+        next: end + 1,
+    }
 }
 
 // The number without a minus.
@@ -94,16 +140,26 @@ fn minus_of(digits: Digits) -> Number
     }
 }
 
-// The number that a text writes.
-pub fn read(text: &[u8]) -> Number
-    ensures { λ r. ⌜ r ≡ numeral (now (text .entry)) ⌝ }
+// The number from a start up to the first byte `ending`, a tab or an LF.
+pub fn read_to(text: &[u8], start: usize, ending: u8) -> Read
+    requires { ⌜ (start ≤ length (now text)) × (ending < 45) ⌝ }
+    ensures number { λ r. ⌜ r .number ≡ numberTo ending (now (text .entry)) start ⌝ }
+    ensures next { λ r. ⌜ ((z : ℤ) → r .number ≡ Value z → r .next ≡ placeFrom ending (now (text .entry)) start + 1) ⌝ }
 {
-    if text.len() == 0 {
-        return Number::Malformed;
+    if start < text.len() {
+        if text[start] == MINUS {
+            let size = unsigned_to(text, start + 1, ending);
+            let digits = size.digits;
+            return Read {
+                number: minus_of(digits),
+                next: size.next,
+            };
+        }
     }
-    if text[0] == MINUS {
-        minus_of(unsigned(&text[1..]))
-    } else {
-        plus_of(unsigned(text))
+    let size = unsigned_to(text, start, ending);
+    let digits = size.digits;
+    Read {
+        number: plus_of(digits),
+        next: size.next,
     }
 }

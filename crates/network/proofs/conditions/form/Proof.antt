@@ -1,12 +1,10 @@
 -- `network::conditions::form` meets its contract. Assumes nothing.
 use mathlib.Core.Path.{_≡_, sym, _∙_, ap}
 use mathlib.Core.List.{List}
-use native.Mathlib.Omega.{arith}
 use borrow.Author.Needs.{needs}
 use denote.Ref.{now}
 use lib.IntN.{ℤ}
 use lib.ListN.{length}
-use lib.Seq.{length-take-le}
 use mir.ValLaws.{toZ-ofZ}
 use Rattle.exact.proofs.Bound.{read-at}
 use Rattle.reply.specs.declared.Reply.the-variants.{Accepted}
@@ -18,43 +16,13 @@ use Rattle.network.proofs.Forming.{row-refused, closing-refused, closin
 use Rattle.network.proofs.conditions.form.Statement.{statement}
 use Rattle.network.proofs.conditions.form.Tie as tie
 
-array-share-prefix-kinds : tie.Need-array-share-prefix-kinds
-array-share-prefix-kinds c = search needs
-
-slice-aggregate-letters : tie.Need-slice-aggregate-letters
-slice-aggregate-letters c = sym (length-take-le _ _ (omega arith))
-
-array-share-prefix-values : tie.Need-array-share-prefix-values
-array-share-prefix-values c = search needs
-
-slice-aggregate-figures : tie.Need-slice-aggregate-figures
-slice-aggregate-figures c = sym (length-take-le _ _ (omega arith))
-
-array-share-prefix-d : tie.Need-array-share-prefix-d
-array-share-prefix-d c = search needs
-
-slice-aggregate-ds : tie.Need-slice-aggregate-ds
-slice-aggregate-ds c = sym (length-take-le _ _ (omega arith))
-
-array-share-prefix-i : tie.Need-array-share-prefix-i
-array-share-prefix-i c = search needs
-
-slice-aggregate-is : tie.Need-slice-aggregate-is
-slice-aggregate-is c = sym (length-take-le _ _ (omega arith))
-
-array-share-prefix-k : tie.Need-array-share-prefix-k
-array-share-prefix-k c = search needs
-
-slice-aggregate-ks : tie.Need-slice-aggregate-ks
-slice-aggregate-ks c = sym (length-take-le _ _ (omega arith))
-
 coefficients-requires : tie.Need-coefficients-requires
 coefficients-requires c κs = search needs
 
 -- ---- what the operation on coefficients has said, of the condition whose terms are lent
 module _ (e : tie.After-coefficients) where
   abbrev start : tie.Start
-  start = e .before .before .before .before .before .before .before .before .before .before .before .before
+  start = e .before .before
 
   abbrev directions : List ℤ
   directions = now (start .args .directions)
@@ -63,13 +31,14 @@ module _ (e : tie.After-coefficients) where
   q = now (start .args .q)
 
   abbrev asked : Condition
-  asked = conditionIn (start .args .kind) (start .args .target) (start .args .t)
+  asked =
+      conditionIn (start .args .kind) (start .args .target) (now (start .args .kinds)) (now (start .args .values)) (now (start .args .d)) (now (start .args .i)) (now (start .args .k))
 
   row-reply : coefficientsReply (lentOf directions q asked) (length directions) ≡ e .coefficients .result
   unfolding lentOf
   row-reply =
       let f = start .fits .target in
-      sym (e .coefficients .ensures .answer ∙ rw (start .pre .1) (simp toZ-ofZ))
+      sym (e .coefficients .ensures .answer ∙ rw (start .pre) (simp toZ-ofZ))
 
   row-list : e .coefficients .last .1 .1 .1 .1 .1 .1 .1 .1 .1 .0 ≡ coefficientsList (lentOf directions q asked) (now (start .args .row))
   unfolding lentOf
@@ -133,16 +102,6 @@ pub form-spec : {M : Type 1} → statement M
 form-spec =
     tie.close
     (tie.spec
-    array-share-prefix-kinds
-    slice-aggregate-letters
-    array-share-prefix-values
-    slice-aggregate-figures
-    array-share-prefix-d
-    slice-aggregate-ds
-    array-share-prefix-i
-    slice-aggregate-is
-    array-share-prefix-k
-    slice-aggregate-ks
     coefficients-requires
     enum-told
     same-length

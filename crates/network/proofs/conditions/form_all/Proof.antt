@@ -1,6 +1,6 @@
--- `network::conditions::form_all` meets its contract: what has been formed and what the conditions left give are those of the file. Assumes nothing.
-use mathlib.Core.Path.{_≡_, sym, _∙_, ap}
-use mathlib.Core.List.{List}
+-- `network::conditions::form_all` meets its contract: what has been formed and what the conditions left give are all. Assumes nothing.
+use mathlib.Core.Path.{_≡_, refl, sym, _∙_, ap, subst}
+use mathlib.Core.List.{List, _∷_}
 use Prim.Native.Nat.{ℕ, _+_, _-_, _<_, _≤_}
 use native.Mathlib.Omega.{arith}
 use borrow.Author.Needs.{needs}
@@ -11,47 +11,31 @@ use lib.ListN.{length, take, drop}
 use mir.Syntax.{w64}
 use mir.Val.{toZ, ofZ}
 use Rattle.exact.proofs.Bound.{read-at}
-use Rattle.network.proofs.Walking.{Walked, turn-line, turn-end}
 use Rattle.reply.specs.Checks.{figureOf}
-use Rattle.reply.proofs.Checking.{never}
+use Rattle.text.specs.Lines.{linesOf}
 use Rattle.condition.specs.Rules.{coefficientsList}
 use Rattle.condition.specs.declared.Kind.{Kind}
-use Rattle.network.specs.Net.{Condition, headed, netFrom, lentOf, conditionReply, misclosureOf}
-use Rattle.network.specs.Gathered.{headingIn, conditionIn}
+use Rattle.network.specs.Net.{Condition, Net, headed, netFrom, lentOf, conditionReply, misclosureOf}
+use Rattle.network.specs.Gathered.{Opened, headingIn}
 use Rattle.network.specs.declared.conditions.Heading.the-variants.{Of}
-use Rattle.network.proofs.Forming.{FormedTo, formed-none, terms-fit, form-turn, form-room, part-length, form-refused, form-more, row-put, form-other, end-reply, end-count, end-rows, end-closings}
+use Rattle.network.proofs.Walking.{Walked, walked, heading-readable, opened-rest, no-heading}
+use Rattle.network.proofs.Forming.{heading-here, FormedTo, same-left, formed-none, terms-fit, form-turn, form-room, part-length, form-refused, forms-refused, form-more, row-put, form-end}
 use Rattle.network.proofs.conditions.form_all.Statement.{statement}
 use Rattle.network.proofs.conditions.form_all.Tie as tie
 
 abbrev Inv-loop : tie.InvT-loop
-Inv-loop file directions q a₀ w₀ m start₀ at₀ n₀ a w start at n = FormedTo file directions q a w start at n
+Inv-loop file first directions q a₀ w₀ m start₀ at₀ n₀ a w start at n =
+    FormedTo (netFrom file first .conditions) (netFrom file start .conditions) directions q a w at n × (start ≤ length file) × Opened (linesOf (drop start file))
 
 abbrev μ-loop : tie.MeasureT-loop
-μ-loop file directions q a₀ w₀ m start₀ at₀ n₀ a w start at n = length file - start
+μ-loop file first directions q a₀ w₀ m start₀ at₀ n₀ a w start at n = length file - start
 
 loop-holds : tie.Need-loop-holds Inv-loop μ-loop
-loop-holds c = formed-none _ _ _ _ _ (c .before .pre .0 .1) (c .before .pre .0 .2) (c .before .pre .1 .1)
+loop-holds c =
+    let s = c .before in (formed-none _ _ _ _ _ (s .pre .0 .2) (s .pre .0 .3) (s .pre .1 .1), s .pre .0 .0, s .pre .1 .2)
 
 read-requires : tie.Need-read-requires Inv-loop μ-loop
-read-requires c κs = search needs
-
-enum-known-turn : tie.Need-enum-known-turn Inv-loop μ-loop
-enum-known-turn c = search needs
-
-enum-told : tie.Need-enum-told Inv-loop μ-loop
-enum-told c = search needs
-
-same-length : tie.Need-same-length Inv-loop μ-loop
-same-length c = search needs
-
-same-length-2 : tie.Need-same-length-2 Inv-loop μ-loop
-same-length-2 c = search needs
-
-returns : tie.Need-returns Inv-loop μ-loop
-returns c =
-    let t = c .before .before in let l = t .before in let s = l .before .before in let f = l .loop .inv in
-    let end = turn-end (now (s .args .file)) (l .loop .start) (sym (t .read .ensures) ∙ c .enum-told .given .1) in
-    (end-reply f end, ((λ e. end-count f end), ((λ e. end-rows f end), λ e. end-closings f end)))
+read-requires c κs = c .loop .inv .1
 
 heading-of-requires : tie.Need-heading-of-requires Inv-loop μ-loop
 heading-of-requires c κs = search needs
@@ -59,10 +43,25 @@ heading-of-requires c κs = search needs
 enum-known-heading : tie.Need-enum-known-heading Inv-loop μ-loop
 enum-known-heading c = search needs
 
--- ---- a turn that has read a line
+enum-told : tie.Need-enum-told Inv-loop μ-loop
+enum-told c = search needs
+
+same-length : tie.Need-same-length Inv-loop μ-loop
+same-length c = let l = c .before .before .before .before in l .loop .inv .0 .a-long ∙ sym (l .before .before .pre .0 .2)
+
+same-length-2 : tie.Need-same-length-2 Inv-loop μ-loop
+same-length-2 c = let l = c .before .before .before .before in l .loop .inv .0 .w-long ∙ sym (l .before .before .pre .0 .3)
+
+returns : tie.Need-returns Inv-loop μ-loop
+returns c =
+    let l = c .before .before .before .before in let r = c .before .before .before .read in
+    form-end (l .loop .inv .0)
+    (no-heading (now (l .before .before .args .file)) (l .loop .start) (r .result .said) (r .ensures .0) (sym (c .before .before .heading-of .ensures) ∙ c .enum-told .given .1) (l .loop .inv .2))
+
+-- ---- a C line, with its kind and target
 module _ (c : tie.After-known-told Inv-loop μ-loop) where
   abbrev loop : tie.At-loop Inv-loop μ-loop
-  loop = c .before .before .before .before
+  loop = c .before .before .before .before .before
 
   abbrev start : tie.Start Inv-loop μ-loop
   start = loop .before .before
@@ -77,15 +76,7 @@ module _ (c : tie.After-known-told Inv-loop μ-loop) where
   q = now (start .args .q)
 
   abbrev next : ℕ
-  next = c .before .turn .given .0 .1 .0
-
-  walked : Walked file (loop .loop .start) (c .before .turn .given .0 .0) next
-  walked = turn-line file (loop .loop .start) _ _ (sym (c .before .before .before .read .ensures) ∙ c .before .turn .given .1)
-
--- a C line, with its kind and target
-module _ (c : tie.After-known-told2 Inv-loop μ-loop) where
-  abbrev line : tie.After-known-told Inv-loop μ-loop
-  line = c .before .before .before .before
+  next = c .before .before .before .before .read .result .next
 
   abbrev kind : Kind
   kind = c .before .heading .given .0 .0
@@ -93,138 +84,125 @@ module _ (c : tie.After-known-told2 Inv-loop μ-loop) where
   abbrev target : ℤ
   target = c .before .heading .given .0 .1 .0
 
-  abbrev condition : Condition
-  condition = headed kind target (netFrom (file line) (next line) .pending)
-
-  told : headingIn (line .before .turn .given .0 .0) ≡ Of kind target
+  told : headingIn (c .before .before .before .before .read .result .said) ≡ Of kind target
   told = sym (c .before .before .before .heading-of .ensures) ∙ c .before .heading .given .1
 
-  few : length (netFrom (file line) 0 .conditions) ≤ 24
-  few = start line .pre .1 .0
+  on : Walked file (loop .loop .start) (c .before .before .before .before .read .result .said) next
+  on =
+      let r = c .before .before .before .before .read in let h = heading-readable (r .result .said) kind target told in
+      walked file (loop .loop .start) (r .result .said) next (r .ensures .0) h (r .ensures .1 h)
 
-  narrow : length (directions line) ≤ 64
-  narrow = start line .pre .0 .0
+  abbrev condition : Condition
+  condition = headed kind target (netFrom file next .pending)
 
-  turn : loop line .loop .n < 24
-  turn = form-turn (loop line .loop .inv) (walked line) kind target told few narrow
+  here : netFrom file (loop .loop .start) .conditions ≡ condition ∷ netFrom file next .conditions
+  here = ap (λ (net : Net). net .conditions) (on .net) ∙ heading-here (c .before .before .before .before .read .result .said) (netFrom file next) kind target told
 
-  room : loop line .loop .at + length (directions line) ≤ 1536
-  room = form-room (loop line .loop .inv) (walked line) kind target told few narrow
+  few : length (netFrom file (start .args .first) .conditions) ≤ 24
+  few = start .pre .1 .0
 
-gather-requires : tie.Need-gather-requires Inv-loop μ-loop
-gather-requires c κs = terms-fit (loop (line c) .loop .inv) (walked (line c)) (kind c) (target c) (told c)
+  narrow : length directions ≤ 64
+  narrow = start .pre .0 .1
 
-add-form : tie.Need-add-form Inv-loop μ-loop
-add-form c = omega (arith, room (c .before))
+  turn : loop .loop .n < 24
+  turn = form-turn (loop .loop .inv .0) here few narrow
 
-mul-form : tie.Need-mul-form Inv-loop μ-loop
-mul-form c = omega (arith, room (c .before))
-
-sub-form : tie.Need-sub-form Inv-loop μ-loop
-sub-form c = omega (arith, room (c .before))
-
-part-form-start : tie.Need-part-form-start Inv-loop μ-loop
-part-form-start c = sub-form c
-
-part-form-end : tie.Need-part-form-end Inv-loop μ-loop
-part-form-end c = let l = line (c .before) in omega (arith, room (c .before), loop l .loop .inv .a-long)
-
-add-form-2 : tie.Need-add-form-2 Inv-loop μ-loop
-add-form-2 c = omega (arith, turn (c .before .before))
-
-form-requires : tie.Need-form-requires Inv-loop μ-loop
-form-requires c κs =
-    let l = line (c .before .before) in
-    (c .before .gather .ensures .1, part-length (loop l .loop .at) (length (directions l)) (loop l .loop .a) (room (c .before .before)) (loop l .loop .inv .a-long))
-
--- ---- what has been formed
-module _ (c : tie.After-form Inv-loop μ-loop) where
-  abbrev heading : tie.After-known-told2 Inv-loop μ-loop
-  heading = c .before .before .before
-
-  abbrev here : tie.After-known-told Inv-loop μ-loop
-  here = line heading
+  room : loop .loop .at + length directions ≤ 1536
+  room = form-room (loop .loop .inv .0) here few narrow
 
   abbrev old : List ℤ
-  old = take (loop here .loop .at + length (directions here) - loop here .loop .at) (drop (loop here .loop .at) (loop here .loop .a))
+  old = take (loop .loop .at + length directions - loop .loop .at) (drop (loop .loop .at) (loop .loop .a))
 
-  asked : conditionIn (kind heading) (toZ w64 (ofZ w64 (target heading))) (c .before .before .gather .result) ≡ condition heading
-  asked =
-      ap (λ (z : ℤ). conditionIn (kind heading) z (c .before .before .gather .result)) (read-at (target heading) (heading .known-told2 .given .1 .0 .1))
-      ∙ c .before .before .gather .ensures .0 (kind heading) (target heading)
+  old-long : length old ≡ length directions
+  old-long = part-length (loop .loop .at) (length directions) (loop .loop .a) room (loop .loop .inv .0 .a-long)
 
-  old-long : length old ≡ length (directions here)
-  old-long = part-length (loop here .loop .at) (length (directions here)) (loop here .loop .a) (room heading) (loop here .loop .inv .a-long)
+add-form-at : tie.Need-add-form-at Inv-loop μ-loop
+add-form-at c = omega (arith, room c)
 
-  wide : loop here .loop .at + length (directions here) - loop here .loop .at ≡ length (directions here)
+mul-form-at : tie.Need-mul-form-at Inv-loop μ-loop
+mul-form-at c = omega (arith, room c)
+
+sub-form-at : tie.Need-sub-form-at Inv-loop μ-loop
+sub-form-at c = omega (arith, room c)
+
+part-form-at-start : tie.Need-part-form-at-start Inv-loop μ-loop
+part-form-at-start c = sub-form-at c
+
+part-form-at-end : tie.Need-part-form-at-end Inv-loop μ-loop
+part-form-at-end c = omega (arith, room c, loop c .loop .inv .0 .a-long)
+
+add-form-at-2 : tie.Need-add-form-at-2 Inv-loop μ-loop
+add-form-at-2 c = omega (arith, turn (c .before))
+
+form-at-requires : tie.Need-form-at-requires Inv-loop μ-loop
+form-at-requires c κs =
+    let k = c .before in ((on k .within, terms-fit (loop k .loop .inv .0) (here k), opened-rest (on k) (kind k) (target k) (told k) (loop k .loop .inv .2)), old-long k)
+
+-- ---- what has been formed
+module _ (c : tie.After-form-at Inv-loop μ-loop) where
+  abbrev line : tie.After-known-told Inv-loop μ-loop
+  line = c .before .before
+
+  asked : headed (kind line) (toZ w64 (ofZ w64 (target line))) (netFrom (file line) (next line) .pending) ≡ condition line
+  asked = ap (λ (z : ℤ). headed (kind line) z (netFrom (file line) (next line) .pending)) (read-at (target line) (line .known-told .given .1 .0 .1))
+
+  wide : loop line .loop .at + length (directions line) - loop line .loop .at ≡ length (directions line)
   wide = omega arith
 
-  figured : c .form .result ≡ figureOf
-      (conditionReply (directions here) (q here) (loop here .loop .n + 1) (condition heading))
-      (misclosureOf (directions here) (q here) (condition heading))
+  figured : c .form-at .result .figure ≡ figureOf
+      (conditionReply (directions line) (q line) (loop line .loop .n + 1) (condition line))
+      (misclosureOf (directions line) (q line) (condition line))
   figured =
-      c .form .ensures .0
-      ∙ ap (λ (d : Condition). figureOf (conditionReply (directions here) (q here) (loop here .loop .n + 1) d) (misclosureOf (directions here) (q here) d)) asked
+      c .form-at .ensures .answer
+      ∙ ap (λ (d : Condition). figureOf (conditionReply (directions line) (q line) (loop line .loop .n + 1) d) (misclosureOf (directions line) (q line) d)) asked
 
-  listed : c .form .last .1 .1 .1 .1 .1 .0 ≡ coefficientsList (lentOf (directions here) (q here) (condition heading)) old
-  listed =
-      c .form .ensures .1
-      ∙ ap (λ (d : Condition). coefficientsList (lentOf (directions here) (q here) d) old) asked
+  listed : c .form-at .last .1 .1 .1 .1 .1 .1 .0 ≡ coefficientsList (lentOf (directions line) (q line) (condition line)) (old line)
+  listed = c .form-at .ensures .list ∙ ap (λ (d : Condition). coefficientsList (lentOf (directions line) (q line) d) (old line)) asked
 
-  put-back : length (putMid (loop here .loop .at) (loop here .loop .at + length (directions here) - loop here .loop .at) (loop here .loop .a) (c .form .last .1 .1 .1 .1 .1 .0)) ≡ length (loop here .loop .a)
+  put-back : length (putMid (loop line .loop .at) (loop line .loop .at + length (directions line) - loop line .loop .at) (loop line .loop .a) (c .form-at .last .1 .1 .1 .1 .1 .1 .0)) ≡ length (loop line .loop .a)
   put-back =
-      row-put (loop here .loop .inv) (walked here) (kind heading) (target heading) (told heading) (few heading) (narrow heading)
-      (c .form .last .1 .1 .1 .1 .1 .0) old _ listed old-long wide
+      row-put (loop line .loop .inv .0) (here line) (few line) (narrow line) (c .form-at .last .1 .1 .1 .1 .1 .1 .0) (old line) _ listed (old-long line) wide
 
-enum-known-formed : tie.Need-enum-known-formed Inv-loop μ-loop
-enum-known-formed c = search needs
+enum-known-figure : tie.Need-enum-known-figure Inv-loop μ-loop
+enum-known-figure c = search needs
 
 mul-x : tie.Need-mul-x Inv-loop μ-loop
-mul-x c = let t = turn (heading (c .before .before .before .before)) in omega (arith, t)
+mul-x c = let t = turn (line (c .before .before .before .before)) in omega (arith, t)
 
 slice-set-from-x : tie.Need-slice-set-from-x Inv-loop μ-loop
-slice-set-from-x c = let e = c .before .before .before .before in omega (arith, turn (heading e), loop (here e) .loop .inv .w-long)
+slice-set-from-x c = let k = line (c .before .before .before .before) in omega (arith, turn k, loop k .loop .inv .0 .w-long)
 
-enum-known-formed-2 : tie.Need-enum-known-formed-2 Inv-loop μ-loop
-enum-known-formed-2 c = search needs
+enum-known-figure-2 : tie.Need-enum-known-figure-2 Inv-loop μ-loop
+enum-known-figure-2 c = search needs
 
 same-length-3 : tie.Need-same-length-3 Inv-loop μ-loop
-same-length-3 c = let e = c .before .before .before .before in let l = here e in put-back e ∙ loop l .loop .inv .a-long ∙ sym (start l .pre .0 .1)
+same-length-3 c = let e = c .before .before .before .before in let k = line e in put-back e ∙ loop k .loop .inv .0 .a-long ∙ sym (start k .pre .0 .2)
 
 same-length-4 : tie.Need-same-length-4 Inv-loop μ-loop
-same-length-4 c = let l = here (c .before .before .before .before) in loop l .loop .inv .w-long ∙ sym (start l .pre .0 .2)
+same-length-4 c = let k = line (c .before .before .before .before) in loop k .loop .inv .0 .w-long ∙ sym (start k .pre .0 .3)
 
 returns-2 : tie.Need-returns-2 Inv-loop μ-loop
 returns-2 c =
-    let e = c .before .before .before .before in let l = here e in let h = heading e in let why = c .before .formed2 .given .0 .0 in (
-      form-refused (loop l .loop .inv) (walked l) (kind h) (target h) (told h) why (sym (figured e) ∙ c .before .formed2 .given .1),
-      (never why, (never why, never why)),
-    )
+    let e = c .before .before .before .before in let k = line e in let why = c .before .figure2 .given .0 .0 in
+    forms-refused why (form-refused (loop k .loop .inv .0) (here k) why (sym (figured e) ∙ c .before .figure2 .given .1))
 
 add-at : tie.Need-add-at Inv-loop μ-loop
-add-at c = omega (arith, room (heading (c .before .before .before .before)))
+add-at c = omega (arith, room (line (c .before .before .before .before)))
 
 add-n : tie.Need-add-n Inv-loop μ-loop
-add-n c = omega (arith, turn (heading (c .before .before .before .before)))
-
-enum-told-2 : tie.Need-enum-told-2 Inv-loop μ-loop
-enum-told-2 c = search needs
+add-n c = omega (arith, turn (line (c .before .before .before .before)))
 
 loop-less : tie.Need-loop-less Inv-loop μ-loop
-loop-less c = let l = here (c .before .before .before .before) in omega (arith, walked l .on, walked l .within)
+loop-less c = let e = c .before .before .before .before in omega (arith, on (line e) .on, e .form-at .ensures .on, e .form-at .ensures .within)
 
 loop-again : tie.Need-loop-again Inv-loop μ-loop
 loop-again c =
-    let e = c .before .before .before .before in let l = here e in let h = heading e in let v = c .before .formed .given in
-    form-more (loop l .loop .inv) (walked l) (kind h) (target h) (told h) (few h) (narrow h) _ (old e) _ (listed e) (old-long e) (wide e)
-    (v .0 .0) (sym (figured e) ∙ v .1) _ (read-at (v .0 .0) (c .known-told3 .given .0 .1))
-
-loop-less-2 : tie.Need-loop-less-2 Inv-loop μ-loop
-loop-less-2 c = let l = c .before .before .before in omega (arith, walked l .on, walked l .within)
-
-loop-again-2 : tie.Need-loop-again-2 Inv-loop μ-loop
-loop-again-2 c =
-    let l = c .before .before .before in form-other (loop l .loop .inv) (walked l) (sym (c .before .before .heading-of .ensures) ∙ c .enum-told2 .given .1)
+    let e = c .before .before .before .before in let k = line e in let l = loop k in let v = c .before .figure .given in (
+      same-left (e .form-at .ensures .conditions)
+          (form-more (l .loop .inv .0) (here k) (few k) (narrow k) _ (old k) _ (listed e) (old-long k) (wide e) (v .0 .0) (sym (figured e) ∙ v .1) _ (read-at (v .0 .0) (c .known-told2 .given .0 .1))),
+      e .form-at .ensures .within,
+      e .form-at .ensures .opened,
+    )
 
 pub form-all-spec : {M : Type 1} → statement M
 form-all-spec =
@@ -234,32 +212,27 @@ form-all-spec =
     μ-loop
     loop-holds
     read-requires
-    enum-known-turn
+    heading-of-requires
+    enum-known-heading
     enum-told
     same-length
     same-length-2
     returns
-    heading-of-requires
-    enum-known-heading
-    gather-requires
-    add-form
-    mul-form
-    sub-form
-    part-form-start
-    part-form-end
-    add-form-2
-    form-requires
-    enum-known-formed
+    add-form-at
+    mul-form-at
+    sub-form-at
+    part-form-at-start
+    part-form-at-end
+    add-form-at-2
+    form-at-requires
+    enum-known-figure
     mul-x
     slice-set-from-x
-    enum-known-formed-2
+    enum-known-figure-2
     same-length-3
     same-length-4
     returns-2
     add-at
     add-n
-    enum-told-2
     loop-less
-    loop-again
-    loop-less-2
-    loop-again-2)
+    loop-again)

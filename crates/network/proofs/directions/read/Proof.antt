@@ -1,5 +1,5 @@
 -- `network::directions::read` meets its contract: what has been read and the directions of what is left are those of the file. Assumes nothing.
-use mathlib.Core.Path.{refl, sym, _∙_}
+use mathlib.Core.Path.{_≡_, refl, sym, _∙_, ap, subst}
 use mathlib.Core.List.{List}
 use Prim.Native.Nat.{ℕ, _-_, _<_}
 use native.Mathlib.Omega.{arith}
@@ -7,39 +7,40 @@ use borrow.Author.Needs.{needs}
 use denote.Ref.{now}
 use lib.ListN.{length}
 use Rattle.exact.proofs.Bound.{read-at}
-use Rattle.network.proofs.Walking.{Walked, turn-line, turn-end}
-use Rattle.network.proofs.Reading.{ReadTo, read-none, read-room, read-more, read-other, read-all, read-weights}
+use Rattle.network.specs.Turns.{Readable}
+use Rattle.network.specs.declared.record.Record.{Record}
+use Rattle.network.proofs.Walking.{Walked, walked, directions-stop}
+use Rattle.network.proofs.Reading.{ReadTo, read-none, read-room, read-more, read-all}
 use Rattle.network.proofs.directions.read.Statement.{statement}
 use Rattle.network.proofs.directions.read.Tie as tie
 
 abbrev Inv-loop : tie.InvT-loop
-Inv-loop file direction₀ q₀ m₀ start₀ direction q m start = ReadTo file direction q m start
+Inv-loop file directions₀ q₀ m₀ start₀ directions q m start = ReadTo file directions q m start
 
 abbrev μ-loop : tie.MeasureT-loop
-μ-loop file direction₀ q₀ m₀ start₀ direction q m start = length file - start
+μ-loop file directions₀ q₀ m₀ start₀ directions q m start = length file - start
 
 loop-holds : tie.Need-loop-holds Inv-loop μ-loop
-loop-holds c = read-none _ _ _ refl refl
+loop-holds c = read-none _ _ _ (c .before .pre .1 .0) (c .before .pre .1 .1) (c .before .pre .0 .1)
 
 read-requires : tie.Need-read-requires Inv-loop μ-loop
-read-requires c κs = search needs
-
-enum-known-turn : tie.Need-enum-known-turn Inv-loop μ-loop
-enum-known-turn c = search needs
-
-enum-told : tie.Need-enum-told Inv-loop μ-loop
-enum-told c = search needs
-
-returns : tie.Need-returns Inv-loop μ-loop
-returns c =
-    let t = c .before .before in let l = t .before .loop in
-    let end = turn-end (now (t .before .before .before .args .file)) (l .start) (sym (t .read .ensures) ∙ c .enum-told .given .1) in
-    ((l .inv .most, l .inv .long, l .inv .q-long), (read-all (l .inv) end, read-weights (l .inv) end))
+read-requires c κs = c .loop .inv .within
 
 enum-known-said : tie.Need-enum-known-said Inv-loop μ-loop
 enum-known-said c = search needs
 
--- ---- a turn that has read a line
+same-length : tie.Need-same-length Inv-loop μ-loop
+same-length c = let l = c .before .before in l .loop .inv .long ∙ sym (l .before .before .pre .1 .0)
+
+same-length-2 : tie.Need-same-length-2 Inv-loop μ-loop
+same-length-2 c = let l = c .before .before in l .loop .inv .q-long ∙ sym (l .before .before .pre .1 .1)
+
+returns : tie.Need-returns Inv-loop μ-loop
+returns c =
+    let l = c .before .before in
+    read-all (l .loop .inv) (directions-stop (now (l .before .before .args .file)) (l .loop .start) (c .before .read .result .said) (c .before .read .ensures .0) (c .match .keys2) (l .loop .inv .led))
+
+-- ---- a D line
 module _ (c : tie.After-known-told Inv-loop μ-loop) where
   abbrev loop : tie.At-loop Inv-loop μ-loop
   loop = c .before .before .before .before
@@ -47,44 +48,36 @@ module _ (c : tie.After-known-told Inv-loop μ-loop) where
   abbrev file : List ℕ
   file = now (loop .before .before .args .file)
 
-  walked : Walked file (loop .loop .start) (c .before .turn .given .0 .0) (c .before .turn .given .0 .1 .0)
-  walked = turn-line file (loop .loop .start) _ _ (sym (c .before .before .before .read .ensures) ∙ c .before .turn .given .1)
+  on : Walked file (loop .loop .start) (c .before .before .before .read .result .said) (c .before .before .before .read .result .next)
+  on =
+      let r = c .before .before .before .read in let h = subst Readable (sym (c .before .said .given .1)) tt in
+      walked file (loop .loop .start) (r .result .said) (r .result .next) (r .ensures .0) h (r .ensures .1 h)
 
--- a D line
-abbrev line : tie.After-known-told2 Inv-loop μ-loop → tie.After-known-told Inv-loop μ-loop
-line c = c .before .before .before
+  room : loop .loop .m < 64
+  room = read-room (loop .loop .inv) on _ _ _ (c .before .said .given .1) (loop .before .before .pre .0 .0)
 
-room : (c : tie.After-known-told2 Inv-loop μ-loop) → loop (line c) .loop .m < 64
-room c = let b = line c in read-room (loop b .loop .inv) (walked b) _ _ _ (c .before .said .given .1) (loop b .before .before .pre)
+mul-x : tie.Need-mul-x Inv-loop μ-loop
+mul-x c = omega (arith, room c)
 
-mul-direction : tie.Need-mul-direction Inv-loop μ-loop
-mul-direction c = omega (arith, room c)
+slice-set-from-x : tie.Need-slice-set-from-x Inv-loop μ-loop
+slice-set-from-x c = omega (arith, room c, loop c .loop .inv .long)
 
-array-set-from-direction : tie.Need-array-set-from-direction Inv-loop μ-loop
-array-set-from-direction c = room c
+mul-g : tie.Need-mul-g Inv-loop μ-loop
+mul-g c = omega (arith, room c)
 
-mul-q : tie.Need-mul-q Inv-loop μ-loop
-mul-q c = omega (arith, room c)
-
-array-set-from-q : tie.Need-array-set-from-q Inv-loop μ-loop
-array-set-from-q c = room c
+slice-set-from-g : tie.Need-slice-set-from-g Inv-loop μ-loop
+slice-set-from-g c = omega (arith, room c, loop c .loop .inv .q-long)
 
 add-m : tie.Need-add-m Inv-loop μ-loop
 add-m c = omega (arith, room c)
 
 loop-less : tie.Need-loop-less Inv-loop μ-loop
-loop-less c = omega (arith, walked (line c) .on, walked (line c) .within)
+loop-less c = omega (arith, on c .on, on c .within)
 
 loop-again : tie.Need-loop-again Inv-loop μ-loop
 loop-again c =
-    let b = line c in let v = c .before .said .given in let f = c .known-told2 .given in
-    read-more (loop b .loop .inv) (walked b) _ _ _ (v .1) _ _ (read-at (v .0 .1 .0) (f .1 .0 .1)) (read-at (v .0 .1 .1 .0) (f .1 .1 .0 .1)) (room c)
-
-loop-less-2 : tie.Need-loop-less-2 Inv-loop μ-loop
-loop-less-2 c = omega (arith, walked (c .before) .on, walked (c .before) .within)
-
-loop-again-2 : tie.Need-loop-again-2 Inv-loop μ-loop
-loop-again-2 c = let b = c .before in read-other (loop b .loop .inv) (walked b) (c .match2 .keys2)
+    let v = c .before .said .given in let f = c .known-told .given in
+    read-more (loop c .loop .inv) (on c) _ _ _ (v .1) _ _ (read-at (v .0 .1 .0) (f .1 .0 .1)) (read-at (v .0 .1 .1 .0) (f .1 .1 .0 .1)) (room c)
 
 pub read-spec : {M : Type 1} → statement M
 read-spec =
@@ -94,16 +87,14 @@ read-spec =
     μ-loop
     loop-holds
     read-requires
-    enum-known-turn
-    enum-told
-    returns
     enum-known-said
-    mul-direction
-    array-set-from-direction
-    mul-q
-    array-set-from-q
+    same-length
+    same-length-2
+    returns
+    mul-x
+    slice-set-from-x
+    mul-g
+    slice-set-from-g
     add-m
     loop-less
-    loop-again
-    loop-less-2
-    loop-again-2)
+    loop-again)

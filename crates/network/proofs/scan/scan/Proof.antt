@@ -7,14 +7,15 @@ use borrow.Author.Needs.{needs}
 use borrow.Author.Tests.{lt-ltb, le-ltb}
 use denote.Ref.{now}
 use lib.ListN.{length}
-use Rattle.text.specs.Parts.{placeFrom}
-use Rattle.text.specs.Lines.{LF, lineAt}
-use Rattle.network.specs.Records.{recordOf}
+use Rattle.reply.specs.declared.Reply.the-variants.{Accepted}
 use Rattle.reply.proofs.Unique.{replies}
+use Rattle.text.specs.Parts.{placeFrom}
+use Rattle.text.specs.Lines.{LF}
 use Rattle.network.specs.Scan.{Low, none, lineReply, counted, scanned, scanReply}
+use Rattle.network.specs.Turns.{saidAt}
 use Rattle.network.specs.declared.scan.Counts.{Counts}
-use Rattle.text.proofs.Splitting.{whole-within, missing-within, missing-past, none-past, line-next}
-use Rattle.network.proofs.Scanning.{Passed, passed-more, passed-low, left, scan-refused, scan-accepted, scan-missing, scan-none}
+use Rattle.network.proofs.Walking.{Walked, walked}
+use Rattle.network.proofs.Scanning.{Passed, passed-more, passed-low, left, scan-none, readable, said-refused, said-accepted}
 use Rattle.network.proofs.scan.scan.Statement.{statement}
 use Rattle.network.proofs.scan.scan.Tie as tie
 
@@ -53,102 +54,70 @@ module _ (l : tie.At-loop Inv-loop μ-loop) where
   low : Low counts
   low = passed-low place counts (omega (arith, l .loop .inv .1, l .loop .inv .0, l .before .if1 .left)) (l .loop .inv .2)
 
--- ---- a turn that has read a line
-abbrev turn : tie.After-of Inv-loop μ-loop → tie.At-loop Inv-loop μ-loop
-turn c = c .before .before .before .before .before
+-- ---- a turn that has read a line and its reply
+module _ (c : tie.After-line-reply Inv-loop μ-loop) where
+  abbrev turn : tie.At-loop Inv-loop μ-loop
+  turn = c .before .before .before
 
-module _ (c : tie.After-of Inv-loop μ-loop) where
-  within : placeFrom LF (file (turn c)) (start (turn c)) < length (file (turn c))
-  within =
-      let t = c .before .before in
-      whole-within (file (turn c)) (start (turn c)) (sym (t .before .before .line-status .ensures) ∙ t .enum-told3 .given .1)
+  inside : start turn < length (file turn)
+  inside = c .before .before .loop-test .taken
 
-  said : c .of .result ≡ recordOf (lineAt (file (turn c)) (start (turn c)))
-  said = c .of .ensures ∙ ap recordOf (c .before .line .ensures)
+  replied : lineReply (place turn) (counts turn) (saidAt (file turn) (start turn)) ≡ c .line-reply .result
+  replied = ap (lineReply (place turn) (counts turn)) (sym (c .before .read .ensures .0)) ∙ sym (c .line-reply .ensures)
 
-  next : start (turn c) + length (now (c .before .line .result)) ≡ placeFrom LF (file (turn c)) (start (turn c))
-  next =
-      ap (λ (text : List ℕ). start (turn c) + length text) (c .before .line .ensures)
-      ∙ line-next (file (turn c)) (start (turn c)) within
+  module _ (e : c .line-reply .result ≡ Accepted) where
+    accepted : lineReply (place turn) (counts turn) (c .before .read .result .said) ≡ Accepted
+    accepted = sym (c .line-reply .ensures) ∙ e
 
-replied : (c : tie.After-line-reply Inv-loop μ-loop) → let l = turn (c .before) in
-    lineReply (place l) (counts l) (recordOf (lineAt (file l) (start l))) ≡ c .line-reply .result
-replied c = let l = turn (c .before) in ap (lineReply (place l) (counts l)) (sym (said (c .before))) ∙ sym (c .line-reply .ensures)
+    next : c .before .read .result .next ≡ placeFrom LF (file turn) (start turn) + 1
+    next = c .before .read .ensures .1 (readable (place turn) (counts turn) (c .before .read .result .said) accepted)
 
--- ---- the answers
-line-status-requires : tie.Need-line-status-requires Inv-loop μ-loop
-line-status-requires c κs = search needs
+    on : Walked (file turn) (start turn) (c .before .read .result .said) (c .before .read .result .next)
+    on = walked (file turn) (start turn) (c .before .read .result .said) (c .before .read .result .next) (c .before .read .ensures .0) (readable (place turn) (counts turn) _ accepted) next
 
-enum-told : tie.Need-enum-told Inv-loop μ-loop
-enum-told c = search needs
-
-end-reply-requires : tie.Need-end-reply-requires Inv-loop μ-loop
-end-reply-requires c κs = search needs
-
-returns-2 : tie.Need-returns-2 Inv-loop μ-loop
-returns-2 c =
-    let t = c .before .before .before in let l = t .before in
-    replies
-    (c .end-reply .ensures
-    ∙ sym (scan-none (file l) (start l) (place l) (counts l) (none-past (file l) (start l) (sym (t .line-status .ensures) ∙ c .before .enum-told .given .1)))
-    ∙ onward l)
-
-enum-told-2 : tie.Need-enum-told-2 Inv-loop μ-loop
-enum-told-2 c = search needs
-
-returns-3 : tie.Need-returns-3 Inv-loop μ-loop
-returns-3 c =
-    let t = c .before .before in let l = t .before in let e = sym (t .line-status .ensures) ∙ c .enum-told2 .given .1 in
-    replies (sym (scan-missing (file l) (start l) (place l) (counts l) (missing-within (file l) (start l) e) (missing-past (file l) (start l) e)) ∙ onward l)
-
-enum-told-3 : tie.Need-enum-told-3 Inv-loop μ-loop
-enum-told-3 c = search needs
-
-line-requires : tie.Need-line-requires Inv-loop μ-loop
-line-requires c κs = search needs
-
-of-requires : tie.Need-of-requires Inv-loop μ-loop
-of-requires c κs = search needs
+read-requires : tie.Need-read-requires Inv-loop μ-loop
+read-requires c κs = c .before .loop .inv .0
 
 line-reply-requires : tie.Need-line-reply-requires Inv-loop μ-loop
-line-reply-requires c κs = low (turn c) .m
+line-reply-requires c κs = low (c .before .before) .m
 
 enum-known-checked : tie.Need-enum-known-checked Inv-loop μ-loop
 enum-known-checked c = search needs
 
-returns-4 : tie.Need-returns-4 Inv-loop μ-loop
-returns-4 c =
-    let e = c .before .before .before in let o = e .before in let l = turn o in
-    replies (sym (scan-refused (file l) (start l) (place l) (counts l) (within o) (c .before .checked .given .0 .0) (replied e ∙ c .before .checked .given .1)) ∙ onward l)
+returns-2 : tie.Need-returns-2 Inv-loop μ-loop
+returns-2 c =
+    let e = c .before .before .before in let l = turn e in
+    replies (sym (said-refused (file l) (start l) (place l) (counts l) (inside e) (c .before .checked .given .0 .0) (replied e ∙ c .before .checked .given .1)) ∙ onward l)
 
-enum-told-4 : tie.Need-enum-told-4 Inv-loop μ-loop
-enum-told-4 c = search needs
+enum-told : tie.Need-enum-told Inv-loop μ-loop
+enum-told c = search needs
 
 counted-requires : tie.Need-counted-requires Inv-loop μ-loop
-counted-requires c κs = low (turn (c .before .before .before))
-
-add-start : tie.Need-add-start Inv-loop μ-loop
-add-start c = let o = c .before .before .before .before in omega (arith, within o, next o, turn o .loop .inv .1, turn o .before .if1 .left)
-
-add-start-2 : tie.Need-add-start-2 Inv-loop μ-loop
-add-start-2 c = let o = c .before .before .before .before in omega (arith, within o, next o, turn o .loop .inv .1, turn o .before .if1 .left)
+counted-requires c κs = low (turn (c .before .before))
 
 add-place : tie.Need-add-place Inv-loop μ-loop
-add-place c = let o = c .before .before .before .before in omega (arith, within o, next o, turn o .loop .inv .1, turn o .before .if1 .left)
+add-place c = let e = c .before .before .before in let l = turn e in omega (arith, inside e, l .loop .inv .1, l .before .if1 .left)
 
 loop-less : tie.Need-loop-less Inv-loop μ-loop
-loop-less c = let o = c .before .before .before .before in omega (arith, within o, next o, turn o .loop .inv .1, turn o .before .if1 .left)
+loop-less c = let e = c .before .before .before in let w = on e (c .before .enum-told .given .1) in omega (arith, w .on, w .within)
 
 loop-again : tie.Need-loop-again Inv-loop μ-loop
 loop-again c =
-    let e = c .before .before .before in let o = e .before in let l = turn o in
-    let accepted = replied e ∙ c .before .enum-told4 .given .1 in (
-      omega (arith, within o, next o),
-      omega (arith, l .loop .inv .1),
-      rw (c .counted .ensures) (passed-more (place l) (counts l) (o .of .result) (l .loop .inv .2)),
-      scan-accepted (file l) (start l) (place l) (counts l) (within o) (o .of .result) (c .counted .result) _ (said o) (c .counted .ensures) (next o) accepted
+    let e = c .before .before .before in let l = turn e in let a = c .before .enum-told .given .1 in let w = on e a in (
+      w .within,
+      omega (arith, l .loop .inv .1, w .on),
+      rw (c .counted .ensures) (passed-more (place l) (counts l) (e .before .read .result .said) (l .loop .inv .2)),
+      said-accepted (file l) (start l) (place l) (counts l) (inside e) (e .before .read .result .said) (c .counted .result) _ (e .before .read .ensures .0) (c .counted .ensures) (next e a) (accepted e a)
           ∙ l .loop .inv .3,
     )
+
+end-reply-requires : tie.Need-end-reply-requires Inv-loop μ-loop
+end-reply-requires c κs = search needs
+
+returns-3 : tie.Need-returns-3 Inv-loop μ-loop
+returns-3 c =
+    let l = c .before .before in
+    replies (c .end-reply .ensures ∙ sym (scan-none (file l) (start l) (place l) (counts l) (omega arith)) ∙ onward l)
 
 pub scan-spec : {M : Type 1} → statement M
 scan-spec =
@@ -158,22 +127,14 @@ scan-spec =
     μ-loop
     returns
     loop-holds
-    line-status-requires
-    enum-told
-    end-reply-requires
-    returns-2
-    enum-told-2
-    returns-3
-    enum-told-3
-    line-requires
-    of-requires
+    read-requires
     line-reply-requires
     enum-known-checked
-    returns-4
-    enum-told-4
+    returns-2
+    enum-told
     counted-requires
-    add-start
-    add-start-2
     add-place
     loop-less
-    loop-again)
+    loop-again
+    end-reply-requires
+    returns-3)

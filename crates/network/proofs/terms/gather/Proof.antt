@@ -1,5 +1,5 @@
 -- `network::terms::gather` meets its contract: what has been gathered and the terms of what is left are those at `start`. Assumes nothing.
-use mathlib.Core.Path.{refl, sym, _∙_, ap}
+use mathlib.Core.Path.{_≡_, refl, sym, _∙_, ap, subst}
 use mathlib.Core.List.{List}
 use Prim.Native.Nat.{ℕ, _-_, _<_}
 use native.Mathlib.Omega.{arith}
@@ -9,9 +9,9 @@ use lib.ListN.{length}
 use mir.Syntax.{w64}
 use mir.ValLaws.{toZ-pos}
 use Rattle.exact.proofs.Bound.{read-at}
-use Rattle.network.specs.Net.{Net, netOf, netFrom}
-use Rattle.network.proofs.Walking.{Walked, turn-line, turn-end, no-term}
-use Rattle.network.proofs.Reading.{Gathering, gather-none, gather-room, gather-more, gathered, full}
+use Rattle.network.specs.Turns.{Readable}
+use Rattle.network.proofs.Walking.{Walked, walked, terms-stop}
+use Rattle.network.proofs.Reading.{Gathering, gather-none, gather-room, gather-more, gathered}
 use Rattle.network.proofs.terms.gather.Statement.{statement}
 use Rattle.network.proofs.terms.gather.Tie as tie
 
@@ -22,21 +22,35 @@ abbrev μ-loop : tie.MeasureT-loop
 μ-loop file start kinds₀ values₀ ds₀ is₀ ks₀ count₀ at₀ kinds values ds is ks count at = length file - at
 
 loop-holds : tie.Need-loop-holds Inv-loop μ-loop
-loop-holds c = gather-none _ _ _ _ _ _ _ (refl, refl, refl, refl, refl)
+loop-holds c = gather-none _ _ _ _ _ _ _ (c .before .pre .1) (c .before .pre .0 .2) (c .before .pre .0 .0)
 
 read-requires : tie.Need-read-requires Inv-loop μ-loop
-read-requires c κs = search needs
-
-enum-known-turn : tie.Need-enum-known-turn Inv-loop μ-loop
-enum-known-turn c = search needs
-
-enum-told : tie.Need-enum-told Inv-loop μ-loop
-enum-told c = search needs
+read-requires c κs = c .loop .inv .within
 
 enum-known-said : tie.Need-enum-known-said Inv-loop μ-loop
 enum-known-said c = search needs
 
--- ---- a turn that has read a line
+same-length : tie.Need-same-length Inv-loop μ-loop
+same-length c = let l = c .before .before in l .loop .inv .long .0 ∙ sym (l .before .before .pre .1 .0)
+
+same-length-2 : tie.Need-same-length-2 Inv-loop μ-loop
+same-length-2 c = let l = c .before .before in l .loop .inv .long .1 ∙ sym (l .before .before .pre .1 .1)
+
+same-length-3 : tie.Need-same-length-3 Inv-loop μ-loop
+same-length-3 c = let l = c .before .before in l .loop .inv .long .2 ∙ sym (l .before .before .pre .1 .2)
+
+same-length-4 : tie.Need-same-length-4 Inv-loop μ-loop
+same-length-4 c = let l = c .before .before in l .loop .inv .long .3 ∙ sym (l .before .before .pre .1 .3)
+
+same-length-5 : tie.Need-same-length-5 Inv-loop μ-loop
+same-length-5 c = let l = c .before .before in l .loop .inv .long .4 ∙ sym (l .before .before .pre .1 .4)
+
+returns : tie.Need-returns Inv-loop μ-loop
+returns c =
+    let l = c .before .before in
+    gathered (l .loop .inv) (terms-stop (now (l .before .before .args .file)) (l .loop .at) (c .before .read .result .said) (c .before .read .ensures .0) (c .match .keys2) (l .loop .inv .body))
+
+-- ---- a term
 module _ (c : tie.After-known-told Inv-loop μ-loop) where
   abbrev loop : tie.At-loop Inv-loop μ-loop
   loop = c .before .before .before .before
@@ -44,59 +58,57 @@ module _ (c : tie.After-known-told Inv-loop μ-loop) where
   abbrev file : List ℕ
   file = now (loop .before .before .args .file)
 
-  walked : Walked file (loop .loop .at) (c .before .turn .given .0 .0) (c .before .turn .given .0 .1 .0)
-  walked = turn-line file (loop .loop .at) _ _ (sym (c .before .before .before .read .ensures) ∙ c .before .turn .given .1)
+  on : Walked file (loop .loop .at) (c .before .before .before .read .result .said) (c .before .before .before .read .result .next)
+  on =
+      let r = c .before .before .before .read in let h = subst Readable (sym (c .before .said .given .1)) tt in
+      walked file (loop .loop .at) (r .result .said) (r .result .next) (r .ensures .0) h (r .ensures .1 h)
 
--- a term
-abbrev line : tie.After-known-told2 Inv-loop μ-loop → tie.After-known-told Inv-loop μ-loop
-line c = c .before .before .before
-
-room : (c : tie.After-known-told2 Inv-loop μ-loop) → loop (line c) .loop .count < 12
-room c = let b = line c in gather-room (loop b .loop .inv) (walked b) _ _ _ _ _ (c .before .said .given .1) (loop b .before .before .pre)
+  room : loop .loop .count < 12
+  room = gather-room (loop .loop .inv) on _ _ _ _ _ (c .before .said .given .1) (loop .before .before .pre .0 .1)
 
 cast-kinds : tie.Need-cast-kinds Inv-loop μ-loop
 cast-kinds c = search needs
 
-mul-kinds : tie.Need-mul-kinds Inv-loop μ-loop
-mul-kinds c = omega (arith, room c)
+mul-t18 : tie.Need-mul-t18 Inv-loop μ-loop
+mul-t18 c = omega (arith, room c)
 
-array-set-from-kinds : tie.Need-array-set-from-kinds Inv-loop μ-loop
-array-set-from-kinds c = room c
+slice-set-from-kinds : tie.Need-slice-set-from-kinds Inv-loop μ-loop
+slice-set-from-kinds c = omega (arith, room c, loop c .loop .inv .long .0)
 
-mul-values : tie.Need-mul-values Inv-loop μ-loop
-mul-values c = omega (arith, room c)
+mul-value : tie.Need-mul-value Inv-loop μ-loop
+mul-value c = omega (arith, room c)
 
-array-set-from-values : tie.Need-array-set-from-values Inv-loop μ-loop
-array-set-from-values c = room c
+slice-set-from-value : tie.Need-slice-set-from-value Inv-loop μ-loop
+slice-set-from-value c = omega (arith, room c, loop c .loop .inv .long .1)
 
-mul-ds : tie.Need-mul-ds Inv-loop μ-loop
-mul-ds c = omega (arith, room c)
+mul-d : tie.Need-mul-d Inv-loop μ-loop
+mul-d c = omega (arith, room c)
 
-array-set-from-ds : tie.Need-array-set-from-ds Inv-loop μ-loop
-array-set-from-ds c = room c
+slice-set-from-d : tie.Need-slice-set-from-d Inv-loop μ-loop
+slice-set-from-d c = omega (arith, room c, loop c .loop .inv .long .2)
 
-mul-is : tie.Need-mul-is Inv-loop μ-loop
-mul-is c = omega (arith, room c)
+mul-i : tie.Need-mul-i Inv-loop μ-loop
+mul-i c = omega (arith, room c)
 
-array-set-from-is : tie.Need-array-set-from-is Inv-loop μ-loop
-array-set-from-is c = room c
+slice-set-from-i : tie.Need-slice-set-from-i Inv-loop μ-loop
+slice-set-from-i c = omega (arith, room c, loop c .loop .inv .long .3)
 
-mul-ks : tie.Need-mul-ks Inv-loop μ-loop
-mul-ks c = omega (arith, room c)
+mul-k : tie.Need-mul-k Inv-loop μ-loop
+mul-k c = omega (arith, room c)
 
-array-set-from-ks : tie.Need-array-set-from-ks Inv-loop μ-loop
-array-set-from-ks c = room c
+slice-set-from-k : tie.Need-slice-set-from-k Inv-loop μ-loop
+slice-set-from-k c = omega (arith, room c, loop c .loop .inv .long .4)
 
 add-count : tie.Need-add-count Inv-loop μ-loop
 add-count c = omega (arith, room c)
 
 loop-less : tie.Need-loop-less Inv-loop μ-loop
-loop-less c = omega (arith, walked (line c) .on, walked (line c) .within)
+loop-less c = omega (arith, on c .on, on c .within)
 
 loop-again : tie.Need-loop-again Inv-loop μ-loop
 loop-again c =
-    let b = line c in let v = c .before .said .given in let f = c .known-told2 .given in
-    gather-more (loop b .loop .inv) (walked b) _ _ _ _ _ (v .1) _ _ _ _ _ (
+    let v = c .before .said .given in let f = c .known-told .given in
+    gather-more (loop c .loop .inv) (on c) _ _ _ _ _ (v .1) _ _ _ _ _ (
       toZ-pos w64 (v .0 .0) (omega (arith, f .0)),
       read-at (v .0 .1 .0) (f .1 .0 .1),
       read-at (v .0 .1 .1 .0) (f .1 .1 .0 .1),
@@ -104,20 +116,6 @@ loop-again c =
       read-at (v .0 .1 .1 .1 .1 .0) (f .1 .1 .1 .1 .0 .1),
     )
     (room c)
-
-returns : tie.Need-returns Inv-loop μ-loop
-unfolding netOf
-returns c =
-    let t = c .before .before in let l = t .before .loop in
-    let end = turn-end (now (t .before .before .before .args .file)) (l .at) (sym (t .read .ensures) ∙ c .enum-told .given .1) in
-    (gathered (l .inv) (ap (λ (net : Net). net .pending) end), full (l .inv))
-
-returns-2 : tie.Need-returns-2 Inv-loop μ-loop
-returns-2 c =
-    let b = c .before in let l = loop b .loop in (
-      gathered (l .inv) (ap (λ (net : Net). net .pending) (walked b .net) ∙ no-term (b .before .turn .given .0 .0) (netFrom (file b) (b .before .turn .given .0 .1 .0)) (c .match2 .keys2)),
-      full (l .inv),
-    )
 
 pub gather-spec : {M : Type 1} → statement M
 gather-spec =
@@ -127,22 +125,24 @@ gather-spec =
     μ-loop
     loop-holds
     read-requires
-    enum-known-turn
-    enum-told
     enum-known-said
+    same-length
+    same-length-2
+    same-length-3
+    same-length-4
+    same-length-5
+    returns
     cast-kinds
-    mul-kinds
-    array-set-from-kinds
-    mul-values
-    array-set-from-values
-    mul-ds
-    array-set-from-ds
-    mul-is
-    array-set-from-is
-    mul-ks
-    array-set-from-ks
+    mul-t18
+    slice-set-from-kinds
+    mul-value
+    slice-set-from-value
+    mul-d
+    slice-set-from-d
+    mul-i
+    slice-set-from-i
+    mul-k
+    slice-set-from-k
     add-count
     loop-less
-    loop-again
-    returns
-    returns-2)
+    loop-again)

@@ -1,0 +1,45 @@
+-- The numbers of a line, one to a field, and what the reader of such a row answers.
+use mathlib.Core.Bool.{cond}
+use mathlib.Core.List.{List, [], _∷_}
+use mathlib.Core.Option.{Option, none, some}
+use Prim.Native.Nat.{ℕ, zero, suc, _+_}
+use lib.Dec.{ltb}
+use lib.IntN.{ℤ}
+use lib.ListN.{length}
+use Rattle.text.specs.Parts.{placeFrom}
+use Rattle.text.specs.Lines.{LF, lineAt}
+use Rattle.text.specs.Fields.{fieldsOf}
+use Rattle.text.specs.Numbers.{numeral}
+use Rattle.text.specs.declared.number.Number.{Number}
+use Rattle.text.specs.declared.number.Number.the-variants.{Value, Malformed}
+use Rattle.text.specs.declared.row.RowEnd.{RowEnd}
+use Rattle.text.specs.declared.row.RowEnd.the-variants.{Next, NoRow}
+
+-- a number before others
+unfoldable pub before : Number → Option (List ℤ) → Option (List ℤ)
+before (Value z) (some zs) = some (z ∷ zs)
+before (Value z) none = none
+before Malformed zs = none
+
+-- the numbers of so many fields; none, where the count is another or a number is malformed
+unfoldable pub numbersIn : ℕ → List (List ℕ) → Option (List ℤ)
+numbersIn zero [] = some []
+numbersIn zero (field ∷ fields) = none
+numbersIn (suc k) [] = none
+numbersIn (suc k) (field ∷ fields) = before (numeral field) (numbersIn k fields)
+
+-- those of the line at a start; none, where no LF follows
+unfoldable pub rowAt : (file : List ℕ) (start count : ℕ) → Option (List ℤ)
+rowAt file start count = cond (ltb (placeFrom LF file start) (length file)) (numbersIn count (fieldsOf (lineAt file start))) none
+
+unfoldable pub endOf : Option (List ℤ) → ℕ → RowEnd
+endOf (some zs) next = Next next
+endOf none next = NoRow
+
+unfoldable pub rowEnd : (file : List ℕ) (start count : ℕ) → RowEnd
+rowEnd file start count = endOf (rowAt file start count) (placeFrom LF file start + 1)
+
+-- the numbers of a row; where there is none, whatever else
+unfoldable pub rowValues : Option (List ℤ) → List ℤ → List ℤ
+rowValues (some zs) other = zs
+rowValues none other = other

@@ -1,0 +1,46 @@
+// The numbers of a line, one to a field, from left to right: each field is read from where the last one ended.
+ghost use mathlib.Core.Path.{_≡_};
+ghost use Prim.Native.Nat.{_≤_};
+ghost use lib.ListN.{length, take};
+ghost use Rattle.text.specs.Rows.{rowAt, rowEnd, rowValues};
+use crate::number;
+use crate::number::Number;
+
+const TAB: u8 = 9;
+
+const LF: u8 = 10;
+
+// Where the next line starts, or that there is no such row.
+pub enum RowEnd {
+    Next(usize),
+    NoRow,
+}
+
+// The numbers of the line at `start`, `count` of them and no other field, into the first places of x.
+pub fn read(file: &[u8], start: usize, count: usize, x: &mut [i64]) -> RowEnd
+    requires { ⌜ (start ≤ length (now file)) × (1 ≤ count) × (count ≤ length (now x)) ⌝ }
+    ensures end { λ r. ⌜ r ≡ rowEnd (now (file .entry)) start count ⌝ }
+    ensures values { λ r. ⌜ take count (now (x .exit)) ≡ rowValues (rowAt (now (file .entry)) start count) (take count (now (x .exit))) ⌝ }
+    ensures long { λ r. ⌜ length (now (x .exit)) ≡ length (now (x .entry)) ⌝ }
+{
+    let last = count - 1;
+    let mut at = start;
+    let mut i = 0;
+    while i < last {
+        let field = number::read_to(file, at, TAB);
+        let number = field.number;
+        let Number::Value(value) = number else {
+            return RowEnd::NoRow;
+        };
+        x[i] = value;
+        at = field.next;
+        i += 1;
+    }
+    let field = number::read_to(file, at, LF);
+    let number = field.number;
+    let Number::Value(value) = number else {
+        return RowEnd::NoRow;
+    };
+    x[last] = value;
+    RowEnd::Next(field.next)
+}
