@@ -46,11 +46,12 @@ pub fn coefficients(
         Reply::Accepted => {}
         Reply::Refused(why) => return Reply::Refused(why),
     }
-    let tally = tally::of(kinds, values, d, i, k);
-    if tally::beyond(tally, directions.len()) {
+    let mut tally = [0i64; 65];
+    tally::add_terms(&mut tally, kinds, values, d, i, k);
+    if tally::beyond(&tally, directions.len()) {
         return Reply::Refused(Refusal::Coefficient(1));
     }
-    tally::hand_over(tally, a);
+    tally::hand_over(&tally, a);
     Reply::Accepted
 }
 

@@ -1,4 +1,5 @@
 // The coefficients: a tally by direction number, 0 to 64, to which each term adds. Number 0 is the fixed initial, and what it gets is dropped.
+// The tally stands once, with `coefficients`, and is lent to what is here: 65 numbers are too many to copy for each term.
 ghost use mathlib.Core.Path.{_≡_};
 ghost use Prim.Native.Nat.{ℕ, _+_, _<_, _≤_};
 ghost use lib.Dec.{ltb};
@@ -16,66 +17,66 @@ use crate::term::Letter;
 use crate::term::Term;
 
 // x more at the number h.
-fn added(mut tally: [i64; 65], h: usize, x: i64) -> [i64; 65]
-    requires place { ⌜ h < 65 ⌝ }
-    requires small { ⌜ (Within 50000 tally) × (natAbs x ≤ 2000) ⌝ }
-    ensures { λ r. ⌜ ((n : ℕ) → getD r n (pos 0) ≡ getD tally n (pos 0) +ℤ placed h x n) ⌝ }
+fn add(tally: &mut [i64], h: usize, x: i64)
+    requires place { ⌜ h < length (now tally) ⌝ }
+    requires small { ⌜ (Within 50000 (now tally)) × (natAbs x ≤ 2000) ⌝ }
+    ensures { λ _. ⌜ ((n : ℕ) → getD (now (tally .exit)) n (pos 0) ≡ getD (now (tally .entry)) n (pos 0) +ℤ placed h x n) ⌝ }
 {
     tally[h] = tally[h] + x;
-    tally
 }
 
 // An angle from i to k with the factor x: x less at i, x more at k.
-fn turned(tally: [i64; 65], x: i64, t: Term) -> [i64; 65]
+fn turn(tally: &mut [i64], x: i64, t: Term)
     requires ends { ⌜ Ends 64 t ⌝ }
-    requires small { ⌜ (Within 48000 tally) × (natAbs x ≤ 2000) ⌝ }
-    ensures { λ r. ⌜ ((n : ℕ) → getD r n (pos 0) ≡ getD tally n (pos 0) +ℤ turned x t n) ⌝ }
+    requires whole { ⌜ length (now tally) ≡ 65 ⌝ }
+    requires small { ⌜ (Within 48000 (now tally)) × (natAbs x ≤ 2000) ⌝ }
+    ensures { λ _. ⌜ ((n : ℕ) → getD (now (tally .exit)) n (pos 0) ≡ getD (now (tally .entry)) n (pos 0) +ℤ turned x t n) ⌝ }
 {
     let i = t.i;
     let k = t.k;
-    let less = added(tally, i as usize, -x);
-    added(less, k as usize, x)
+    add(tally, i as usize, -x);
+    add(tally, k as usize, x);
 }
 
 // What one term adds. A fixed angle adds nothing, and its i and k are not read.
-fn with_term(tally: [i64; 65], t: Term) -> [i64; 65]
+fn add_term(tally: &mut [i64], t: Term)
     requires term { ⌜ Sound 64 t ⌝ }
-    requires small { ⌜ Within 48000 tally ⌝ }
-    ensures { λ r. ⌜ ((n : ℕ) → getD r n (pos 0) ≡ getD tally n (pos 0) +ℤ share t n) ⌝ }
+    requires whole { ⌜ length (now tally) ≡ 65 ⌝ }
+    requires small { ⌜ Within 48000 (now tally) ⌝ }
+    ensures { λ _. ⌜ ((n : ℕ) → getD (now (tally .exit)) n (pos 0) ≡ getD (now (tally .entry)) n (pos 0) +ℤ share t n) ⌝ }
 {
     let letter = t.letter;
     let d = t.d;
     match letter {
-        Letter::P => turned(tally, 100, t),
-        Letter::F => tally,
-        Letter::L => turned(tally, d, t),
-        Letter::R => turned(tally, -d, t),
-        Letter::Unknown => tally,
+        Letter::P => turn(tally, 100, t),
+        Letter::F => {}
+        Letter::L => turn(tally, d, t),
+        Letter::R => turn(tally, -d, t),
+        Letter::Unknown => {}
     }
 }
 
-// The tally of all terms.
-pub fn of(kinds: &[i64], values: &[i64], d: &[i64], i: &[i64], k: &[i64]) -> [i64; 65]
+// All terms, into a tally of zeros.
+pub fn add_terms(tally: &mut [i64], kinds: &[i64], values: &[i64], d: &[i64], i: &[i64], k: &[i64])
+    requires whole { ⌜ length (now tally) ≡ 65 ⌝ }
+    requires zeros { ⌜ ((n : ℕ) → getD (now tally) n (pos 0) ≡ pos 0) ⌝ }
     requires lists { ⌜ Fields (now kinds) (now values) (now d) (now i) (now k) ⌝ }
     requires terms { ⌜ AllSound 64 (length (now kinds)) (termAt (now kinds) (now values) (now d) (now i) (now k)) ⌝ }
-    ensures { λ r. ⌜ ((n : ℕ) → getD r n (pos 0) ≡ sum (length (now (kinds .entry)))
+    ensures { λ _. ⌜ ((n : ℕ) → getD (now (tally .exit)) n (pos 0) ≡ sum (length (now (kinds .entry)))
         (λ j. share (termAt (now (kinds .entry)) (now (values .entry)) (now (d .entry)) (now (i .entry)) (now (k .entry)) j) n)) ⌝ }
 {
-    let mut tally = [0i64; 65];
     let mut j: usize = 0;
     while j < kinds.len() {
         let t = term::at(kinds, values, d, i, k, j);
-        let next = with_term(tally, t);
-        tally = next;
+        add_term(tally, t);
         j += 1;
     }
-    tally
 }
 
 // Whether one of the directions 1 to m has a coefficient beyond 2,000.
-pub fn beyond(tally: [i64; 65], m: usize) -> bool
-    requires { ⌜ m ≤ 64 ⌝ }
-    ensures { λ r. ⌜ r ≡ some-below m (λ h. ltb 2000 (natAbs (getD tally (h + 1) (pos 0)))) ⌝ }
+pub fn beyond(tally: &[i64], m: usize) -> bool
+    requires { ⌜ m < length (now tally) ⌝ }
+    ensures { λ r. ⌜ r ≡ some-below m (λ h. ltb 2000 (natAbs (getD (now (tally .entry)) (h + 1) (pos 0)))) ⌝ }
 {
     let mut h: usize = 0;
     while h < m {
@@ -88,9 +89,9 @@ pub fn beyond(tally: [i64; 65], m: usize) -> bool
 }
 
 // The coefficients of directions 1 to m, handed over into the list that the caller lent.
-pub fn hand_over(tally: [i64; 65], a: &mut [i64])
-    requires { ⌜ length (now a) ≤ 64 ⌝ }
-    ensures { λ _. ⌜ now (a .exit) ≡ tabulate (length (now (a .entry))) (λ h. getD tally (h + 1) (pos 0)) ⌝ }
+pub fn hand_over(tally: &[i64], a: &mut [i64])
+    requires { ⌜ length (now a) < length (now tally) ⌝ }
+    ensures { λ _. ⌜ now (a .exit) ≡ tabulate (length (now (a .entry))) (λ h. getD (now (tally .entry)) (h + 1) (pos 0)) ⌝ }
 {
     let mut h: usize = 0;
     while h < a.len() {

@@ -20,10 +20,10 @@ abbrev large : List ℤ → ℕ → Bool
 large tally h = ltb 2000 (natAbs (getD tally (h + 1) (pos 0)))
 
 abbrev Inv-loop : tie.InvT-loop
-Inv-loop m tally h₀ h = (h ≤ m) × Failed (large tally) h
+Inv-loop tally m h₀ h = (h ≤ m) × Failed (large tally) h
 
 abbrev μ-loop : tie.MeasureT-loop
-μ-loop m tally h₀ h = m - h
+μ-loop tally m h₀ h = m - h
 
 loop-holds : tie.Need-loop-holds Inv-loop μ-loop
 loop-holds c = (omega arith, failed-none _)
@@ -34,8 +34,8 @@ add-magnitude c = search needs
 mul-magnitude : tie.Need-mul-magnitude Inv-loop μ-loop
 mul-magnitude c = search needs
 
-array-copy-out-magnitude : tie.Need-array-copy-out-magnitude Inv-loop μ-loop
-array-copy-out-magnitude c = search needs
+shared-slice-copy-out-magnitude : tie.Need-shared-slice-copy-out-magnitude Inv-loop μ-loop
+shared-slice-copy-out-magnitude c = search needs
 
 magnitude-requires : tie.Need-magnitude-requires Inv-loop μ-loop
 magnitude-requires c κs = search needs
@@ -49,7 +49,7 @@ module _ (c : tie.After-magnitude Inv-loop μ-loop) where
   h = c .before .before .before .loop .h
 
   abbrev tally : List ℤ
-  tally = s .args .t1
+  tally = s .args .tally .now
 
   size : c .magnitude .result ≡ natAbs (getD tally (h + 1) (pos 0))
   size = let f = fits-of-mag (getD tally (h + 1) (pos 0)) (c .before .magnitude-arg .given) in c .magnitude .ensures ∙ simp toZ-ofZ
@@ -76,7 +76,7 @@ loop-again c =
 returns-2 : tie.Need-returns-2 Inv-loop μ-loop
 returns-2 c =
     let s = c .before .before in
-    sym (some-none (s .args .m) (large (s .args .t1)) (λ h l. c .before .loop .inv .1 h (omega arith)))
+    sym (some-none (s .args .m) (large (s .args .tally .now)) (λ h l. c .before .loop .inv .1 h (omega arith)))
 
 pub beyond-spec : {M : Type 1} → statement M
 beyond-spec =
@@ -87,7 +87,7 @@ beyond-spec =
     loop-holds
     add-magnitude
     mul-magnitude
-    array-copy-out-magnitude
+    shared-slice-copy-out-magnitude
     magnitude-requires
     returns
     add-h

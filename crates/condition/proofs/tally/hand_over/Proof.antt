@@ -11,10 +11,10 @@ use Rattle.condition.proofs.tally.hand_over.Statement.{statement}
 use Rattle.condition.proofs.tally.hand_over.Tie as tie
 
 abbrev Inv-loop : tie.InvT-loop
-Inv-loop a₀ tally h₀ a h = (h ≤ length a₀) × Filled (pos 0) (λ h. getD tally (h + 1) (pos 0)) 0 h a₀ a
+Inv-loop tally a₀ h₀ a h = (h ≤ length a₀) × Filled (pos 0) (λ h. getD tally (h + 1) (pos 0)) 0 h a₀ a
 
 abbrev μ-loop : tie.MeasureT-loop
-μ-loop a₀ tally h₀ a h = length a₀ - h
+μ-loop tally a₀ h₀ a h = length a₀ - h
 
 loop-holds : tie.Need-loop-holds Inv-loop μ-loop
 loop-holds c = (omega arith, filled-none (pos 0) _ 0 _)
@@ -25,11 +25,11 @@ add-a c = search needs
 mul-a : tie.Need-mul-a Inv-loop μ-loop
 mul-a c = search needs
 
-array-copy-out-a : tie.Need-array-copy-out-a Inv-loop μ-loop
-array-copy-out-a c = search needs
+shared-slice-copy-out-a : tie.Need-shared-slice-copy-out-a Inv-loop μ-loop
+shared-slice-copy-out-a c = search needs
 
-mul-t11 : tie.Need-mul-t11 Inv-loop μ-loop
-mul-t11 c = search needs
+mul-t9 : tie.Need-mul-t9 Inv-loop μ-loop
+mul-t9 c = search needs
 
 slice-set-from-a : tie.Need-slice-set-from-a Inv-loop μ-loop
 slice-set-from-a c = search needs
@@ -51,7 +51,7 @@ same-length c = search needs
 returns : tie.Need-returns Inv-loop μ-loop
 returns c =
     let s = c .before .before in let l = c .before .loop in let xs = s .args .a .now in
-    let g : ℕ → ℤ = λ h. getD (s .args .t1) (h + 1) (pos 0) in
+    let g : ℕ → ℤ = λ h. getD (s .args .tally .now) (h + 1) (pos 0) in
     let e : l .h ≡ length xs = omega (arith, l .inv .1 .long) in
     filled-all (pos 0) g (length xs) xs (l .a) refl (subst (λ (n : ℕ). Filled (pos 0) g 0 n xs (l .a)) e (l .inv .1))
 
@@ -64,8 +64,8 @@ hand-over-spec =
     loop-holds
     add-a
     mul-a
-    array-copy-out-a
-    mul-t11
+    shared-slice-copy-out-a
+    mul-t9
     slice-set-from-a
     add-h
     loop-less
