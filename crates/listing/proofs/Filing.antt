@@ -1,7 +1,7 @@
 -- The promises of the operations on a whole file. Assumes nothing.
 --   file-demand3                            demand 3 of every accepted file
 --   file-most, listing-most                 no file's listing has more than 6,560 bytes
---   too-short, scan-refused, file-net       `adjust` keeps its promise: with a buffer that is too short, of a file that its scan refuses, of another
+--   too-short, table-refused, table-listed  `adjust` keeps its promise: with a buffer that is too short, of a file without a table, of another
 --   refusal-leaves-buffer                   a refusal that keeps the promise leaves the lent buffer as it was
 --   no-listing, roomy-refused, roomy-accepted   `list` keeps its promise: with a buffer that is too short, and by the answer of `adjust`
 --   no-line, whole-line                     so does `refused_line`
@@ -10,11 +10,12 @@
 use mathlib.Core.Path.{_≡_, refl, sym, _∙_, ap, subst}
 use mathlib.Core.Bool.{Bool, true, false, cond}
 use mathlib.Core.List.{List, []}
-use Prim.Native.Nat.{ℕ, _≤_, _<_}
+use Prim.Native.Nat.{ℕ, _*_, _≤_, _<_}
 use native.Mathlib.Omega.{arith}
 use borrow.Author.Tests.{lt-ltb, le-ltb, ltb-false}
 use lib.Dec.{ltb}
-use lib.ListN.{length}
+use lib.ListN.{length, take}
+use lib.IntN.{ℤ}
 use lib.Seq.{sets}
 use Rattle.exact.proofs.Filling.{tabulate-length}
 use Rattle.reply.specs.declared.Refusal.{Refusal}
@@ -35,14 +36,14 @@ use Rattle.text.specs.Lines.{linesOf}
 use Rattle.network.specs.Scan.{none, scanReply}
 use Rattle.listing.specs.Listing.{refusedLine}
 use Rattle.text.specs.Written.{Wrote}
-use Rattle.network.specs.Net.{Net, netOf, netFrom, formedReply, rowsOf, misclosuresOf}
-use Rattle.listing.specs.File.{tableIn, room, netReply, netAnswers, fileReply}
-use Rattle.listing.specs.File.{netListing, fileListing, FileDemand3, ListedBy, adjustFileReply, AdjustsFile, refusedLineIn, listingFor, listingOf, listingIn}
+use Rattle.network.specs.Net.{Net, netOf, netFrom, formedReply, rowsOf, misclosuresOf, tableReply, Tables}
+use Rattle.network.specs.declared.Tabled.{Tabled}
+use Rattle.listing.specs.File.{tableIn, room, netReply, netAnswers, fileReply, tableListing, netListing, fileListing, FileDemand3, ListedBy, adjustFileReply, AdjustsFile, refusedLineIn, listingFor, listingOf, listingIn}
 use Rattle.text.proofs.Putting.{rewrote, one-wrote}
 use Rattle.listing.proofs.Composing.{refused-most}
 use Rattle.network.proofs.Bounding.{scan-bounds}
 use Rattle.network.proofs.Passing.{file-passed}
-use Rattle.listing.proofs.Tabling.{listed-refused, relisted, misclosures-length, answers-most}
+use Rattle.listing.proofs.Tabling.{listed-refused, relisted, misclosures-length, file-refused, file-reply, file-listing, answers-most}
 
 module _ (file : List ℕ) where
   abbrev net : Net
@@ -97,13 +98,16 @@ module _ (file : List ℕ) where
       unfolding adjustFileReply
       roomy = rw (le-ltb (length before) 6560 l)
 
-      pub scan-refused : (why : Refusal) → scanReply file ≡ Refused why → AdjustsFile file before (record { reply = Refused why; length = 0 }) before
-      unfolding fileReply
-      scan-refused why e = kept (listed-refused why (roomy ∙ rw e))
+      pub table-refused : (why : Refusal) → tableReply file ≡ Refused why → AdjustsFile file before (record { reply = Refused why; length = 0 }) before
+      table-refused why e = kept (listed-refused why (roomy ∙ file-refused file why e))
 
-      pub file-net : {listed : Listed} {after : List ℕ} → scanReply file ≡ Accepted → ListedBy (netReply (netFrom file 0)) (netListing (netFrom file 0)) before listed after → AdjustsFile file before listed after
-      unfolding fileReply netFrom
-      file-net e b = kept (relisted (sym (roomy ∙ rw e)) refl b)
+      pub table-listed : {t : Tabled} {directions q a w : List ℤ} (is : Tables (tableReply file) net t directions q a w) → t .reply ≡ Accepted
+          → {listed : Listed} {after : List ℕ}
+          → let ds = take (t .m) directions in let closings = take (t .n) w in
+          ListedBy (adjustReply ds (take (t .m) q) (take (t .n * t .m) a) closings (room (length ds) (length closings)))
+          (tableListing ds (take (t .m) q) (take (t .n * t .m) a) closings) before listed after
+          → AdjustsFile file before listed after
+      table-listed is e b = kept (relisted (file-reply file is e ∙ sym roomy) (file-listing file is e) b)
 
     pub refusal-leaves-buffer : (why : Refusal) (listed : Listed) (after : List ℕ) → AdjustsFile file before listed after → listed .reply ≡ Refused why → (after ≡ before) × (listed .length ≡ 0)
     refusal-leaves-buffer why listed after a e = (rw e at (a .lists .buffer), rw e at (a .lists .length-is))

@@ -3,29 +3,32 @@
 --   listed-refused, listed-accepted, relisted   what is left by a refusal, and by an accepted listing
 --   answered, table-accepted                    the reply to a table, and the listing of an accepted one
 --   misclosures-length                          a misclosure for each condition
---   net-refused, net-accepted, net-listing      the reply to a net whose conditions are refused, and to one whose are not; its listing
+--   file-refused, file-reply, file-listing      the reply to a file whose table is refused, and to one whose is not; its listing
 --   answers-most                                no listing has more than 6,560 bytes
 use mathlib.Core.Path.{_≡_, refl, sym, _∙_, ap, ap₂, subst}
 use mathlib.Core.List.{List, [], _∷_}
-use Prim.Native.Nat.{ℕ, suc, _≤_}
+use Prim.Native.Nat.{ℕ, suc, _*_, _≤_}
 use native.Mathlib.Nat.{zero-add}
 use native.Mathlib.Omega.{arith}
 use lib.IntN.{ℤ}
-use lib.ListN.{length}
+use lib.ListN.{length, take}
 use Rattle.exact.proofs.Filling.{tabulate-length}
 use Rattle.reply.specs.declared.Refusal.{Refusal}
 use Rattle.reply.specs.declared.Reply.{Reply}
 use Rattle.reply.specs.declared.Reply.the-variants.{Accepted, Refused}
-use Rattle.reply.specs.Checks.{leaves}
+use Rattle.reply.specs.Checks.{_andThen_, leaves}
+use Rattle.reply.proofs.Checking.{never}
 use Rattle.adjustment.specs.Table.{at, tableOf}
 use Rattle.adjustment.specs.Solution.{K}
 use Rattle.adjustment.specs.Promise.{Answers, adjustReply, answersOf, Adjusts}
-use Rattle.network.specs.Net.{Condition, Net, zeros, formedReply, rowsOf, misclosuresOf}
-use Rattle.listing.specs.File.{tableIn, room, netReply, netAnswers}
+use Rattle.text.specs.Lines.{linesOf}
+use Rattle.network.specs.Scan.{scanReply}
+use Rattle.network.specs.Net.{Condition, Net, netOf, zeros, formedReply, rowsOf, misclosuresOf, tableReply, Tables}
+use Rattle.network.specs.declared.Tabled.{Tabled}
 use Rattle.listing.specs.declared.Listed.{Listed}
 use Rattle.listing.specs.Listing.{acceptedListing}
 use Rattle.text.specs.Written.{Wrote}
-use Rattle.listing.specs.File.{answersListing, tableListing, netListing, ListedBy}
+use Rattle.listing.specs.File.{tableIn, room, netReply, netAnswers, fileReply, answersListing, tableListing, netListing, fileListing, ListedBy}
 use Rattle.listing.proofs.Composing.{accepted-most}
 
 -- the lengths of lent answer lists, m by direction and n by condition
@@ -77,20 +80,55 @@ unfolding misclosuresOf
 misclosures-length directions q [] = refl
 misclosures-length directions q (c ∷ cs) = ap suc (misclosures-length directions q cs)
 
-module _ (net : Net) (ds q : List ℤ) (d : ds ≡ net .directions) (e : q ≡ net .q) where
-  pub net-refused : (why : Refusal) → formedReply ds q 1 (net .conditions) ≡ Refused why → netReply net ≡ Refused why
-  unfolding netReply
-  net-refused why h = rw (sym d, sym e, h)
+-- where two replies are one after the other, and a third after both
+both-refused : (a b c : Reply) (why : Refusal) → a andThen b ≡ Refused why → a andThen (b andThen c) ≡ Refused why
+both-refused Accepted Accepted c why e = never why (sym e)
+both-refused Accepted (Refused other) c why e = e
+both-refused (Refused other) b c why e = e
 
-  -- the table of its conditions
-  module _ (a w : List ℤ) (rows : a ≡ rowsOf ds q (net .conditions)) (closings : w ≡ misclosuresOf ds q (net .conditions)) where
-    pub net-accepted : formedReply ds q 1 (net .conditions) ≡ Accepted → adjustReply ds q a w (room (length ds) (length w)) ≡ netReply net
-    unfolding netReply
-    net-accepted h = rw (rows, closings, sym d, sym e, h, misclosures-length ds q (net .conditions))
+third : (a b c : Reply) → a andThen b ≡ Accepted → a andThen (b andThen c) ≡ c
+third Accepted Accepted c e = refl
+third Accepted (Refused why) c e = never why e
+third (Refused why) b c e = never why e
 
-    pub net-listing : tableListing ds q a w ≡ netListing net
+module _ (file : List ℕ) where
+  abbrev net : Net
+  net = netOf (linesOf file)
+
+  pub file-refused : (why : Refusal) → tableReply file ≡ Refused why → fileReply file ≡ Refused why
+  unfolding tableReply fileReply netReply
+  file-refused why e = both-refused (scanReply file) (formedReply (net .directions) (net .q) 1 (net .conditions)) _ why e
+
+  -- the table that stands in the first places of lent lists
+  module _ {t : Tabled} {directions q a w : List ℤ} (is : Tables (tableReply file) net t directions q a w) (e : t .reply ≡ Accepted) where
+    abbrev ds : List ℤ
+    ds = take (t .m) directions
+
+    abbrev gs : List ℤ
+    gs = take (t .m) q
+
+    abbrev rows : List ℤ
+    rows = take (t .n * t .m) a
+
+    abbrev closings : List ℤ
+    closings = take (t .n) w
+
+    -- what the lists give is what the net gives
+    to-net : {A : Type 0} (of : List ℤ → List ℤ → List ℤ → List ℤ → A)
+        → of ds gs rows closings ≡ of (net .directions) (net .q) (rowsOf (net .directions) (net .q) (net .conditions)) (misclosuresOf (net .directions) (net .q) (net .conditions))
+    to-net of = rw (is .directions-are e, is .q-are e, is .rows-are e, is .misclosures-are e)
+
+    pub file-reply : adjustReply ds gs rows closings (room (length ds) (length closings)) ≡ fileReply file
+    unfolding tableReply fileReply netReply
+    file-reply =
+        to-net (λ x g r c. adjustReply x g r c (room (length x) (length c)))
+        ∙ ap (λ (n : ℕ). adjustReply (net .directions) (net .q) (rowsOf (net .directions) (net .q) (net .conditions)) (misclosuresOf (net .directions) (net .q) (net .conditions)) (room (length (net .directions)) n))
+        (misclosures-length (net .directions) (net .q) (net .conditions))
+        ∙ sym (third (scanReply file) (formedReply (net .directions) (net .q) 1 (net .conditions)) _ (sym (is .answer) ∙ e))
+
+    pub file-listing : tableListing ds gs rows closings ≡ fileListing file
     unfolding netListing netAnswers tableIn tableListing
-    net-listing = rw (rows, closings, sym d, sym e)
+    file-listing = to-net tableListing
 
 -- ---- the longest listing
 pub answers-most : (x : Answers) → length (x .printed) ≤ 64 → length (x .correlates) ≤ 24 → length (answersListing x) ≤ 6560

@@ -3,14 +3,10 @@
 mod lines;
 mod solve;
 
-ghost use mathlib.Core.Path.{_≡_};
 ghost use Prim.Native.Nat.{_≤_};
 ghost use lib.ListN.{length};
 ghost use Rattle.text.specs.Written.{Wrote};
-ghost use Rattle.network.specs.Net.{netFrom};
-ghost use Rattle.listing.specs.File.{netReply};
-ghost use Rattle.network.specs.Gathered.{Fit};
-ghost use Rattle.listing.specs.File.{netListing, ListedBy, AdjustsFile, refusedLineIn, listingIn};
+ghost use Rattle.listing.specs.File.{AdjustsFile, refusedLineIn, listingIn};
 use reply::Refusal;
 use reply::Reply;
 use reply::Verdict;
@@ -27,34 +23,6 @@ pub struct Listed {
     pub length: usize,
 }
 
-// The listing of a file whose scan is accepted and whose directions have been read. Rows and misclosures go into a and w.
-fn list_net(
-    file: &[u8],
-    directions: &[i64],
-    q: &[i64],
-    a: &mut [i64],
-    w: &mut [i64],
-    out: &mut [u8],
-) -> Listed
-    requires { ⌜ (now directions ≡ netFrom (now file) 0 .directions) × (now q ≡ netFrom (now file) 0 .q) ⌝ }
-    requires { ⌜ (length (now directions) ≤ 64) × (length (now q) ≡ length (now directions)) ⌝ }
-    requires { ⌜ (length (netFrom (now file) 0 .conditions) ≤ 24) × Fit (netFrom (now file) 0 .conditions) ⌝ }
-    requires { ⌜ (length (now a) ≡ 1536) × (length (now w) ≡ 24) × (6560 ≤ length (now out)) ⌝ }
-    ensures { λ r. ⌜ ListedBy (netReply (netFrom (now (file .entry)) 0)) (netListing (netFrom (now (file .entry)) 0)) (now (out .entry)) r (now (out .exit)) ⌝ }
-{
-    let formed = network::conditions::form_all(file, directions, q, a, w);
-    let reply = formed.reply;
-    if let Reply::Refused(why) = reply {
-        return Listed {
-            reply: Reply::Refused(why),
-            length: 0,
-        };
-    }
-    let n = formed.n;
-    let m = directions.len();
-    solve::solve(directions, q, &a[..n * m], &w[..n], out)
-}
-
 // Adjusts a network file. The listing of an accepted one goes into the lent buffer, which must have room for LISTING bytes; a refusal leaves it as it was.
 pub fn adjust(file: &[u8], out: &mut [u8]) -> Listed
     ensures { λ r. ⌜ AdjustsFile (now (file .entry)) (now (out .entry)) r (now (out .exit)) ⌝ }
@@ -65,20 +33,21 @@ pub fn adjust(file: &[u8], out: &mut [u8]) -> Listed
             length: 0,
         };
     }
-    let scanned = network::scan::scan(file);
-    if let Reply::Refused(why) = scanned {
+    let mut directions = [0i64; 64];
+    let mut q = [0i64; 64];
+    let mut a = [0i64; 1536];
+    let mut w = [0i64; 24];
+    let tabled = network::table(file, &mut directions, &mut q, &mut a, &mut w);
+    let reply = tabled.reply;
+    if let Reply::Refused(why) = reply {
         return Listed {
             reply: Reply::Refused(why),
             length: 0,
         };
     }
-    let read = network::directions::read(file);
-    let m = read.m;
-    let direction = read.direction;
-    let q = read.q;
-    let mut a = [0i64; 1536];
-    let mut w = [0i64; 24];
-    list_net(file, &direction[..m], &q[..m], &mut a, &mut w, out)
+    let m = tabled.m;
+    let n = tabled.n;
+    solve::solve(&directions[..m], &q[..m], &a[..n * m], &w[..n], out)
 }
 
 // The REFUSED line of a refusal, into a lent buffer; how many bytes it has. A buffer of fewer than REFUSED_LINE bytes stays as it was, and the answer is 0.
