@@ -17,10 +17,10 @@ use Rattle.exact.specs.Circle.{C}
 use Rattle.exact.specs.Outside.{outside}
 use Rattle.exact.proofs.Linear.{unknowns, orders, one-sided}
 use Rattle.exact.proofs.Order.{lt-false}
-use Rattle.exact.proofs.Searching.{all-failed}
+use Rattle.exact.proofs.Searching.{all-failed, neither}
 use Rattle.reply.specs.declared.Refusal.the-variants.{OutOfRange, Coefficient, Misclosure}
 use Rattle.reply.specs.declared.Reply.the-variants.{Accepted}
-use Rattle.reply.proofs.Checking.{neither, none-refused}
+use Rattle.reply.proofs.Checking.{none-refused}
 use Rattle.direction.specs.Ranges.{outOfRange, faultAt, directionsReply}
 use Rattle.adjustment.specs.Table.{at, tableOf}
 use Rattle.adjustment.specs.Refusals.{countsAmiss, differs, lengthsAmiss, coefficientFault, misclosureFault, conditionsReply}

@@ -15,8 +15,7 @@ use lib.Signed.{ltZ, _≤ℤ_, _<ℤ_}
 use Rattle.exact.specs.First.{some-below}
 use Rattle.exact.proofs.Linear.{unknowns, linear, orders, lt-by}
 use Rattle.exact.proofs.Order.{lt-false}
-use Rattle.exact.proofs.Searching.{from-ext, from-none}
-use Rattle.reply.proofs.Checking.{neither}
+use Rattle.exact.proofs.Searching.{from-ext, from-none, neither}
 use Rattle.adjustment.specs.Solution.{multiplier, weakRow}
 use Rattle.adjustment.specs.Inner.{From}
 

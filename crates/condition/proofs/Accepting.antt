@@ -14,6 +14,7 @@ use lib.Dec.{eqb}
 use lib.IntN.{ℤ, pos, negℤ, natAbs}
 use lib.ListN.{length, getD, List·getD-eq-default}
 use lib.Signed.{_≤ℤ_}
+use Rattle.exact.proofs.Searching.{neither}
 use Rattle.exact.specs.Outside.{outside}
 use Rattle.exact.specs.Within.{Within}
 use Rattle.exact.proofs.Linear.{unknowns, linear, orders, one-sided, abs-by}
@@ -21,7 +22,7 @@ use Rattle.exact.proofs.Order.{lt-false}
 use Rattle.reply.specs.declared.Refusal.the-variants.{Malformed, Count, OutOfRange}
 use Rattle.reply.specs.declared.Reply.the-variants.{Accepted}
 use Rattle.reply.specs.Checks.{refuseIf}
-use Rattle.reply.proofs.Checking.{neither, both-accepted, if-accepted, none-refused, turn-each}
+use Rattle.reply.proofs.Checking.{both-accepted, if-accepted, none-refused, turn-each}
 use Rattle.direction.specs.Ranges.{outOfRange, faultAt, directionsReply}
 use Rattle.condition.specs.declared.Kind.{Kind}
 use Rattle.condition.specs.declared.Kind.the-variants.{Angle, Side}

@@ -33,7 +33,7 @@ use Rattle.adjustment.specs.Promise.{adjustReply}
 use Rattle.adjustment.proofs.Promising.{accepted-demand3}
 use Rattle.listing.specs.declared.Listed.{Listed}
 use Rattle.text.specs.Lines.{linesOf}
-use Rattle.network.specs.Scan.{none, scanReply}
+use Rattle.network.specs.Scan.{scanReply}
 use Rattle.listing.specs.Listing.{refusedLine}
 use Rattle.text.specs.Written.{Wrote}
 use Rattle.network.specs.Net.{Net, netOf, netFrom, formedReply, rowsOf, misclosuresOf, tableReply, Tables}

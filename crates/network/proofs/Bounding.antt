@@ -13,12 +13,13 @@ use borrow.Author.Tests.{leb-false}
 use lib.Dec.{eqb, ltb, leb}
 use lib.IntN.{pos}
 use lib.ListN.{length}
+use Rattle.exact.proofs.Searching.{neither}
 use Rattle.reply.specs.declared.Refusal.{Refusal}
 use Rattle.reply.specs.declared.Refusal.the-variants.{Malformed, Count, OutOfRange}
 use Rattle.reply.specs.declared.Reply.{Reply}
 use Rattle.reply.specs.declared.Reply.the-variants.{Accepted}
 use Rattle.reply.specs.Checks.{refuseIf, _andThen_}
-use Rattle.reply.proofs.Checking.{never, neither, both-accepted, if-accepted}
+use Rattle.reply.proofs.Checking.{never, both-accepted, if-accepted}
 use Rattle.exact.specs.Outside.{outside}
 use Rattle.direction.specs.Ranges.{outOfRange}
 use Rattle.condition.specs.Terms.{termFault}

@@ -15,12 +15,12 @@ use borrow.Author.Tests.{ltb-false, lt-ltb, le-ltb, eq-eqb, eqb-true, eqb-false,
 use lib.Dec.{eqb, ltb, leb}
 use lib.IntN.{ℤ, pos, natAbs}
 use lib.ListN.{length, getD}
+use Rattle.exact.proofs.Searching.{neither}
 use Rattle.exact.specs.Same.{same}
 use Rattle.reply.specs.declared.Refusal.the-variants.{Malformed, Count, OutOfRange, Coefficient, Misclosure}
-use Rattle.reply.specs.declared.Reply.{Reply}
 use Rattle.reply.specs.declared.Reply.the-variants.{Accepted}
 use Rattle.reply.specs.Checks.{refuseIf, _andThen_, figureOf, figureReply}
-use Rattle.reply.proofs.Checking.{never, neither, both-accepted, if-accepted, refuse-none, turn-all}
+use Rattle.reply.proofs.Checking.{never, both-accepted, if-accepted, refuse-none, turn-all}
 use Rattle.direction.specs.Ranges.{outOfRange, faultAt, directionsReply}
 use Rattle.condition.specs.declared.Kind.{Kind}
 use Rattle.condition.specs.declared.Kind.the-variants.{Angle, Side}

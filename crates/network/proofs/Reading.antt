@@ -2,14 +2,14 @@
 --   ReadTo; read-none, read-room, read-more, read-all                   the directions with their q
 --   Gathering; gather-none, gather-room, gather-more, gathered          the terms of one condition
 use mathlib.Core.Path.{_≡_, refl, sym, _∙_, ap, subst}
-use mathlib.Core.List.{List, [], _∷_, _++_}
+use mathlib.Core.List.{List, _∷_, _++_}
 use Prim.Native.Nat.{ℕ, _+_, _<_, _≤_}
 use native.Mathlib.Omega.{arith}
 use lib.IntN.{ℤ, pos}
 use lib.ListN.{length, take, drop, set, length-set}
 use Rattle.text.specs.Lines.{linesOf}
 use Rattle.condition.specs.declared.Kind.{Kind}
-use Rattle.network.specs.Net.{Condition, Net, noTerms, headed, withTerm, lineBefore, netOf, netFrom}
+use Rattle.network.specs.Net.{Condition, Net, noTerms, headed, withTerm, lineBefore, netFrom}
 use Rattle.network.specs.Gathered.{ByKind, Body, Opened, Led, Directed, conditionIn, Twelve, Gathers}
 use Rattle.network.specs.declared.record.Record.{Record}
 use Rattle.network.specs.declared.record.Record.the-variants.{Direction, Term}

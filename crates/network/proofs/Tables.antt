@@ -2,9 +2,9 @@
 --   directions-long   as many directions as were read
 --   table-refused     the scan has refused the file
 --   table-formed      its directions have been read and its conditions formed, or refused
-use mathlib.Core.Path.{_≡_, refl, sym, _∙_, ap, subst}
+use mathlib.Core.Path.{_≡_, sym, _∙_, ap}
 use mathlib.Core.List.{List}
-use Prim.Native.Nat.{ℕ, _*_, _≤_}
+use Prim.Native.Nat.{ℕ, _*_}
 use native.Mathlib.Omega.{arith}
 use lib.IntN.{ℤ}
 use lib.ListN.{length, take}
@@ -14,11 +14,10 @@ use Rattle.reply.specs.declared.Reply.{Reply}
 use Rattle.reply.specs.declared.Reply.the-variants.{Accepted, Refused}
 use Rattle.reply.proofs.Checking.{never}
 use Rattle.text.specs.Lines.{linesOf}
-use Rattle.network.specs.Scan.{none, scanReply}
+use Rattle.network.specs.Scan.{scanReply}
 use Rattle.network.specs.Net.{Condition, Net, netOf, netFrom, formedReply, rowsOf, misclosuresOf, tableReply, Tables}
 use Rattle.network.specs.Gathered.{Directed, Forms}
-use Rattle.network.specs.declared.Tabled.{Tabled}
-use Rattle.network.proofs.Bounding.{Room, scan-bounds}
+use Rattle.network.proofs.Bounding.{scan-bounds}
 
 pub directions-long : {file : List ℕ} {directions q : List ℤ} {m next : ℕ} → Directed file directions q m next → length (take m directions) ≡ m
 directions-long {directions = directions} {m = m} d = length-take-le m directions (omega (arith, d .long, d .most))

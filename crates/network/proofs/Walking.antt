@@ -24,7 +24,7 @@ use Rattle.text.specs.Lines.{LF, lineAt, linesOf}
 use Rattle.text.proofs.Parting.{place-after}
 use Rattle.text.proofs.Splitting.{lines-whole, lines-rest}
 use Rattle.network.specs.Records.{recordOf}
-use Rattle.network.specs.Net.{Condition, Net, noTerms, lineBefore, netOf, netFrom}
+use Rattle.network.specs.Net.{Net, noTerms, lineBefore, netOf, netFrom}
 use Rattle.network.specs.Turns.{saidAt, Readable}
 use Rattle.network.specs.Gathered.{ByKind, Body, Opened, Led, headingIn}
 use Rattle.network.specs.declared.conditions.Heading.{Heading}

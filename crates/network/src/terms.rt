@@ -1,5 +1,4 @@
 // The terms of one condition, from the line after its C line on.
-ghost use mathlib.Core.Path.{_≡_};
 ghost use Prim.Native.Nat.{_≤_};
 ghost use lib.ListN.{length, drop};
 ghost use Rattle.text.specs.Lines.{linesOf};

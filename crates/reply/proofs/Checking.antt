@@ -3,11 +3,10 @@
 --   refuse-first, accept-first    the same, from the first at fault
 --   none-refused                  where it accepts, no thing is at fault
 --   never                         a refusal is no acceptance
---   neither                       where one or the other is no fault, neither is
 --   both-accepted, if-accepted    where two checks accept one after the other, each does; where one check accepts, its fault is not there
 --   turn-none, turn-all, turn-more, turn-stops, turn-each      several checks of each of n things, by the loop that makes them
 use mathlib.Core.Path.{_≡_, refl, subst}
-use mathlib.Core.Bool.{Bool, true, false, _||_}
+use mathlib.Core.Bool.{Bool, true, false}
 use Prim.Native.Nat.{ℕ, zero, suc, _+_, _≤_, _<_}
 use native.Mathlib.Decide.{decLt}
 use native.Mathlib.Numerals.{add-one}
@@ -19,10 +18,6 @@ use Rattle.reply.specs.declared.Refusal.{Refusal}
 use Rattle.reply.specs.declared.Reply.{Reply}
 use Rattle.reply.specs.declared.Reply.the-variants.{Accepted, Refused}
 use Rattle.reply.specs.Checks.{refuseIf, refuseFirst, _andThen_, inTurn}
-
-pub neither : (a b : Bool) → (a || b) ≡ false → (a ≡ false) × (b ≡ false)
-neither true b h = let z : _≡_ {A = ℕ} 0 1 = cc in absurd (omega arith)
-neither false b h = (refl, h)
 
 pub never : {A : Type 0} (why : Refusal) → Refused why ≡ Accepted → A
 never why e = let z : _≡_ {A = ℕ} 0 1 = cc in absurd (omega arith)

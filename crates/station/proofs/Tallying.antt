@@ -17,13 +17,13 @@ use lib.Dec.{T, ltb}
 use lib.IntN.{ℤ, pos, negsuc, natAbs, _+ℤ_, _-ℤ_}
 use lib.ListN.{getD, set, replicate, length-set, length-replicate, getD-replicate, List·getD-eq-default}
 use lib.Seq.{ext-getD, getD-set-same, getD-set-other}
+use Rattle.exact.proofs.Searching.{neither}
 use Rattle.exact.specs.Tabulate.{tabulate}
 use Rattle.exact.specs.Circle.{C}
 use Rattle.exact.specs.Outside.{outside}
 use Rattle.exact.specs.Within.{Within}
 use Rattle.exact.proofs.Filling.{tabulate-length, tabulate-at}
 use Rattle.exact.proofs.Sameness.{same-yes, same-true}
-use Rattle.reply.proofs.Checking.{neither}
 use Rattle.station.specs.Bounds.{InRange}
 use Rattle.station.specs.Sightings.{Book, sightings, positionAt, objectAt, faceAt, readingAt, outOfRange, fieldFault, isOf}
 use Rattle.station.specs.SumWhere.{sumWhere}

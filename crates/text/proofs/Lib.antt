@@ -1,6 +1,5 @@
 pub mod Parting
 pub mod Splitting
-pub mod Fielding
 pub mod Numerals
 pub mod Spanning
 pub mod Rowing

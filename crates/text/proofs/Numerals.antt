@@ -1,23 +1,20 @@
--- Laws of the numbers that the network file writes. Assumes nothing.
---   digit-low, digit-high, digit-next, digit-end   how the digits are read on from a place
+-- Laws of the numbers that the files write. Assumes nothing.
 --   small-next, small-11                           i digits have a value below 10 ^ i, 11 digits at most below 10 ^ 11
 --   small-of                                       the same, of an enum that is known to hold the value
 --   small-fits, minus-fits                         so the value fits a signed number, with and without the minus
 --   plus-whole, plus-none, minus-..                the number, with and without the minus
 --   unsigned-empty, -long, -zero, -many, -one      the digits, by their count and the first of them
---   number-empty, number-minus, number-plus        the number, by the first byte of its text
---   rest                                           what the code cuts off after the first byte is the text without it
-use mathlib.Core.Path.{_≡_, refl, sym, _∙_, ap, subst}
-use mathlib.Core.List.{List, [], _∷_}
+--   number-minus, number-plus                      the number, by the first byte of its text
+use mathlib.Core.Path.{_≡_, sym, _∙_, ap, subst}
+use mathlib.Core.List.{List}
 use Prim.Native.Nat.{ℕ, zero, suc, _+_, _-_, _*_, _<_, _≤_, _^_}
 use native.Mathlib.Numerals.{add-one}
 use native.Mathlib.Nat.{pow-succ', pow-le-pow-right}
 use native.Mathlib.Omega.{arith}
 use borrow.Author.Tests.{lt-ltb, le-ltb, eq-eqb, ne-eqb}
 use lib.Dec.{lit<}
-use lib.ListN.{length, getD, take, drop, drop-of-length-le, length-drop}
+use lib.ListN.{length, getD, drop}
 use lib.IntN.{ℤ, pos, negℤ, _-ℤ_, +ℤ-idl}
-use lib.Seq.{drop-cons, take-all}
 use mir.Syntax.{w64}
 use mir.Val.{SFits, toZ, ofZ}
 use Rattle.exact.proofs.Bound.{read}
@@ -25,25 +22,6 @@ use Rattle.text.specs.Numbers.{readDigits, Small, plus, minus, unsignedO
 use Rattle.text.specs.declared.number.Number.the-variants.{Value, Malformed}
 use Rattle.text.specs.declared.number.Digits.{Digits}
 use Rattle.text.specs.declared.number.Digits.the-variants.{Whole, NoDigits}
-
--- ---- reading on from place i, after the value v
-module _ (s : List ℕ) (v i : ℕ) where
-  pub digit-low : i < length s → getD s i 0 < 48 → NoDigits ≡ readDigits v (drop i s)
-  unfolding readDigits
-  digit-low l h = rw (drop-cons s i 0 l, lt-ltb (getD s i 0) 48 h)
-
-  pub digit-high : i < length s → 48 ≤ getD s i 0 → 57 < getD s i 0 → NoDigits ≡ readDigits v (drop i s)
-  unfolding readDigits
-  digit-high l h k = rw (drop-cons s i 0 l, le-ltb (getD s i 0) 48 h, lt-ltb 57 (getD s i 0) k)
-
-  pub digit-next : i < length s → 48 ≤ getD s i 0 → getD s i 0 ≤ 57
-      → readDigits (10 * v + (getD s i 0 - 48)) (drop (i + 1) s) ≡ readDigits v (drop i s)
-  unfolding readDigits
-  digit-next l h k = rw (drop-cons s i 0 l, le-ltb (getD s i 0) 48 h, le-ltb 57 (getD s i 0) k, add-one i)
-
-  pub digit-end : length s ≤ i → Whole v ≡ readDigits v (drop i s)
-  unfolding readDigits
-  digit-end l = rw (drop-of-length-le s l)
 
 -- ---- the size of the value
 pub small-next : (v d i : ℕ) → v < 10 ^ i → d ≤ 9 → 10 * v + d < 10 ^ (i + 1)
@@ -124,11 +102,3 @@ module _ (s : List ℕ) where
   pub number-plus : (getD s 0 0 ≡ 45 → ⊥) → plus (unsignedOf s) ≡ numeral s
   unfolding numeral
   number-plus e = rw (ne-eqb (getD s 0 0) 45 e)
-
-pub number-empty : (s : List ℕ) → length s ≡ 0 → Malformed ≡ numeral s
-unfolding numeral unsignedOf plus
-number-empty [] e = refl
-number-empty (x ∷ s) e = absurd (omega (arith, e))
-
-pub rest : (s : List ℕ) → take (length s - 1) (drop 1 s) ≡ drop 1 s
-rest s = take-all (length s - 1) (drop 1 s) (simp length-drop (omega arith))

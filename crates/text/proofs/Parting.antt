@@ -1,6 +1,6 @@
 -- Laws of a search for a byte in a text, and of the parts into which the byte parts it. Assumes nothing.
 --   place-here, place-next, place-end      the search stands on the byte, on another one, at the end
---   place-after, place-within              it ends at or after its start, and within a text in which it begins
+--   place-after, before-le                 it ends at or after its start, and no byte is counted that is not there
 --   parts-more                             the parts from a start: the one there, and those after the byte that ends it
 --   parts-dropped, parts-last              the parts of a text without the byte: none, or the text itself
 use mathlib.Core.Path.{_≡_, refl}
@@ -42,10 +42,6 @@ pub before-le : (byte : ℕ) (s : List ℕ) → bytesBefore byte s ≤ length s
 unfolding bytesBefore
 before-le byte [] = omega arith
 before-le byte (x ∷ s) = before-step s (bytesBefore byte s) (eqb x byte) (before-le byte s)
-
-pub place-within : (byte : ℕ) (s : List ℕ) (i : ℕ) → i ≤ length s → placeFrom byte s i ≤ length s
-unfolding placeFrom
-place-within byte s i l = omega (arith, before-le byte (drop i s), length-drop i s)
 
 -- ---- the parts
 module _ (byte : ℕ) (end : List (List ℕ)) where

@@ -11,7 +11,7 @@
 use mathlib.Core.Path.{_≡_, refl, sym, _∙_, ap}
 use mathlib.Core.Bool.{Bool, true, false, cond, _||_, _&&_}
 use mathlib.Core.List.{List, [], _∷_, _++_, append-nil}
-use Prim.Native.Nat.{ℕ, zero, suc, _+_, _-_, _*_, _<_, _≤_, _^_}
+use Prim.Native.Nat.{ℕ, zero, suc, _+_, _-_, _*_, _<_, _≤_}
 use native.Mathlib.Nat.{add-zero}
 use native.Mathlib.Numerals.{add-one}
 use native.Mathlib.Omega.{arith}
@@ -20,6 +20,7 @@ use lib.Dec.{ltb, eqb}
 use lib.IntN.{ℤ}
 use lib.ListN.{length, getD, take, drop, length-drop, length-append, take-append-drop}
 use lib.Seq.{take-suc, getD-drop, getD-take, drop-drop, drop-cons, length-take-le, take-append-add}
+use Rattle.exact.proofs.Searching.{neither}
 use Rattle.text.specs.Parts.{bytesBefore, placeFrom}
 use Rattle.text.specs.Numbers.{noDigit, readDigits, unsignedOf, plus, minus, numeral, upTo, unsignedTo, numberTo, Spans}
 use Rattle.text.specs.declared.number.Digits.{Digits}
@@ -31,10 +32,6 @@ use Rattle.text.proofs.Parting.{place-here, place-next, place-end}
 use Rattle.text.proofs.Numerals.{unsigned-long, number-minus, number-plus}
 
 -- ---- digits
-neither : (a b : Bool) → (a || b) ≡ false → (a ≡ false) × (b ≡ false)
-neither true b h = let z : _≡_ {A = ℕ} 0 1 = cc in absurd (omega arith)
-neither false b h = (refl, h)
-
 pub digit-bounds : (b : ℕ) → noDigit b ≡ false → (48 ≤ b) × (b ≤ 57)
 digit-bounds b e = let t = neither (ltb b 48) (ltb 57 b) e in (ltb-false b 48 (t .0), ltb-false 57 b (t .1))
 

@@ -1,10 +1,11 @@
 -- Laws of the line reader: what the end of the search for an LF says, and how the list of all lines goes with the reader. Assumes nothing.
 --   line-whole, line-none                          the line, by the search's end
 --   status-whole, status-missing, status-none      the status, by the search's end
---   whole-within, missing-past, none-past          the search's end, by the status; missing-within: its start
+--   whole-within, missing-past, none-past          the search's end, by the status
 --   line-next                                      the LF stands right after the line, so the next line starts one further
 --   lines-whole, lines-rest, lines-end             the list of lines from a start: the line there and those after its LF, or no line
-use mathlib.Core.Path.{_≡_, refl, ap}
+--   walk-on, walk-missing, walk-ended              the same by the status: going from line to line gives the file's lines
+use mathlib.Core.Path.{_≡_, refl, sym, _∙_, ap}
 use mathlib.Core.Bool.{Bool, true, false, cond}
 use mathlib.Core.List.{List, [], _∷_}
 use Prim.Native.Nat.{ℕ, _+_, _-_, _<_, _≤_}
@@ -69,10 +70,6 @@ by-missing true true e = absurd (omega (arith, ap ordinal e))
 by-missing true false e = refl
 by-missing false b e = absurd (omega (arith, ap ordinal e))
 
-by-left : (a b : Bool) → cond a (cond b Whole LfMissing) NoneLeft ≡ LfMissing → a ≡ true
-by-left true b e = refl
-by-left false b e = absurd (omega (arith, ap ordinal e))
-
 by-none : (a b : Bool) → cond a (cond b Whole LfMissing) NoneLeft ≡ NoneLeft → a ≡ false
 by-none true true e = absurd (omega (arith, ap ordinal e))
 by-none true false e = absurd (omega (arith, ap ordinal e))
@@ -92,10 +89,6 @@ module _ (s : List ℕ) (i : ℕ) where
   pub missing-past : statusAt s i ≡ LfMissing → length s ≤ placeFrom LF s i
   unfolding statusAt
   missing-past e = ltb-false (placeFrom LF s i) (length s) (by-missing within ended e)
-
-  pub missing-within : statusAt s i ≡ LfMissing → i < length s
-  unfolding statusAt
-  missing-within e = ltb-true i (length s) (by-left within ended e)
 
   pub none-past : statusAt s i ≡ NoneLeft → length s ≤ i
   unfolding statusAt
@@ -118,3 +111,16 @@ lines-rest s i l = parts-dropped LF (drop i s) (omega (arith, length-drop i s))
 pub lines-end : (s : List ℕ) (i : ℕ) → length s ≤ i → linesOf (drop i s) ≡ []
 unfolding linesOf parted
 lines-end s i l = rw (drop-of-length-le s l)
+
+-- ---- a walk from line to line, by the status
+module _ (s : List ℕ) (i : ℕ) where
+  pub walk-on : statusAt s i ≡ Whole → linesOf (drop i s) ≡ lineAt s i ∷ linesOf (drop (i + length (lineAt s i) + 1) s)
+  walk-on e =
+      let l = whole-within s i e in
+      lines-whole s i l ∙ ap (λ (p : ℕ). lineAt s i ∷ linesOf (drop (p + 1) s)) (sym (line-next s i l))
+
+  pub walk-missing : statusAt s i ≡ LfMissing → linesOf (drop i s) ≡ []
+  walk-missing e = lines-rest s i (missing-past s i e)
+
+  pub walk-ended : statusAt s i ≡ NoneLeft → linesOf (drop i s) ≡ []
+  walk-ended e = lines-end s i (none-past s i e)

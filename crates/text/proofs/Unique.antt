@@ -1,13 +1,13 @@
 -- The promises leave nothing open: two answers that meet one promise are equal. Assumes nothing.
 --   one-line, one-status      of `line` and of `line_status`, for every file and every start
---   one-number                of `read`, for every text
---   (of `scan`: reply's one-reply)
+--   one-number, one-place     of `read_to`, for every text and start
 use mathlib.Core.Path.{_≡_}
 use mathlib.Core.List.{List}
-use Prim.Native.Nat.{ℕ}
+use Prim.Native.Nat.{ℕ, _+_}
 use Rattle.exact.proofs.Unique.{only}
+use Rattle.text.specs.Parts.{placeFrom}
 use Rattle.text.specs.Lines.{lineAt, statusAt}
-use Rattle.text.specs.Numbers.{numeral}
+use Rattle.text.specs.Numbers.{numberTo}
 use Rattle.text.specs.declared.line.LineStatus.{LineStatus}
 use Rattle.text.specs.declared.number.Number.{Number}
 
@@ -17,5 +17,9 @@ one-line file start a b x y = only x y
 pub one-status : (file : List ℕ) (start : ℕ) (a b : LineStatus) → a ≡ statusAt file start → b ≡ statusAt file start → a ≡ b
 one-status file start a b x y = only x y
 
-pub one-number : (text : List ℕ) (a b : Number) → a ≡ numeral text → b ≡ numeral text → a ≡ b
-one-number text a b x y = only x y
+pub one-number : (ending : ℕ) (text : List ℕ) (start : ℕ) (a b : Number) → a ≡ numberTo ending text start → b ≡ numberTo ending text start → a ≡ b
+one-number ending text start a b = only
+
+-- and of the place after it, where there is a number
+pub one-place : (ending : ℕ) (text : List ℕ) (start n k : ℕ) → n ≡ placeFrom ending text start + 1 → k ≡ placeFrom ending text start + 1 → n ≡ k
+one-place ending text start n k = only

@@ -1,9 +1,6 @@
 -- `listing::refused_line` meets its contract. Assumes nothing.
-use mathlib.Core.Path.{refl, sym}
 use native.Mathlib.Omega.{arith}
-use borrow.Author.Tests.{lt-ltb, le-ltb}
 use denote.Ref.{now}
-use lib.ListN.{length}
 use Rattle.listing.proofs.Composing.{refused-most}
 use Rattle.listing.proofs.Filing.{no-line, whole-line}
 use borrow.Author.Needs.{needs}

@@ -1,7 +1,6 @@
 -- `network::table` meets its contract. Assumes nothing.
 use mathlib.Core.Path.{_≡_, sym, _∙_, ap, subst}
 use mathlib.Core.List.{List}
-use Prim.Native.Nat.{ℕ, _≤_}
 use native.Mathlib.Omega.{arith}
 use borrow.Author.Needs.{needs}
 use denote.Ref.{now}
@@ -9,7 +8,7 @@ use lib.ListN.{length}
 use lib.Seq.{length-take-le}
 use Rattle.reply.specs.declared.Reply.the-variants.{Accepted}
 use Rattle.network.specs.Scan.{scanReply}
-use Rattle.network.specs.Net.{Condition, netFrom}
+use Rattle.network.specs.Net.{Condition}
 use Rattle.network.specs.Gathered.{Fit}
 use Rattle.network.proofs.Bounding.{scan-bounds}
 use Rattle.network.proofs.Leading.{file-led}

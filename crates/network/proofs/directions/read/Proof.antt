@@ -1,5 +1,5 @@
 -- `network::directions::read` meets its contract: what has been read and the directions of what is left are those of the file. Assumes nothing.
-use mathlib.Core.Path.{_≡_, refl, sym, _∙_, ap, subst}
+use mathlib.Core.Path.{sym, _∙_, subst}
 use mathlib.Core.List.{List}
 use Prim.Native.Nat.{ℕ, _-_, _<_}
 use native.Mathlib.Omega.{arith}
@@ -8,7 +8,6 @@ use denote.Ref.{now}
 use lib.ListN.{length}
 use Rattle.exact.proofs.Bound.{read-at}
 use Rattle.network.specs.Turns.{Readable}
-use Rattle.network.specs.declared.record.Record.{Record}
 use Rattle.network.proofs.Walking.{Walked, walked, directions-stop}
 use Rattle.network.proofs.Reading.{ReadTo, read-none, read-room, read-more, read-all}
 use Rattle.network.proofs.directions.read.Statement.{statement}

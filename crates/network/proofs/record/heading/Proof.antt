@@ -1,11 +1,10 @@
 -- `network::record::heading` meets its contract, by the two bytes behind the tab. Assumes nothing.
-use mathlib.Core.Path.{_≡_, sym, _∙_, ap, subst}
+use mathlib.Core.Path.{_∙_, ap}
 use mathlib.Core.List.{List}
 use Prim.Native.Nat.{ℕ, _+_}
 use native.Mathlib.Omega.{arith}
 use borrow.Author.Needs.{needs}
 use denote.Ref.{now}
-use Rattle.network.specs.Turns.{Readable}
 use Rattle.network.proofs.Recording.{c-short, sides-said, sides-place, sides-more-said, angles-said, angles-place, angles-more-said, other-said}
 use Rattle.network.proofs.record.heading.Statement.{statement}
 use Rattle.network.proofs.record.heading.Tie as tie

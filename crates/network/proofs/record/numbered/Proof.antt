@@ -1,17 +1,15 @@
 -- `network::record::numbered` meets its contract. Assumes nothing.
 use mathlib.Core.Path.{_≡_, sym, _∙_, ap, subst}
-use mathlib.Core.List.{List}
-use mathlib.Core.Option.{Option, some}
+use mathlib.Core.Option.{some}
 use Prim.Native.Nat.{ℕ, _≤_}
 use native.Mathlib.Omega.{arith}
 use borrow.Author.Needs.{needs}
 use denote.Ref.{now}
-use lib.IntN.{ℤ}
 use lib.ListN.{take}
-use Rattle.text.specs.Rows.{rowAt, rowEnd, rowValues}
-use Rattle.text.specs.declared.row.RowEnd.the-variants.{Next, NoRow}
+use Rattle.text.specs.Rows.{rowAt, rowEnd}
+use Rattle.text.specs.declared.row.RowEnd.the-variants.{NoRow}
 use Rattle.text.proofs.Rowing.{row-told, no-row-told}
-use Rattle.network.specs.Turns.{numbersOf, recordWith}
+use Rattle.network.specs.Turns.{numbersOf}
 use Rattle.network.proofs.Recording.{numbers-most, numbered-zero, numbered-none, numbered-some}
 use Rattle.network.proofs.record.numbered.Statement.{statement}
 use Rattle.network.proofs.record.numbered.Tie as tie
