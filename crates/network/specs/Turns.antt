@@ -1,8 +1,9 @@
 -- What inner functions hand each other: what the line at a start says, read from its letter to its LF.
+use mathlib.Core.Path.{_≡_}
 use mathlib.Core.Bool.{cond}
 use mathlib.Core.List.{List}
 use mathlib.Core.Option.{Option, none, some}
-use Prim.Native.Nat.{ℕ}
+use Prim.Native.Nat.{ℕ, _+_}
 use lib.Dec.{eqb, ltb}
 use lib.IntN.{ℤ, pos}
 use lib.ListN.{length, getD}
@@ -49,3 +50,8 @@ recordIn letter none = Unreadable
 
 unfoldable pub numberedAt : (file : List ℕ) (at letter : ℕ) → Record
 numberedAt file at letter = cond (eqb (numbersOf letter) 0) Unreadable (recordIn letter (rowAt file at (numbersOf letter)))
+
+-- ---- a line that has been read: what it says, and where the next one starts if it says something
+pub record Stands (file : List ℕ) (start : ℕ) (said : Record) (next : ℕ) : Type 0 where
+  pub says : said ≡ saidAt file start
+  pub after : Readable said → next ≡ placeFrom LF file start + 1

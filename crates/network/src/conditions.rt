@@ -6,8 +6,8 @@ ghost use Rattle.text.specs.Lines.{linesOf};
 ghost use Rattle.reply.specs.Checks.{figureOf};
 ghost use Rattle.condition.specs.Rules.{coefficientsList};
 ghost use Rattle.network.specs.Net.{headed, lentOf, conditionReply, misclosureOf, netFrom};
+ghost use Rattle.network.specs.Turns.{Stands};
 ghost use Rattle.network.specs.Gathered.{conditionIn, headingIn, Body, Opened, Fit, Closes, Forms};
-use crate::record;
 use crate::record::Record;
 use crate::terms;
 use condition::Kind;
@@ -84,9 +84,12 @@ fn form(
     }
 }
 
-// What has become of one condition: its misclosure, or why not, and where the first line after its terms starts.
+// What has become of one condition: its misclosure, or why not; and the first line after its terms: where it starts, what it says, and where the next
+// one starts.
 pub struct Closed {
     pub figure: Figure,
+    pub at: usize,
+    pub said: Record,
     pub next: usize,
 }
 
@@ -103,8 +106,9 @@ fn form_at(
 ) -> Closed
     requires { ⌜ (at ≤ length (now file)) × (length (netFrom (now file) at .pending .kinds) ≤ 12) × Body (linesOf (drop at (now file))) ⌝ }
     requires { ⌜ length (now row) ≡ length (now directions) ⌝ }
-    ensures { λ r. ⌜ Closes (now (file .entry)) at (now (directions .entry)) (now (q .entry)) j (headed kind target (netFrom (now (file .entry)) at .pending))
-        (now (row .entry)) (now (row .exit)) (r .figure) (r .next) ⌝ }
+    ensures closed { λ r. ⌜ Closes (now (file .entry)) at (now (directions .entry)) (now (q .entry)) j (headed kind target (netFrom (now (file .entry)) at .pending))
+        (now (row .entry)) (now (row .exit)) (r .figure) (r .at) ⌝ }
+    ensures after { λ r. ⌜ Stands (now (file .entry)) (r .at) (r .said) (r .next) ⌝ }
 {
     let mut kinds = [0i64; 12];
     let mut values = [0i64; 12];
@@ -126,8 +130,11 @@ fn form_at(
         row,
         j,
     );
+    let said = terms.said;
     Closed {
         figure,
+        at: terms.at,
+        said,
         next: terms.next,
     }
 }
@@ -138,26 +145,29 @@ pub struct Formed {
     pub n: usize,
 }
 
-// All conditions that stand at `first` and after it, in their order: rows of m coefficients into a, misclosures into w.
+// All conditions that stand at `first` and after it, in their order: rows of m coefficients into a, misclosures into w. The line at `first` has been read.
 pub fn form_all(
     file: &[u8],
     first: usize,
+    opening: Record,
+    behind: usize,
     directions: &[i64],
     q: &[i64],
     a: &mut [i64],
     w: &mut [i64],
 ) -> Formed
     requires { ⌜ (first ≤ length (now file)) × (length (now directions) ≤ 64) × (length (now a) ≡ 1536) × (length (now w) ≡ 24) ⌝ }
+    requires { ⌜ Stands (now file) first opening behind ⌝ }
     requires { ⌜ (length (netFrom (now file) first .conditions) ≤ 24) × Fit (netFrom (now file) first .conditions) × Opened (linesOf (drop first (now file))) ⌝ }
     ensures { λ r. ⌜ Forms (now (directions .entry)) (now (q .entry)) (netFrom (now (file .entry)) first .conditions) (r .reply) (r .n) (now (a .exit)) (now (w .exit)) ⌝ }
 {
     let m = directions.len();
     let mut start = first;
+    let mut said = opening;
+    let mut next = behind;
     let mut at = 0;
     let mut n = 0;
     loop {
-        let turn = record::read(file, start);
-        let said = turn.said;
         let heading = heading_of(said);
         let Heading::Of { kind, target } = heading else {
             return Formed {
@@ -167,7 +177,7 @@ pub fn form_all(
         };
         let closed = form_at(
             file,
-            turn.next,
+            next,
             directions,
             q,
             kind,
@@ -189,6 +199,8 @@ pub fn form_all(
         }
         at += m;
         n += 1;
-        start = closed.next;
+        start = closed.at;
+        said = closed.said;
+        next = closed.next;
     }
 }

@@ -39,7 +39,17 @@ pub fn table(
     }
     let read = directions::read(file, directions, q);
     let m = read.m;
-    let formed = conditions::form_all(file, read.next, &directions[..m], &q[..m], a, w);
+    let said = read.said;
+    let formed = conditions::form_all(
+        file,
+        read.at,
+        said,
+        read.next,
+        &directions[..m],
+        &q[..m],
+        a,
+        w,
+    );
     let n = formed.n;
     let reply = formed.reply;
     Tabled { reply, m, n }

@@ -3,13 +3,16 @@ ghost use Prim.Native.Nat.{_≤_};
 ghost use lib.ListN.{length, drop};
 ghost use Rattle.text.specs.Lines.{linesOf};
 ghost use Rattle.network.specs.Net.{netFrom};
+ghost use Rattle.network.specs.Turns.{Stands};
 ghost use Rattle.network.specs.Gathered.{Body, Twelve, Gathers};
 use crate::record;
 use crate::record::Record;
 
-// How many there are, and where the first line after them starts.
+// How many there are, where the first line after them starts, and what it says, with the start of the next if it says something.
 pub struct Terms {
     pub count: usize,
+    pub at: usize,
+    pub said: Record,
     pub next: usize,
 }
 
@@ -25,7 +28,8 @@ pub fn gather(
 ) -> Terms
     requires { ⌜ (start ≤ length (now file)) × (length (netFrom (now file) start .pending .kinds) ≤ 12) × Body (linesOf (drop start (now file))) ⌝ }
     requires { ⌜ Twelve (now kinds) (now values) (now ds) (now is) (now ks) ⌝ }
-    ensures { λ r. ⌜ Gathers (now (file .entry)) start (now (kinds .exit)) (now (values .exit)) (now (ds .exit)) (now (is .exit)) (now (ks .exit)) (r .count) (r .next) ⌝ }
+    ensures terms { λ r. ⌜ Gathers (now (file .entry)) start (now (kinds .exit)) (now (values .exit)) (now (ds .exit)) (now (is .exit)) (now (ks .exit)) (r .count) (r .at) ⌝ }
+    ensures after { λ r. ⌜ Stands (now (file .entry)) (r .at) (r .said) (r .next) ⌝ }
 {
     let mut count = 0;
     let mut at = start;
@@ -40,7 +44,12 @@ pub fn gather(
             k,
         } = said
         else {
-            return Terms { count, next: at };
+            return Terms {
+                count,
+                at,
+                said,
+                next: turn.next,
+            };
         };
         kinds[count] = letter as i64;
         values[count] = value;

@@ -43,19 +43,19 @@ slice-reshare-prefix-form-all : tie.Need-slice-reshare-prefix-form-all
 slice-reshare-prefix-form-all c = search needs
 
 slice-aggregate-form-all : tie.Need-slice-aggregate-form-all
-slice-aggregate-form-all c = let d = c .before .before .before .read .ensures in sym (length-take-le _ _ (omega (arith, d .most, d .long)))
+slice-aggregate-form-all c = let d = c .before .before .before .read .ensures .0 in sym (length-take-le _ _ (omega (arith, d .most, d .long)))
 
 slice-reshare-prefix-form-all-2 : tie.Need-slice-reshare-prefix-form-all-2
 slice-reshare-prefix-form-all-2 c = search needs
 
 slice-aggregate-form-all-2 : tie.Need-slice-aggregate-form-all-2
-slice-aggregate-form-all-2 c = let d = c .before .before .before .before .read .ensures in sym (length-take-le _ _ (omega (arith, d .most, d .q-long)))
+slice-aggregate-form-all-2 c = let d = c .before .before .before .before .read .ensures .0 in sym (length-take-le _ _ (omega (arith, d .most, d .q-long)))
 
 form-all-requires : tie.Need-form-all-requires
 form-all-requires c κs =
-    let r = c .before .before .before .before .before .before in let d = r .read .ensures in let s = r .before .before .before .before .before .before .before in let file = now (s .args .file) in let room = scan-bounds file (accepts (r .before .before .before)) in (
+    let r = c .before .before .before .before .before .before in let d = r .read .ensures .0 in let s = r .before .before .before .before .before .before .before in let file = now (s .args .file) in let room = scan-bounds file (accepts (r .before .before .before)) in (
       (d .within, omega (arith, directions-long d, d .most), s .pre .2, s .pre .3),
-      (omega (arith, room .n, ap (λ (cs : List Condition). length cs) (d .conditions)), subst Fit (sym (d .conditions)) (room .fit), d .opened),
+      (r .read .ensures .1, (omega (arith, room .n, ap (λ (cs : List Condition). length cs) (d .conditions)), subst Fit (sym (d .conditions)) (room .fit), d .opened)),
     )
 
 same-length : tie.Need-same-length
@@ -72,7 +72,7 @@ same-length-4 c = search needs
 
 returns-2 : tie.Need-returns-2
 returns-2 c =
-    let r = c .before .before .before .before .before .before .before .before .before in table-formed (now (r .before .before .before .before .before .before .before .args .file)) (accepts (r .before .before .before)) (r .read .ensures) (c .before .before .form-all .ensures)
+    let r = c .before .before .before .before .before .before .before .before .before in table-formed (now (r .before .before .before .before .before .before .before .args .file)) (accepts (r .before .before .before)) (r .read .ensures .0) (c .before .before .form-all .ensures)
 
 pub table-spec : {M : Type 1} → statement M
 table-spec =

@@ -16,6 +16,7 @@ use Rattle.text.specs.Lines.{linesOf}
 use Rattle.condition.specs.Rules.{coefficientsList}
 use Rattle.condition.specs.declared.Kind.{Kind}
 use Rattle.network.specs.Net.{Condition, Net, headed, netFrom, lentOf, conditionReply, misclosureOf}
+use Rattle.network.specs.Turns.{Stands}
 use Rattle.network.specs.Gathered.{Opened, headingIn}
 use Rattle.network.specs.declared.conditions.Heading.the-variants.{Of}
 use Rattle.network.proofs.Walking.{Walked, walked, heading-readable, opened-rest, no-heading}
@@ -24,18 +25,16 @@ use Rattle.network.proofs.conditions.form_all.Statement.{statement}
 use Rattle.network.proofs.conditions.form_all.Tie as tie
 
 abbrev Inv-loop : tie.InvT-loop
-Inv-loop file first directions q a₀ w₀ m start₀ at₀ n₀ a w start at n =
-    FormedTo (netFrom file first .conditions) (netFrom file start .conditions) directions q a w at n × (start ≤ length file) × Opened (linesOf (drop start file))
+Inv-loop file first behind directions q a₀ w₀ m start₀ said₀ next₀ at₀ n₀ a w start said next at n =
+    FormedTo (netFrom file first .conditions) (netFrom file start .conditions) directions q a w at n
+    × (start ≤ length file) × Opened (linesOf (drop start file)) × Stands file start said next
 
 abbrev μ-loop : tie.MeasureT-loop
-μ-loop file first directions q a₀ w₀ m start₀ at₀ n₀ a w start at n = length file - start
+μ-loop file first behind directions q a₀ w₀ m start₀ said₀ next₀ at₀ n₀ a w start said next at n = length file - start
 
 loop-holds : tie.Need-loop-holds Inv-loop μ-loop
 loop-holds c =
-    let s = c .before in (formed-none _ _ _ _ _ (s .pre .0 .2) (s .pre .0 .3) (s .pre .1 .1), s .pre .0 .0, s .pre .1 .2)
-
-read-requires : tie.Need-read-requires Inv-loop μ-loop
-read-requires c κs = c .loop .inv .1
+    let s = c .before in (formed-none _ _ _ _ _ (s .pre .0 .2) (s .pre .0 .3) (s .pre .1 .1 .1), s .pre .0 .0, s .pre .1 .1 .2, s .pre .1 .0)
 
 heading-of-requires : tie.Need-heading-of-requires Inv-loop μ-loop
 heading-of-requires c κs = search needs
@@ -47,21 +46,21 @@ enum-told : tie.Need-enum-told Inv-loop μ-loop
 enum-told c = search needs
 
 same-length : tie.Need-same-length Inv-loop μ-loop
-same-length c = let l = c .before .before .before .before in l .loop .inv .0 .a-long ∙ sym (l .before .before .pre .0 .2)
+same-length c = let l = c .before .before .before in l .loop .inv .0 .a-long ∙ sym (l .before .before .pre .0 .2)
 
 same-length-2 : tie.Need-same-length-2 Inv-loop μ-loop
-same-length-2 c = let l = c .before .before .before .before in l .loop .inv .0 .w-long ∙ sym (l .before .before .pre .0 .3)
+same-length-2 c = let l = c .before .before .before in l .loop .inv .0 .w-long ∙ sym (l .before .before .pre .0 .3)
 
 returns : tie.Need-returns Inv-loop μ-loop
 returns c =
-    let l = c .before .before .before .before in let r = c .before .before .before .read in
+    let l = c .before .before .before in
     form-end (l .loop .inv .0)
-    (no-heading (now (l .before .before .args .file)) (l .loop .start) (r .result .said) (r .ensures .0) (sym (c .before .before .heading-of .ensures) ∙ c .enum-told .given .1) (l .loop .inv .2))
+    (no-heading (now (l .before .before .args .file)) (l .loop .start) (l .loop .said) (l .loop .inv .3 .says) (sym (c .before .before .heading-of .ensures) ∙ c .enum-told .given .1) (l .loop .inv .2))
 
 -- ---- a C line, with its kind and target
 module _ (c : tie.After-known-told Inv-loop μ-loop) where
   abbrev loop : tie.At-loop Inv-loop μ-loop
-  loop = c .before .before .before .before .before
+  loop = c .before .before .before .before
 
   abbrev start : tie.Start Inv-loop μ-loop
   start = loop .before .before
@@ -76,7 +75,7 @@ module _ (c : tie.After-known-told Inv-loop μ-loop) where
   q = now (start .args .q)
 
   abbrev next : ℕ
-  next = c .before .before .before .before .read .result .next
+  next = loop .loop .next
 
   abbrev kind : Kind
   kind = c .before .heading .given .0 .0
@@ -84,22 +83,20 @@ module _ (c : tie.After-known-told Inv-loop μ-loop) where
   abbrev target : ℤ
   target = c .before .heading .given .0 .1 .0
 
-  told : headingIn (c .before .before .before .before .read .result .said) ≡ Of kind target
+  told : headingIn (loop .loop .said) ≡ Of kind target
   told = sym (c .before .before .before .heading-of .ensures) ∙ c .before .heading .given .1
 
-  on : Walked file (loop .loop .start) (c .before .before .before .before .read .result .said) next
-  on =
-      let r = c .before .before .before .before .read in let h = heading-readable (r .result .said) kind target told in
-      walked file (loop .loop .start) (r .result .said) next (r .ensures .0) h (r .ensures .1 h)
+  on : Walked file (loop .loop .start) (loop .loop .said) next
+  on = let s = loop .loop .inv .3 in let h = heading-readable (loop .loop .said) kind target told in walked file (loop .loop .start) (loop .loop .said) next (s .says) h (s .after h)
 
   abbrev condition : Condition
   condition = headed kind target (netFrom file next .pending)
 
   here : netFrom file (loop .loop .start) .conditions ≡ condition ∷ netFrom file next .conditions
-  here = ap (λ (net : Net). net .conditions) (on .net) ∙ heading-here (c .before .before .before .before .read .result .said) (netFrom file next) kind target told
+  here = ap (λ (net : Net). net .conditions) (on .net) ∙ heading-here (loop .loop .said) (netFrom file next) kind target told
 
   few : length (netFrom file (start .args .first) .conditions) ≤ 24
-  few = start .pre .1 .0
+  few = start .pre .1 .1 .0
 
   narrow : length directions ≤ 64
   narrow = start .pre .0 .1
@@ -153,11 +150,11 @@ module _ (c : tie.After-form-at Inv-loop μ-loop) where
       (conditionReply (directions line) (q line) (loop line .loop .n + 1) (condition line))
       (misclosureOf (directions line) (q line) (condition line))
   figured =
-      c .form-at .ensures .answer
+      c .form-at .ensures .0 .answer
       ∙ ap (λ (d : Condition). figureOf (conditionReply (directions line) (q line) (loop line .loop .n + 1) d) (misclosureOf (directions line) (q line) d)) asked
 
   listed : c .form-at .last .1 .1 .1 .1 .1 .1 .0 ≡ coefficientsList (lentOf (directions line) (q line) (condition line)) (old line)
-  listed = c .form-at .ensures .list ∙ ap (λ (d : Condition). coefficientsList (lentOf (directions line) (q line) d) (old line)) asked
+  listed = c .form-at .ensures .0 .list ∙ ap (λ (d : Condition). coefficientsList (lentOf (directions line) (q line) d) (old line)) asked
 
   put-back : length (putMid (loop line .loop .at) (loop line .loop .at + length (directions line) - loop line .loop .at) (loop line .loop .a) (c .form-at .last .1 .1 .1 .1 .1 .1 .0)) ≡ length (loop line .loop .a)
   put-back =
@@ -193,15 +190,16 @@ add-n : tie.Need-add-n Inv-loop μ-loop
 add-n c = omega (arith, turn (line (c .before .before .before .before)))
 
 loop-less : tie.Need-loop-less Inv-loop μ-loop
-loop-less c = let e = c .before .before .before .before in omega (arith, on (line e) .on, e .form-at .ensures .on, e .form-at .ensures .within)
+loop-less c = let e = c .before .before .before .before in omega (arith, on (line e) .on, e .form-at .ensures .0 .on, e .form-at .ensures .0 .within)
 
 loop-again : tie.Need-loop-again Inv-loop μ-loop
 loop-again c =
     let e = c .before .before .before .before in let k = line e in let l = loop k in let v = c .before .figure .given in (
-      same-left (e .form-at .ensures .conditions)
+      same-left (e .form-at .ensures .0 .conditions)
           (form-more (l .loop .inv .0) (here k) (few k) (narrow k) _ (old k) _ (listed e) (old-long k) (wide e) (v .0 .0) (sym (figured e) ∙ v .1) _ (read-at (v .0 .0) (c .known-told2 .given .0 .1))),
-      e .form-at .ensures .within,
-      e .form-at .ensures .opened,
+      e .form-at .ensures .0 .within,
+      e .form-at .ensures .0 .opened,
+      e .form-at .ensures .1,
     )
 
 pub form-all-spec : {M : Type 1} → statement M
@@ -211,7 +209,6 @@ form-all-spec =
     Inv-loop
     μ-loop
     loop-holds
-    read-requires
     heading-of-requires
     enum-known-heading
     enum-told

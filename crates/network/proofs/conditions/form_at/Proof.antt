@@ -30,31 +30,31 @@ array-share-prefix-kinds : tie.Need-array-share-prefix-kinds
 array-share-prefix-kinds c = search needs
 
 slice-aggregate-form : tie.Need-slice-aggregate-form
-slice-aggregate-form c = let g = c .before .before .before .before .before .before .gather .ensures in sym (length-take-le _ _ (omega (arith, g .most, g .long .0)))
+slice-aggregate-form c = let g = c .before .before .before .before .before .before .gather .ensures .0 in sym (length-take-le _ _ (omega (arith, g .most, g .long .0)))
 
 array-share-prefix-values : tie.Need-array-share-prefix-values
 array-share-prefix-values c = search needs
 
 slice-aggregate-form-2 : tie.Need-slice-aggregate-form-2
-slice-aggregate-form-2 c = let g = c .before .before .before .before .before .before .before .gather .ensures in sym (length-take-le _ _ (omega (arith, g .most, g .long .1)))
+slice-aggregate-form-2 c = let g = c .before .before .before .before .before .before .before .gather .ensures .0 in sym (length-take-le _ _ (omega (arith, g .most, g .long .1)))
 
 array-share-prefix-ds : tie.Need-array-share-prefix-ds
 array-share-prefix-ds c = search needs
 
 slice-aggregate-form-3 : tie.Need-slice-aggregate-form-3
-slice-aggregate-form-3 c = let g = c .before .before .before .before .before .before .before .before .gather .ensures in sym (length-take-le _ _ (omega (arith, g .most, g .long .2)))
+slice-aggregate-form-3 c = let g = c .before .before .before .before .before .before .before .before .gather .ensures .0 in sym (length-take-le _ _ (omega (arith, g .most, g .long .2)))
 
 array-share-prefix-is : tie.Need-array-share-prefix-is
 array-share-prefix-is c = search needs
 
 slice-aggregate-form-4 : tie.Need-slice-aggregate-form-4
-slice-aggregate-form-4 c = let g = c .before .before .before .before .before .before .before .before .before .gather .ensures in sym (length-take-le _ _ (omega (arith, g .most, g .long .3)))
+slice-aggregate-form-4 c = let g = c .before .before .before .before .before .before .before .before .before .gather .ensures .0 in sym (length-take-le _ _ (omega (arith, g .most, g .long .3)))
 
 array-share-prefix-ks : tie.Need-array-share-prefix-ks
 array-share-prefix-ks c = search needs
 
 slice-aggregate-form-5 : tie.Need-slice-aggregate-form-5
-slice-aggregate-form-5 c = let g = c .before .before .before .before .before .before .before .before .before .before .gather .ensures in sym (length-take-le _ _ (omega (arith, g .most, g .long .4)))
+slice-aggregate-form-5 c = let g = c .before .before .before .before .before .before .before .before .before .before .gather .ensures .0 in sym (length-take-le _ _ (omega (arith, g .most, g .long .4)))
 
 form-requires : tie.Need-form-requires
 form-requires c κs = search needs
@@ -64,7 +64,8 @@ same-length c = search needs
 
 returns : tie.Need-returns
 returns c =
-    let f = c .before .form in closes (c .before .before .before .before .before .before .before .before .before .before .before .before .before .gather .ensures) (read (c .before .before .before .before .before .before .before .before .before .before .before .before .before .before .before .before .before .before .before .before .fits .target)) (f .ensures .0) (f .ensures .1)
+    let f = c .before .form in let g = c .before .before .before .before .before .before .before .before .before .before .before .before .before .gather in
+    (closes (g .ensures .0) (read (c .before .before .before .before .before .before .before .before .before .before .before .before .before .before .before .before .before .before .before .before .fits .target)) (f .ensures .0) (f .ensures .1), g .ensures .1)
 
 pub form-at-spec : {M : Type 1} → statement M
 form-at-spec =

@@ -37,7 +37,7 @@ same-length-2 c = let l = c .before .before in l .loop .inv .q-long ∙ sym (l .
 returns : tie.Need-returns Inv-loop μ-loop
 returns c =
     let l = c .before .before in
-    read-all (l .loop .inv) (directions-stop (now (l .before .before .args .file)) (l .loop .start) (c .before .read .result .said) (c .before .read .ensures .0) (c .match .keys2) (l .loop .inv .led))
+    (read-all (l .loop .inv) (directions-stop (now (l .before .before .args .file)) (l .loop .start) (c .before .read .result .said) (c .before .read .ensures .0) (c .match .keys2) (l .loop .inv .led)), record { says = c .before .read .ensures .0; after = c .before .read .ensures .1 })
 
 -- ---- a D line
 module _ (c : tie.After-known-told Inv-loop μ-loop) where

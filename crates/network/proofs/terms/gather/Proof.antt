@@ -48,7 +48,7 @@ same-length-5 c = let l = c .before .before in l .loop .inv .long .4 ∙ sym (l 
 returns : tie.Need-returns Inv-loop μ-loop
 returns c =
     let l = c .before .before in
-    gathered (l .loop .inv) (terms-stop (now (l .before .before .args .file)) (l .loop .at) (c .before .read .result .said) (c .before .read .ensures .0) (c .match .keys2) (l .loop .inv .body))
+    (gathered (l .loop .inv) (terms-stop (now (l .before .before .args .file)) (l .loop .at) (c .before .read .result .said) (c .before .read .ensures .0) (c .match .keys2) (l .loop .inv .body)), record { says = c .before .read .ensures .0; after = c .before .read .ensures .1 })
 
 -- ---- a term
 module _ (c : tie.After-known-told Inv-loop μ-loop) where
