@@ -2,7 +2,7 @@
 --
 -- Figures 1, 2 and 4 to 8 are condition tables: so many directions of one q, the coefficients row by row, and the misclosures w. `replyTo`
 -- is the reply of the adjustment to the table, lent with all directions 0; K-in, R-in, u-in and Q-in are the lists of K, R, u and Q.
--- Figure 3 is a file and its listing, byte for byte (network's proofs/Figure3.antt). Figures 9 and 10 are the sightings of one position at a station.
+-- Figure 3 is a file and its listing, byte for byte (listing's proofs/Figure3.antt). Figures 9 and 10 are the sightings of one position at a station.
 use mathlib.Core.Path.{_≡_, refl, sym, subst}
 use mathlib.Core.List.{List, [], _∷_}
 use Prim.Native.Nat.{ℕ, _≤_}

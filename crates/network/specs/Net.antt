@@ -106,7 +106,7 @@ module _ (directions q : List ℤ) where
 unfoldable pub tableReply : List ℕ → Reply
 tableReply file = let net = netOf (linesOf file) in scanReply file andThen formedReply (net .directions) (net .q) 1 (net .conditions)
 
--- the table of an accepted net stands in the first places of the lists
+-- what `table` hands on: the table of an accepted net stands in the first places of the lists
 pub record Tables (rule : Reply) (net : Net) (t : Tabled) (directions q a w : List ℤ) : Type 0 where
   pub answer : t .reply ≡ rule
   pub m-most : t .reply ≡ Accepted → t .m ≤ 64

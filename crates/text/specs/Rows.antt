@@ -1,4 +1,4 @@
--- The numbers of a line, one to a field, and what the reader of such a row answers.
+-- What inner functions hand each other: the numbers of a line, one to a field, and what the reader of such a row answers.
 use mathlib.Core.Bool.{cond}
 use mathlib.Core.List.{List, [], _∷_}
 use mathlib.Core.Option.{Option, none, some}

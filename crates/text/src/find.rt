@@ -1,4 +1,4 @@
-// Where a byte first stands in a text: lines end at an LF, fields at a tab.
+// Where a byte first stands in a text: the line reader looks for an LF.
 ghost use mathlib.Core.Path.{_≡_};
 ghost use Rattle.text.specs.Parts.{placeFrom};
 
