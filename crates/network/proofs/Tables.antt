@@ -2,6 +2,7 @@
 --   directions-long   as many directions as were read
 --   table-refused     the scan has refused the file
 --   table-formed      its directions have been read and its conditions formed, or refused
+--   one-table         two answers that keep the promise are equal
 use mathlib.Core.Path.{_≡_, sym, _∙_, ap}
 use mathlib.Core.List.{List}
 use Prim.Native.Nat.{ℕ, _*_}
@@ -9,6 +10,7 @@ use native.Mathlib.Omega.{arith}
 use lib.IntN.{ℤ}
 use lib.ListN.{length, take}
 use lib.Seq.{length-take-le}
+use Rattle.exact.proofs.Unique.{only}
 use Rattle.reply.specs.declared.Refusal.{Refusal}
 use Rattle.reply.specs.declared.Reply.{Reply}
 use Rattle.reply.specs.declared.Reply.the-variants.{Accepted, Refused}
@@ -17,6 +19,7 @@ use Rattle.text.specs.Lines.{linesOf}
 use Rattle.network.specs.Scan.{scanReply}
 use Rattle.network.specs.Net.{Condition, Net, netOf, netFrom, formedReply, rowsOf, misclosuresOf, tableReply, Tables}
 use Rattle.network.specs.Gathered.{Directed, Forms}
+use Rattle.network.specs.declared.Tabled.{Tabled}
 use Rattle.network.proofs.Bounding.{scan-bounds}
 
 pub directions-long : {file : List ℕ} {directions q : List ℤ} {m next : ℕ} → Directed file directions q m next → length (take m directions) ≡ m
@@ -59,3 +62,18 @@ module _ (file : List ℕ) where
       rows-are = λ e. ap (λ (k : ℕ). take (n * k) a) (sym (directions-long d)) ∙ f .rows e ∙ to-net rowsOf;
       misclosures-are = λ e. f .misclosures e ∙ to-net misclosuresOf;
     }
+
+-- ---- two answers that keep the promise are equal: the replies, and the tables of an accepted file
+pub one-table : {rule : Reply} {net : Net} {t s : Tabled} {directions q a w directions' q' a' w' : List ℤ} → Tables rule net t directions q a w → Tables rule net s directions' q' a' w'
+    → (t .reply ≡ s .reply) × (t .reply ≡ Accepted
+    → (take (t .m) directions ≡ take (s .m) directions') × (take (t .m) q ≡ take (s .m) q') × (take (t .n * t .m) a ≡ take (s .n * s .m) a') × (take (t .n) w ≡ take (s .n) w'))
+one-table x y =
+    let same = only (x .answer) (y .answer) in (
+      same,
+      λ e. let f = sym same ∙ e in (
+        only (x .directions-are e) (y .directions-are f),
+        only (x .q-are e) (y .q-are f),
+        only (x .rows-are e) (y .rows-are f),
+        only (x .misclosures-are e) (y .misclosures-are f),
+      ),
+    )

@@ -1,6 +1,7 @@
 -- The promises leave nothing open: two answers that meet one promise are equal. Assumes nothing.
 --   one-line, one-status      of `line` and of `line_status`, for every file and every start
 --   one-number, one-place     of `read_to`, for every text and start
+--   one-row                   of `row::read`, for every file and start
 use mathlib.Core.Path.{_≡_}
 use mathlib.Core.List.{List}
 use Prim.Native.Nat.{ℕ, _+_}
@@ -8,8 +9,10 @@ use Rattle.exact.proofs.Unique.{only}
 use Rattle.text.specs.Parts.{placeFrom}
 use Rattle.text.specs.Lines.{lineAt, statusAt}
 use Rattle.text.specs.Numbers.{numberTo}
+use Rattle.text.specs.Rows.{rowEnd}
 use Rattle.text.specs.declared.line.LineStatus.{LineStatus}
 use Rattle.text.specs.declared.number.Number.{Number}
+use Rattle.text.specs.declared.row.RowEnd.{RowEnd}
 
 pub one-line : (file : List ℕ) (start : ℕ) (a b : List ℕ) → a ≡ lineAt file start → b ≡ lineAt file start → a ≡ b
 one-line file start a b x y = only x y
@@ -23,3 +26,6 @@ one-number ending text start a b = only
 -- and of the place after it, where there is a number
 pub one-place : (ending : ℕ) (text : List ℕ) (start n k : ℕ) → n ≡ placeFrom ending text start + 1 → k ≡ placeFrom ending text start + 1 → n ≡ k
 one-place ending text start n k = only
+
+pub one-row : (file : List ℕ) (start count : ℕ) (a b : RowEnd) → a ≡ rowEnd file start count → b ≡ rowEnd file start count → a ≡ b
+one-row file start count a b = only
