@@ -22,9 +22,9 @@ use Rattle.reply.specs.declared.Refusal.the-variants.{OutOfRange, Coefficient, 
 use Rattle.reply.specs.declared.Reply.the-variants.{Accepted}
 use Rattle.reply.proofs.Checking.{none-refused}
 use Rattle.direction.specs.Ranges.{outOfRange, faultAt, directionsReply}
-use Rattle.adjustment.specs.Table.{at, tableOf}
+use Rattle.doolittle.specs.Table.{at, tableOf}
 use Rattle.adjustment.specs.Refusals.{countsAmiss, differs, lengthsAmiss, coefficientFault, misclosureFault, conditionsReply}
-use Rattle.adjustment.specs.Inner.{Sound}
+use Rattle.doolittle.specs.Inner.{Sound}
 
 pub record Counts (m n : ℕ) : Type 0 where
   pub m-most : m ≤ 64

@@ -13,11 +13,12 @@ use Rattle.exact.specs.Tabulate.{tabulate}
 use Rattle.exact.proofs.Sum.{sum-ext}
 use Rattle.exact.proofs.Rounding.{nearest-size}
 use Rattle.exact.proofs.Filling.{tabulate-at, tabulate-ext}
-use Rattle.adjustment.specs.Table.{Table, at, tableOf}
-use Rattle.adjustment.specs.Solution.{K}
+use Rattle.doolittle.specs.Table.{Table, at, tableOf}
+use Rattle.doolittle.specs.Solution.{K}
 use Rattle.adjustment.specs.Corrections.{V-of, R-of, u-of, adjusted-of, Q-of}
 use Rattle.adjustment.specs.Demand.{seen}
-use Rattle.adjustment.specs.Inner.{Small, Sound, Solved}
+use Rattle.doolittle.specs.Inner.{Small, Sound}
+use Rattle.adjustment.specs.Inner.{Solved}
 use Rattle.adjustment.proofs.Solving.{V-size}
 
 module _ (qs cs ws ks vs rs : List ℤ) (sound : Sound qs cs ws) (s : Solved (tableOf qs cs ws) ks vs rs) where

@@ -21,8 +21,8 @@ use Rattle.exact.proofs.Sum.{sum-ext, sum-add, sum-mul, sum-swap, sum-le, sum-a
 use Rattle.exact.proofs.Rounding.{nearest-error}
 use Rattle.exact.proofs.Weights.{weight-exact, weight-pos}
 use Rattle.exact.proofs.LeastSquares as squares
-use Rattle.adjustment.specs.Table.{Table, inverseWeight}
-use Rattle.adjustment.specs.Solution.{N}
+use Rattle.doolittle.specs.Table.{Table, inverseWeight}
+use Rattle.doolittle.specs.Solution.{N}
 use Rattle.adjustment.specs.Corrections.{V-of, R-of, u-of, Q-of}
 use Rattle.adjustment.specs.Demand.{seen, weighted, SameRemainders, Demand3}
 use Rattle.adjustment.specs.Inner.{closing}

@@ -14,8 +14,8 @@ use Rattle.reply.specs.declared.Refusal.the-variants.{WeakRow, Correlate, Remai
 use Rattle.reply.specs.declared.Reply.{Reply}
 use Rattle.reply.specs.declared.Reply.the-variants.{Accepted, Refused}
 use Rattle.direction.specs.Ranges.{directionsReply}
-use Rattle.adjustment.specs.Table.{Table, tableOf}
-use Rattle.adjustment.specs.Solution.{N, reduced, D, L, M, weakRow, weak, back, K}
+use Rattle.doolittle.specs.Table.{Table, tableOf}
+use Rattle.doolittle.specs.Solution.{N, reduced, D, L, M, weakRow, weak, back, K}
 use Rattle.adjustment.specs.Corrections.{V-of, R-of, u-of, Q-of}
 use Rattle.adjustment.specs.Refusals.{countsAmiss, differs, lengthsAmiss, coefficientFault, misclosureFault, conditionsReply, rowsReply, correlatesReply, remaindersReply, solutionReply, inputReply}
 use Rattle.adjustment.specs.Promise.{lists, adjustReply}

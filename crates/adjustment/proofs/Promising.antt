@@ -23,13 +23,13 @@ use Rattle.reply.specs.Checks.{refuseIf, _andThen_, leaves}
 use Rattle.reply.specs.Verdicts.{verdictOf}
 use Rattle.reply.proofs.Checking.{none-refused, both-accepted, if-accepted}
 use Rattle.direction.specs.Ranges.{directionsReply}
-use Rattle.adjustment.specs.Table.{Table, at, tableOf}
-use Rattle.adjustment.specs.Solution.{K}
+use Rattle.doolittle.specs.Table.{Table, at, tableOf}
+use Rattle.doolittle.specs.Solution.{K}
 use Rattle.adjustment.specs.Corrections.{V-of, R-of, u-of, Q-of}
 use Rattle.adjustment.specs.Refusals.{countsAmiss, lengthsAmiss, conditionsReply, rowsReply, correlatesReply, remaindersReply, solutionReply, inputReply}
 use Rattle.adjustment.specs.Demand.{Demand3}
 use Rattle.adjustment.specs.Promise.{Answers, adjustReply, answersOf, Adjusts}
-use Rattle.adjustment.specs.Inner.{Sound}
+use Rattle.doolittle.specs.Inner.{Sound}
 use Rattle.adjustment.proofs.Admitting.{counts-known, lengths-known, sound-table}
 use Rattle.adjustment.proofs.Demands.{demand-3, demand-ext}
 

@@ -20,12 +20,13 @@ use Rattle.exact.proofs.Searching.{Failed, first-before, first-ext}
 use Rattle.reply.specs.declared.Refusal.the-variants.{WeakRow, Correlate, Remainder}
 use Rattle.reply.specs.declared.Reply.the-variants.{Accepted, Refused}
 use Rattle.reply.proofs.Checking.{refuse-first, accept-first}
-use Rattle.adjustment.specs.Table.{Table, at, tableOf}
-use Rattle.adjustment.specs.Solution.{weak, K}
+use Rattle.doolittle.specs.Table.{Table, at, tableOf}
+use Rattle.doolittle.specs.Solution.{weak, K}
 use Rattle.adjustment.specs.Corrections.{V-of, R-of}
 use Rattle.adjustment.specs.Refusals.{rowsReply, correlatesReply, remaindersReply, solutionReply}
-use Rattle.adjustment.specs.Inner.{Sound, closing}
-use Rattle.adjustment.proofs.Sizes.{sum-within, combination-size}
+use Rattle.doolittle.specs.Inner.{Sound}
+use Rattle.adjustment.specs.Inner.{closing}
+use Rattle.doolittle.proofs.Sizes.{sum-within, combination-size}
 use Rattle.adjustment.proofs.Demands.{remainder-forms}
 
 pub V-size : (qs cs ws : List ℤ) → Sound qs cs ws → (k : ℕ → ℤ) → ((j : ℕ) → j < length ws → natAbs (k j) ≤ 100000000) → (i : ℕ) → i < length qs → natAbs (V-of (tableOf qs cs ws) k i) ≤ 48000000000000

@@ -8,8 +8,8 @@ use lib.IntN.{ℤ, pos, negℤ}
 use Rattle.exact.specs.Sum.{sum}
 use Rattle.exact.specs.Nearest.{nearest}
 use Rattle.exact.specs.Tabulate.{tabulate}
-use Rattle.adjustment.specs.Table.{Table, tableOf}
-use Rattle.adjustment.specs.Solution.{N, reduced, D, L, M, back, K}
+use Rattle.doolittle.specs.Table.{Table, tableOf}
+use Rattle.doolittle.specs.Solution.{N, reduced, D, L, M, back, K}
 use Rattle.adjustment.specs.Corrections.{V-of, R-of, u-of, Q-of}
 
 -- two directions with q = 1 and q = 4, one condition 100, 100 with w = 1,000

@@ -4,8 +4,8 @@ use lib.IntN.{ℤ, pos, _+ℤ_, _*ℤ_}
 use Rattle.exact.specs.Sum.{sum}
 use Rattle.exact.specs.Nearest.{nearest}
 use Rattle.exact.specs.Circle.{C, modulo}
-use Rattle.adjustment.specs.Table.{Table, inverseWeight}
-use Rattle.adjustment.specs.Solution.{N}
+use Rattle.doolittle.specs.Table.{Table, inverseWeight}
+use Rattle.doolittle.specs.Solution.{N}
 
 module _ (t : Table) (k : ℕ → ℤ) where
   -- V(i) = q(i) * sum of a(j,i)*K(j)

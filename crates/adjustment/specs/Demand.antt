@@ -5,7 +5,7 @@ use lib.IntN.{ℤ, pos, natAbs, _+ℤ_, _*ℤ_}
 use lib.Signed.{_≤ℤ_}
 use Rattle.exact.specs.Sum.{sum}
 use Rattle.exact.specs.Nearest.{nearest}
-use Rattle.adjustment.specs.Table.{Table}
+use Rattle.doolittle.specs.Table.{Table}
 
 -- the sum over directions of a*x in condition j
 abbrev pub seen : Table → ℕ → (ℕ → ℤ) → ℤ

@@ -1,5 +1,3 @@
-pub mod Table
-pub mod Solution
 pub mod Corrections
 pub mod Refusals
 pub mod Demand

@@ -9,8 +9,8 @@ use Rattle.reply.specs.declared.Reply.{Reply}
 use Rattle.reply.specs.declared.Reply.the-variants.{Accepted}
 use Rattle.reply.specs.Checks.{_andThen_, leaves}
 use Rattle.reply.specs.Verdicts.{verdictOf}
-use Rattle.adjustment.specs.Table.{Table, at, tableOf}
-use Rattle.adjustment.specs.Solution.{K}
+use Rattle.doolittle.specs.Table.{Table, at, tableOf}
+use Rattle.doolittle.specs.Solution.{K}
 use Rattle.adjustment.specs.Corrections.{V-of, R-of, u-of, adjusted-of, Q-of}
 use Rattle.adjustment.specs.Refusals.{inputReply, solutionReply}
 use Rattle.adjustment.specs.Demand.{Demand3}

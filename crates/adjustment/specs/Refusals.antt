@@ -10,8 +10,8 @@ use Rattle.reply.specs.declared.Refusal.the-variants.{Count, Coefficient, Miscl
 use Rattle.reply.specs.declared.Reply.{Reply}
 use Rattle.reply.specs.Checks.{refuseIf, refuseFirst, _andThen_}
 use Rattle.direction.specs.Ranges.{directionsReply}
-use Rattle.adjustment.specs.Table.{Table, tableOf}
-use Rattle.adjustment.specs.Solution.{weak, K}
+use Rattle.doolittle.specs.Table.{Table, tableOf}
+use Rattle.doolittle.specs.Solution.{weak, K}
 use Rattle.adjustment.specs.Corrections.{R-of}
 
 -- Directions m: 1 to 64. Conditions n: 1 to 24, and n not above m.

@@ -10,10 +10,11 @@ ghost use Rattle.exact.specs.Nearest.{nearest};
 ghost use Rattle.exact.specs.Circle.{C, modulo};
 ghost use Rattle.exact.specs.First.{first};
 ghost use Rattle.exact.specs.Tabulate.{tabulate};
-ghost use Rattle.adjustment.specs.Table.{at, tableOf};
+ghost use Rattle.doolittle.specs.Table.{at, tableOf};
 ghost use Rattle.adjustment.specs.Corrections.{V-of};
 ghost use Rattle.adjustment.specs.Demand.{seen};
-ghost use Rattle.adjustment.specs.Inner.{Small, Within, Sound, closing};
+ghost use Rattle.doolittle.specs.Inner.{Small, Within, Sound};
+ghost use Rattle.adjustment.specs.Inner.{closing};
 use direction::CIRCLE;
 
 // The remainders up to the first that is too large.

@@ -1,17 +1,16 @@
 // Adjustment of a condition table: the one public operation, `adjust`. It checks the lent table, solves it, and only then writes the lent answer lists.
 mod correct;
-mod correlate;
-mod reduce;
 mod table;
 
 ghost use mathlib.Core.Path.{_≡_};
 ghost use lib.ListN.{length};
 ghost use Rattle.reply.specs.declared.Reply.the-variants.{Accepted};
-ghost use Rattle.adjustment.specs.Table.{at, tableOf};
-ghost use Rattle.adjustment.specs.Solution.{K};
+ghost use Rattle.doolittle.specs.Table.{at, tableOf};
+ghost use Rattle.doolittle.specs.Solution.{K};
 ghost use Rattle.adjustment.specs.Refusals.{solutionReply};
 ghost use Rattle.adjustment.specs.Promise.{Adjusts, lists, answersOf};
-ghost use Rattle.adjustment.specs.Inner.{Small, Sound, Solved};
+ghost use Rattle.doolittle.specs.Inner.{Small, Sound};
+ghost use Rattle.adjustment.specs.Inner.{Solved};
 use reply::Refusal;
 use reply::Reply;
 
@@ -44,11 +43,11 @@ fn solve(q: &[i64], a: &[i64], w: &[i64]) -> Solution
     let n = w.len();
     let mut rows = [[0i64; 25]; 24];
     let mut multipliers = [[0i64; 24]; 24];
-    let sound = reduce::reduce(q, a, w, &mut rows, &mut multipliers);
+    let sound = doolittle::reduce::reduce(q, a, w, &mut rows, &mut multipliers);
     if sound < n {
         return refused(Refusal::WeakRow((sound + 1) as u64));
     }
-    let correlated = correlate::correlates(&rows, &multipliers, n);
+    let correlated = doolittle::correlate::correlates(&rows, &multipliers, n);
     let from = correlated.from;
     if 0 < from {
         return refused(Refusal::Correlate(from as u64));

@@ -5,7 +5,7 @@ ghost use lib.ListN.{length, getD};
 ghost use lib.IntN.{pos, natAbs};
 ghost use lib.Dec.{ltb};
 ghost use Rattle.exact.specs.First.{some-below};
-ghost use Rattle.adjustment.specs.Table.{tableOf};
+ghost use Rattle.doolittle.specs.Table.{tableOf};
 ghost use Rattle.adjustment.specs.Refusals.{countsAmiss, differs, lengthsAmiss, conditionsReply};
 use reply::Refusal;
 use reply::Reply;

@@ -17,8 +17,8 @@ use Rattle.reply.specs.declared.Refusal.the-variants.{WeakRow}
 use Rattle.reply.specs.declared.Reply.{Reply}
 use Rattle.reply.specs.declared.Reply.the-variants.{Accepted, Refused}
 use Rattle.direction.specs.Ranges.{directionsReply}
-use Rattle.adjustment.specs.Table.{Table}
-use Rattle.adjustment.specs.Solution.{N, reduced, D, L, weakRow, weak}
+use Rattle.doolittle.specs.Table.{Table}
+use Rattle.doolittle.specs.Solution.{N, reduced, D, L, weakRow, weak}
 use Rattle.adjustment.specs.Refusals.{countsAmiss, differs, lengthsAmiss, coefficientFault, misclosureFault, conditionsReply, rowsReply, solutionReply, inputReply}
 use Rattle.adjustment.specs.Promise.{adjustReply}
 use Rattle.adjustment.proofs.Figures.{figure4, tableIn, replyTo}

@@ -13,7 +13,7 @@ use Rattle.reply.specs.Numbers.{numberOf, placeOf}
 use Rattle.reply.specs.declared.Refusal.{Refusal}
 use Rattle.reply.specs.declared.Reply.{Reply}
 use Rattle.reply.specs.declared.Reply.the-variants.{Accepted, Refused}
-use Rattle.adjustment.specs.Solution.{N}
+use Rattle.doolittle.specs.Solution.{N}
 use Rattle.adjustment.proofs.Figures.{Figure as Table, replyTo, tableIn, K-in, R-in, u-in, Q-in, figure-1, figure-2, figure-5, figure-6, figure-7, figure-8}
 use Rattle.listing.specs.File.{fileReply}
 use Rattle.listing.specs.File.{listingOf}

@@ -29,7 +29,7 @@ use Rattle.station.proofs.StationFigures.{figure-9, pairOfObjects}
 use Rattle.condition.specs.Rules.{Lent}
 use Rattle.condition.specs.Promise.{Coefficients, Misclosed}
 use Rattle.condition.proofs.Figures.{side, triangle, zeros, side-coefficients, side-misclosure, refused-reply}
-use Rattle.adjustment.specs.Table.{Table}
+use Rattle.doolittle.specs.Table.{Table}
 use Rattle.adjustment.specs.Demand.{Demand3}
 use Rattle.adjustment.specs.Promise.{Answers as Lists, lists, Adjusts}
 use Rattle.adjustment.proofs.Figures.{Figure as Lent-table, figure1, figure7, figure-1, figure-7}

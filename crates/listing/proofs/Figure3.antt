@@ -14,7 +14,7 @@ use Rattle.direction.specs.Ranges.{directionsReply}
 use Rattle.condition.specs.Terms.{letterOf as kindOf, termFault, share, angle, part}
 use Rattle.condition.specs.Rules.{directionsMiscounted, termsMiscounted, termsCheck, checks}
 use Rattle.condition.specs.Rules.{coefficient, coefficientsReply, coefficientsList, misclosure, misclosureFigure}
-use Rattle.adjustment.specs.Solution.{N, reduced, D, L, M, weakRow, weak, back, K}
+use Rattle.doolittle.specs.Solution.{N, reduced, D, L, M, weakRow, weak, back, K}
 use Rattle.adjustment.specs.Corrections.{V-of, R-of, u-of, adjusted-of, Q-of}
 use Rattle.adjustment.specs.Refusals.{countsAmiss, differs, lengthsAmiss, coefficientFault, misclosureFault}
 use Rattle.adjustment.specs.Refusals.{conditionsReply as tableReply, rowsReply, correlatesReply, remaindersReply, solutionReply, inputReply}

@@ -27,7 +27,7 @@ use Rattle.reply.specs.Verdicts.{verdictOf, refused}
 use Rattle.reply.specs.declared.Verdict.{Verdict}
 use Rattle.reply.specs.Numbers.{numberOf, placeOf}
 use Rattle.reply.proofs.Checking.{both-accepted}
-use Rattle.adjustment.specs.Solution.{K}
+use Rattle.doolittle.specs.Solution.{K}
 use Rattle.adjustment.specs.Corrections.{u-of}
 use Rattle.adjustment.specs.Promise.{adjustReply}
 use Rattle.adjustment.proofs.Promising.{accepted-demand3}

@@ -22,7 +22,7 @@ use Rattle.reply.specs.declared.Reply.the-variants.{Accepted, Refused}
 use Rattle.reply.specs.Checks.{refuseIf, _andThen_, figureValue}
 use Rattle.reply.proofs.Checking.{both-accepted, if-accepted, refuse-none}
 use Rattle.condition.specs.Rules.{Lent, checks, coefficient, beyond, misclosure, coefficientsReply, coefficientsList, misclosureFigure}
-use Rattle.adjustment.specs.Table.{Table, tableOf}
+use Rattle.doolittle.specs.Table.{Table, tableOf}
 use Rattle.adjustment.specs.Refusals.{countsAmiss, differs, lengthsAmiss, coefficientFault, misclosureFault, conditionsReply as tableReply, solutionReply, inputReply}
 use Rattle.adjustment.specs.Promise.{Answers, adjustReply}
 use Rattle.text.specs.Lines.{linesOf}

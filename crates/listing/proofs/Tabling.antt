@@ -18,8 +18,8 @@ use Rattle.reply.specs.declared.Reply.{Reply}
 use Rattle.reply.specs.declared.Reply.the-variants.{Accepted, Refused}
 use Rattle.reply.specs.Checks.{_andThen_, leaves}
 use Rattle.reply.proofs.Checking.{never}
-use Rattle.adjustment.specs.Table.{at, tableOf}
-use Rattle.adjustment.specs.Solution.{K}
+use Rattle.doolittle.specs.Table.{at, tableOf}
+use Rattle.doolittle.specs.Solution.{K}
 use Rattle.adjustment.specs.Promise.{Answers, adjustReply, answersOf, Adjusts}
 use Rattle.text.specs.Lines.{linesOf}
 use Rattle.network.specs.Scan.{scanReply}

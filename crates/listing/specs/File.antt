@@ -14,8 +14,8 @@ use Rattle.reply.specs.declared.Verdict.{Verdict}
 use Rattle.reply.specs.Numbers.{numberOf, placeOf}
 use Rattle.reply.specs.Checks.{refuseIf, _andThen_, leaves}
 use Rattle.reply.specs.Verdicts.{verdictOf}
-use Rattle.adjustment.specs.Table.{Table, at, tableOf}
-use Rattle.adjustment.specs.Solution.{K}
+use Rattle.doolittle.specs.Table.{Table, at, tableOf}
+use Rattle.doolittle.specs.Solution.{K}
 use Rattle.adjustment.specs.Corrections.{V-of, R-of, u-of, Q-of}
 use Rattle.adjustment.specs.Demand.{Demand3}
 use Rattle.adjustment.specs.Promise.{Answers, lists, adjustReply, answersOf}

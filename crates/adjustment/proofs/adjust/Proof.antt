@@ -11,11 +11,11 @@ use lib.IntN.{ℤ}
 use Rattle.reply.specs.declared.Refusal.the-variants.{Count}
 use Rattle.reply.specs.declared.Reply.the-variants.{Accepted}
 use Rattle.direction.specs.Ranges.{directionsReply}
-use Rattle.adjustment.specs.Table.{Table, tableOf}
-use Rattle.adjustment.specs.Solution.{M}
+use Rattle.doolittle.specs.Table.{Table, tableOf}
+use Rattle.doolittle.specs.Solution.{M}
 use Rattle.adjustment.specs.Refusals.{solutionReply, countsAmiss, lengthsAmiss, conditionsReply}
 use Rattle.adjustment.specs.Promise.{Answers, lists, adjustReply}
-use Rattle.adjustment.specs.Inner.{Sound}
+use Rattle.doolittle.specs.Inner.{Sound}
 use Rattle.adjustment.proofs.Admitting.{Lengths, counts-known, lengths-known, directions-known, sound-table}
 use Rattle.adjustment.proofs.Promising.{by-counts, by-lengths, by-directions, by-conditions, by-solution, refused-adjusts, accepted-adjusts}
 use Rattle.adjustment.proofs.adjust.Statement.{statement}

@@ -11,11 +11,11 @@ use Rattle.exact.specs.Nearest.{nearest}
 use Rattle.exact.specs.Circle.{C, modulo}
 use Rattle.exact.specs.Tabulate.{tabulate}
 use Rattle.exact.proofs.Filling.{tabulate-length}
-use Rattle.adjustment.specs.Table.{Table, at, tableOf}
-use Rattle.adjustment.specs.Solution.{M, K}
+use Rattle.doolittle.specs.Table.{Table, at, tableOf}
+use Rattle.doolittle.specs.Solution.{M, K}
 use Rattle.adjustment.specs.Corrections.{u-of}
 use Rattle.adjustment.specs.Promise.{lists}
-use Rattle.adjustment.specs.Inner.{Small}
+use Rattle.doolittle.specs.Inner.{Small}
 use Rattle.adjustment.proofs.Answering.{corrections-list, correlates-list, remainders-list, printed-list, adjusted-list, misses-list, u-size}
 use Rattle.adjustment.proofs.answer.Statement.{statement}
 use Rattle.adjustment.proofs.answer.Tie as tie

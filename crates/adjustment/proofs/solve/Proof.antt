@@ -11,12 +11,12 @@ use Rattle.exact.proofs.Searching.{Failed}
 use Rattle.reply.specs.declared.Refusal.{Refusal}
 use Rattle.reply.specs.declared.Reply.{Reply}
 use Rattle.reply.specs.declared.Reply.the-variants.{Accepted, Refused}
-use Rattle.adjustment.specs.Table.{Table, at, tableOf}
-use Rattle.adjustment.specs.Solution.{weak, K}
+use Rattle.doolittle.specs.Table.{Table, at, tableOf}
+use Rattle.doolittle.specs.Solution.{weak, K}
 use Rattle.adjustment.specs.Corrections.{V-of}
 use Rattle.adjustment.specs.Refusals.{rowsReply, correlatesReply}
-use Rattle.adjustment.specs.Inner.{Triangle, Solves, Small}
-use Rattle.adjustment.proofs.Correlating.{triangle-within}
+use Rattle.doolittle.specs.Inner.{Triangle, Solves, Small}
+use Rattle.doolittle.proofs.Correlating.{triangle-within}
 use Rattle.adjustment.proofs.Solving.{V-size, V-ext, closing-is, weak-refused, none-weak, large-refused, none-too-large, open-refused, none-open}
 use Rattle.adjustment.proofs.solve.Statement.{statement}
 use Rattle.adjustment.proofs.solve.Tie as tie

@@ -13,9 +13,9 @@ use mir.Val.{toZ, ofZ}
 use Rattle.exact.specs.Sum.{sum}
 use Rattle.exact.proofs.Bound.{read-at, read-within}
 use Rattle.exact.proofs.Sum.{sum-none, sum-more}
-use Rattle.adjustment.specs.Table.{at}
-use Rattle.adjustment.specs.Solution.{M}
-use Rattle.adjustment.proofs.Sizes.{sum-within, combination-size, row-end, next-row}
+use Rattle.doolittle.specs.Table.{at}
+use Rattle.doolittle.specs.Solution.{M}
+use Rattle.doolittle.proofs.Sizes.{sum-within, combination-size, row-end, next-row}
 use Rattle.adjustment.proofs.correct.combined.Statement.{statement}
 use Rattle.adjustment.proofs.correct.combined.Tie as tie
 

@@ -10,10 +10,10 @@ use mir.Syntax.{w64}
 use mir.Val.{toZ, ofZ}
 use Rattle.exact.proofs.Bound.{read-at, read-within}
 use Rattle.exact.proofs.Filling.{Filled, filled-none, filled-more}
-use Rattle.adjustment.specs.Table.{Table, at, tableOf}
-use Rattle.adjustment.specs.Solution.{M}
+use Rattle.doolittle.specs.Table.{Table, at, tableOf}
+use Rattle.doolittle.specs.Solution.{M}
 use Rattle.adjustment.specs.Corrections.{V-of}
-use Rattle.adjustment.proofs.Sizes.{sum-within, combination-size}
+use Rattle.doolittle.proofs.Sizes.{sum-within, combination-size}
 use Rattle.adjustment.proofs.correct.corrections.Statement.{statement}
 use Rattle.adjustment.proofs.correct.corrections.Tie as tie
 

@@ -12,7 +12,7 @@ use mir.Val.{toZ, ofZ}
 use Rattle.exact.specs.Nearest.{nearest}
 use Rattle.exact.proofs.Bound.{read-at}
 use Rattle.exact.proofs.Filling.{Filled, filled-none, filled-more, filled-all}
-use Rattle.adjustment.specs.Solution.{M}
+use Rattle.doolittle.specs.Solution.{M}
 use Rattle.adjustment.proofs.correct.print_corrections.Statement.{statement}
 use Rattle.adjustment.proofs.correct.print_corrections.Tie as tie
 

@@ -13,11 +13,11 @@ use mir.Val.{toZ, ofZ}
 use Rattle.exact.specs.Sum.{sum}
 use Rattle.exact.proofs.Bound.{read-at, read-within}
 use Rattle.exact.proofs.Filling.{Filled, filled-none, filled-more, filled-all}
-use Rattle.adjustment.specs.Table.{Table, at, tableOf}
+use Rattle.doolittle.specs.Table.{Table, at, tableOf}
 use Rattle.adjustment.specs.Demand.{seen}
-use Rattle.adjustment.specs.Solution.{M}
-use Rattle.adjustment.specs.Inner.{Within}
-use Rattle.adjustment.proofs.Sizes.{sum-within, printed-size, row-end, next-row}
+use Rattle.doolittle.specs.Solution.{M}
+use Rattle.doolittle.specs.Inner.{Within}
+use Rattle.doolittle.proofs.Sizes.{sum-within, printed-size, row-end, next-row}
 use Rattle.adjustment.proofs.correct.print_remainders.Statement.{statement}
 use Rattle.adjustment.proofs.correct.print_remainders.Tie as tie
 

@@ -17,11 +17,12 @@ use Rattle.exact.specs.Sum.{sum}
 use Rattle.exact.proofs.Bound.{read-at, read-within}
 use Rattle.exact.proofs.Searching.{Failed, failed-none, failed-more, first-at, first-none}
 use Rattle.exact.proofs.Filling.{Filled, filled-none, filled-more}
-use Rattle.adjustment.specs.Table.{Table, at, tableOf}
+use Rattle.doolittle.specs.Table.{Table, at, tableOf}
 use Rattle.adjustment.specs.Demand.{seen}
-use Rattle.adjustment.specs.Solution.{M}
-use Rattle.adjustment.specs.Inner.{closing, Within}
-use Rattle.adjustment.proofs.Sizes.{sum-within, product-size, row-end, next-row}
+use Rattle.doolittle.specs.Solution.{M}
+use Rattle.adjustment.specs.Inner.{closing}
+use Rattle.doolittle.specs.Inner.{Within}
+use Rattle.doolittle.proofs.Sizes.{sum-within, product-size, row-end, next-row}
 use Rattle.adjustment.proofs.correct.remainders.Statement.{statement}
 use Rattle.adjustment.proofs.correct.remainders.Tie as tie
 

@@ -10,8 +10,8 @@ use mir.Syntax.{w64}
 use mir.Val.{toZ, ofZ}
 use Rattle.exact.proofs.Bound.{read-at}
 use Rattle.exact.proofs.Filling.{Filled, filled-none, filled-more, filled-all}
-use Rattle.adjustment.specs.Table.{at}
-use Rattle.adjustment.specs.Solution.{M}
+use Rattle.doolittle.specs.Table.{at}
+use Rattle.doolittle.specs.Solution.{M}
 use Rattle.adjustment.proofs.correct.store.Statement.{statement}
 use Rattle.adjustment.proofs.correct.store.Tie as tie
 

@@ -1,0 +1,4 @@
+pub mod Sizes
+pub mod Weakness
+pub mod Reducing
+pub mod Correlating

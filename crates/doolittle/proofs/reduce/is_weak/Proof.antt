@@ -1,0 +1,151 @@
+-- `reduce::is_weak` meets its contract. Assumes nothing.
+use mathlib.Core.Path.{_≡_, refl, sym, _∙_, ap}
+use mathlib.Core.Bool.{true, false, _&&_}
+use mathlib.Core.List.{List}
+use Prim.Native.Nat.{ℕ, suc, _≤_}
+use native.Mathlib.Omega.{arith}
+use native.Mathlib.Numerals.{add-one}
+use borrow.Author.Needs.{needs}
+use borrow.Author.Tests.{ltb-false}
+use lib.Dec.{ltb, leb}
+use lib.IntN.{ℤ, pos, natAbs}
+use lib.Signed.{ltZ}
+use mir.Syntax.{w64}
+use mir.Val.{toZ, ofZ}
+use Rattle.exact.specs.First.{first}
+use Rattle.exact.proofs.Order.{lt-false}
+use Rattle.exact.proofs.Bound.{read-at}
+use Rattle.exact.proofs.Searching.{from-ext, from-none}
+use Rattle.doolittle.specs.Table.{at}
+use Rattle.doolittle.specs.Solution.{multiplier}
+use Rattle.doolittle.proofs.Weakness.{largeD, weak-by-coefficient, weak-by-constant, weak-by-pivot, weak-by-multiplier, pivot-above-zero}
+use Rattle.doolittle.proofs.reduce.is_weak.Statement.{statement}
+use Rattle.doolittle.proofs.reduce.is_weak.Tie as tie
+
+slice-aggregate-some-large : tie.Need-slice-aggregate-some-large
+slice-aggregate-some-large c = search needs
+
+some-large-requires : tie.Need-some-large-requires
+some-large-requires c κs = search needs
+
+not-true : {A : Type 0} → true ≡ false → A
+not-true e = let z : _≡_ {A = ℕ} 0 1 = cc in absurd (omega arith)
+
+-- the row, and the first test
+module _ (s : tie.Start) where
+  abbrev row : List ℤ
+  row = s .args .t1
+
+  abbrev j : ℕ
+  j = s .args .j
+
+  abbrev n : ℕ
+  n = s .args .n
+
+large-is : (c : tie.After-some-large) → c .some-large .result ≡ largeD (n (c .before .before)) (j (c .before .before)) (at (row (c .before .before)))
+large-is c = c .some-large .ensures
+
+returns : tie.Need-returns
+returns c =
+    let s = c .before .before .before in
+    (sym (weak-by-coefficient (n s) (j s) (at (row s)) (at (row s) 24) (sym (large-is (c .before)) ∙ c .if1 .taken)), not-true)
+
+array-copy-out-l : tie.Need-array-copy-out-l
+array-copy-out-l c = search needs
+
+magnitude-requires : tie.Need-magnitude-requires
+magnitude-requires c κs = search needs
+
+-- the coefficients are not large; the size of the constant
+module _ (c : tie.After-magnitude) where
+  abbrev start2 : tie.Start
+  start2 = c .before .before .before .before .before
+
+  small-d : largeD (n start2) (j start2) (at (row start2)) ≡ false
+  small-d = sym (large-is (c .before .before .before)) ∙ c .before .before .if1 .left
+
+  size-is : c .magnitude .result ≡ natAbs (at (row start2) 24)
+  size-is = c .magnitude .ensures ∙ ap natAbs (read-at (at (row start2) 24) (c .before .l .given))
+
+returns-2 : tie.Need-returns-2
+returns-2 c =
+    let b = c .before in let s = start2 b in
+    (sym (weak-by-constant (n s) (j s) (at (row s)) (at (row s) 24) (small-d b) (rw (size-is b) at (c .if2 .taken))), not-true)
+
+mul-pivot : tie.Need-mul-pivot
+mul-pivot c = search needs
+
+array-copy-out-pivot : tie.Need-array-copy-out-pivot
+array-copy-out-pivot c = search needs
+
+-- the constant is not large; the pivot as the machine reads it
+module _ (c : tie.After-pivot) where
+  abbrev start3 : tie.Start
+  start3 = start2 (c .before .before)
+
+  small-l : natAbs (at (row start3) 24) ≤ 4000000000
+  small-l = rw (size-is (c .before .before)) at (c .before .if2 .left)
+
+  pivot-read : toZ w64 (ofZ w64 (at (row start3) (j start3))) ≡ at (row start3) (j start3)
+  pivot-read = read-at (at (row start3) (j start3)) (c .pivot .given)
+
+returns-3 : tie.Need-returns-3
+returns-3 c =
+    let b = c .before in let s = start3 b in (
+      sym (weak-by-pivot (n s) (j s) (at (row s)) (at (row s) 24) (small-d (b .before .before)) (small-l b) (ap (λ (z : ℤ). ltZ z (pos 100)) (sym (pivot-read b)) ∙ c .if3 .taken)),
+      not-true,
+    )
+
+-- the pivot is 100 or more
+sound-pivot : (c : tie.Else3) → ltZ (at (row (start3 (c .before))) (j (start3 (c .before)))) (pos 100) ≡ false
+sound-pivot c = ap (λ (z : ℤ). ltZ z (pos 100)) (sym (pivot-read (c .before))) ∙ c .if3 .left
+
+multiplied-requires : tie.Need-multiplied-requires
+multiplied-requires c κs =
+    let b = c .before in let s = start3 b in (
+      s .pre,
+      (
+        (λ k h l. ltb-false 2560000000 (natAbs (at (row s) k)) (from-none (n s) (j s) (λ k. ltb 2560000000 (natAbs (at (row s) k))) (small-d (b .before .before)) k h l)),
+        pivot-above-zero (at (row s) (j s)) (lt-false (sound-pivot c) refl refl),
+      ),
+    )
+
+slice-aggregate-some-large-2 : tie.Need-slice-aggregate-some-large-2
+slice-aggregate-some-large-2 c = search needs
+
+add-some-large : tie.Need-add-some-large
+add-some-large c = search needs
+
+some-large-requires-2 : tie.Need-some-large-requires-2
+some-large-requires-2 c κs = search needs
+
+returns-4 : tie.Need-returns-4
+returns-4 c =
+    let d = c .before .before in let e = d .before in let b = e .before in let s = start3 b in let m = at (d .multiplied .result) in (
+      c .some-large2 .ensures
+          ∙ ap (λ (k : ℕ). ltb k (n s))
+          (ap (λ (i : ℕ). first (n s) (λ k. leb i k && ltb 1000000000 (natAbs (m k)))) (add-one (j s))
+          ∙ from-ext (n s) (suc (j s)) (λ k. ltb 1000000000 (natAbs (m k))) (λ k. ltb 1000000000 (natAbs (multiplier (at (row s) k) (at (row s) (j s)))))
+          (λ k h l. ap (λ (z : ℤ). ltb 1000000000 (natAbs z)) (d .multiplied .ensures k h l)))
+          ∙ sym (weak-by-multiplier (n s) (j s) (at (row s)) (at (row s) 24) (small-d (b .before .before)) (small-l b) (sound-pivot e)),
+      (λ f. d .multiplied .ensures),
+    )
+
+pub is-weak-spec : {M : Type 1} → statement M
+is-weak-spec =
+    tie.close
+    (tie.spec
+    slice-aggregate-some-large
+    some-large-requires
+    returns
+    array-copy-out-l
+    magnitude-requires
+    returns-2
+    mul-pivot
+    array-copy-out-pivot
+    returns-3
+    multiplied-requires
+    slice-aggregate-some-large-2
+    add-some-large
+    some-large-requires-2
+    returns-4)

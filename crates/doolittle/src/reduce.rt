@@ -1,0 +1,225 @@
+// The normals and the reduced rows. A row is formed from its entries of N, each formed once; every row above it adds its part, each product once; then it is tested.
+ghost use mathlib.Core.Path.{_≡_};
+ghost use mathlib.Core.Bool.{true, false, _&&_};
+ghost use Prim.Native.Nat.{ℕ, suc, _+_, _*_, _≤_, _<_};
+ghost use lib.ListN.{length, getD};
+ghost use lib.IntN.{pos, negℤ, natAbs, _+ℤ_, _*ℤ_};
+ghost use lib.Signed.{_<ℤ_};
+ghost use lib.Dec.{ltb, leb};
+ghost use Rattle.exact.specs.Sum.{sum};
+ghost use Rattle.exact.specs.Nearest.{nearest};
+ghost use Rattle.exact.specs.First.{first, some-below};
+ghost use Rattle.doolittle.specs.Table.{at, tableOf};
+ghost use Rattle.doolittle.specs.Solution.{N, carried, multiplier, weakRow, weak};
+ghost use Rattle.doolittle.specs.Inner.{Small, Within, Sound, CONSTANT, From, RowWithin, Holds, Rows, withAbove, rowAt, cell};
+
+// A reduced row: its coefficients D(j,k) at their places k, from j on, and its constant L(j) at the last place.
+pub type Row = [i64; 25];
+
+// The place of a row's constant.
+pub const CONSTANT: usize = 24;
+
+// One more term of N(j,k).
+fn with_term(s: i64, q: i64, x: i64, y: i64) -> i64
+    requires { ⌜ (natAbs s ≤ 2560000000) × (natAbs q ≤ 10) × (natAbs x ≤ 2000) × (natAbs y ≤ 2000) ⌝ }
+    ensures { λ r. ⌜ r ≡ s +ℤ q *ℤ x *ℤ y ⌝ }
+{
+    s + q * x * y
+}
+
+// N(j,k): the rows of coefficients begin at `at` and at `to`.
+fn normal(q: &[i64], a: &[i64], at: usize, to: usize) -> i64
+    requires { ⌜ length (now q) ≤ 64 ⌝ }
+    requires { ⌜ (at + length (now q) ≤ length (now a)) × (to + length (now q) ≤ length (now a)) ⌝ }
+    requires { ⌜ Small 10 (now q) (length (now q)) ⌝ }
+    requires { ⌜ Within 2000 (now a) at (length (now q)) × Within 2000 (now a) to (length (now q)) ⌝ }
+    ensures { λ r. ⌜ r ≡ sum (length (now (q .entry)))
+        (λ i. getD (now (q .entry)) i (pos 0) *ℤ getD (now (a .entry)) (at + i) (pos 0) *ℤ getD (now (a .entry)) (to + i) (pos 0)) ⌝ }
+{
+    let mut s = 0;
+    let mut i = 0;
+    while i < q.len() {
+        let g = q[i];
+        let x = a[at + i];
+        let y = a[to + i];
+        s = with_term(s, g, x, y);
+        i += 1;
+    }
+    s
+}
+
+// 1,000 times a misclosure.
+fn constant(w: i64) -> i64
+    requires { ⌜ natAbs w ≤ 1000000 ⌝ }
+    ensures { λ r. ⌜ r ≡ pos 1000 *ℤ w ⌝ }
+{
+    1000 * w
+}
+
+// Row j before any row above it is taken: N(j,k) for k from j on, and 1,000*w(j).
+fn normal_row(q: &[i64], a: &[i64], w: &[i64], j: usize, at: usize) -> Row
+    requires { ⌜ Sound (now q) (now a) (now w) ⌝ }
+    requires { ⌜ (j < length (now w)) × (at ≡ j * length (now q)) ⌝ }
+    ensures { λ r. ⌜ Holds j (length (now (w .entry))) (N (tableOf (now (q .entry)) (now (a .entry)) (now (w .entry))) j)
+        (pos 1000 *ℤ getD (now (w .entry)) j (pos 0)) r ⌝ }
+{
+    let x = w[j];
+    let mut row = [0i64; 25];
+    row[CONSTANT] = constant(x);
+    let mut to = at;
+    let mut k = j;
+    while k < w.len() {
+        row[k] = normal(q, a, at, to);
+        to += q.len();
+        k += 1;
+    }
+    row
+}
+
+// nearest(M*x / 10^6): what a row above adds.
+pub fn carried(m: i64, x: i64) -> i64
+    requires { ⌜ (natAbs m ≤ 1000000000) × (natAbs x ≤ 4000000000) ⌝ }
+    ensures { λ r. ⌜ r ≡ carried m x ⌝ }
+{
+    exact::nearest(m * x, 1000000)
+}
+
+// s + nearest(M*x / 10^6).
+pub fn plus_carried(s: i64, m: i64, x: i64) -> i64
+    requires { ⌜ (natAbs s ≤ 100000000000000) × (natAbs m ≤ 1000000000) × (natAbs x ≤ 4000000000) ⌝ }
+    ensures { λ r. ⌜ r ≡ s +ℤ carried m x ⌝ }
+{
+    s + carried(m, x)
+}
+
+// The number x of row j at place k with all rows above taken: x + sum over i<j of nearest(M(i,j)*D(i,k) / 10^6). Coefficients and constants alike.
+fn with_above(x: i64, rows: &[Row; 24], multipliers: &[[i64; 24]; 24], j: usize, k: usize) -> i64
+    requires { ⌜ (j < 24) × (k < 25) × (natAbs x ≤ 2560000000) ⌝ }
+    requires { ⌜ ((i : ℕ) → i < j → (natAbs (cell (now multipliers) i j) ≤ 1000000000) × (natAbs (cell (now rows) i k) ≤ 4000000000)) ⌝ }
+    ensures { λ r. ⌜ r ≡ withAbove x (now (rows .entry)) (now (multipliers .entry)) j k ⌝ }
+{
+    let mut s = x;
+    let mut i = 0;
+    while i < j {
+        let m = multipliers[i][j];
+        let y = rows[i][k];
+        s = plus_carried(s, m, y);
+        i += 1;
+    }
+    s
+}
+
+// Row j with all rows above it taken.
+fn reduced(row: Row, rows: &[Row; 24], multipliers: &[[i64; 24]; 24], j: usize, n: usize) -> Row
+    requires { ⌜ (j < n) × (n ≤ 24) ⌝ }
+    requires { ⌜ RowWithin 2560000000 j n row ⌝ }
+    requires { ⌜ ((i : ℕ) → i < j → (natAbs (cell (now multipliers) i j) ≤ 1000000000) × RowWithin 4000000000 j n (rowAt (now rows) i)) ⌝ }
+    ensures { λ r. ⌜ Holds j n (λ k. withAbove (at row k) (now (rows .entry)) (now (multipliers .entry)) j k)
+        (withAbove (at row CONSTANT) (now (rows .entry)) (now (multipliers .entry)) j CONSTANT) r ⌝ }
+{
+    let l = row[CONSTANT];
+    let mut next = [0i64; 25];
+    next[CONSTANT] = with_above(l, rows, multipliers, j, CONSTANT);
+    let mut k = j;
+    while k < n {
+        let d = row[k];
+        next[k] = with_above(d, rows, multipliers, j, k);
+        k += 1;
+    }
+    next
+}
+
+// Some number of a row, from place `from` to place `n`, is larger than the limit.
+fn some_large(xs: &[i64], from: usize, n: usize, limit: u64) -> bool
+    requires { ⌜ (from ≤ n) × (n ≤ length (now xs)) ⌝ }
+    ensures { λ r. ⌜ r ≡ some-below n (λ k. leb from k && ltb limit (natAbs (getD (now (xs .entry)) k (pos 0)))) ⌝ }
+{
+    let mut k = from;
+    while k < n {
+        let x = xs[k];
+        if limit < exact::magnitude(x) {
+            return true;
+        }
+        k += 1;
+    }
+    false
+}
+
+// nearest(-factor*x / D(j,j)): a multiplier, or a row's own part of its correlate.
+pub fn by_pivot(factor: i64, x: i64, pivot: i64) -> i64
+    requires { ⌜ (natAbs factor ≤ 1000000) × (natAbs x ≤ 4000000000) × (pos 0 <ℤ pivot) ⌝ }
+    ensures { λ r. ⌜ r ≡ nearest (negℤ (factor *ℤ x)) pivot ⌝ }
+{
+    exact::nearest(-(factor * x), pivot)
+}
+
+// The multipliers M(j,k) of row j, at their places k, from j + 1 on.
+fn multiplied(row: Row, j: usize, n: usize) -> [i64; 24]
+    requires { ⌜ (j < n) × (n ≤ 24) ⌝ }
+    requires { ⌜ From j n (λ k. natAbs (at row k) ≤ 2560000000) × (pos 0 <ℤ at row j) ⌝ }
+    ensures { λ r. ⌜ From (suc j) n (λ k. at r k ≡ multiplier (at row k) (at row j)) ⌝ }
+{
+    let pivot = row[j];
+    let mut m = [0i64; 24];
+    let mut k = j + 1;
+    while k < n {
+        let x = row[k];
+        m[k] = by_pivot(1000000, x, pivot);
+        k += 1;
+    }
+    m
+}
+
+// The one test of a row, each part as soon as what it tests is complete. The multipliers of a row that is not weak go into m.
+fn is_weak(row: Row, j: usize, n: usize, m: &mut [i64; 24]) -> bool
+    requires { ⌜ (j < n) × (n ≤ 24) ⌝ }
+    ensures { λ r. ⌜ r ≡ weakRow n j (at row) (at row CONSTANT) ⌝ }
+    ensures { λ r. ⌜ (r ≡ false → From (suc j) n (λ k. at (now (m .exit)) k ≡ multiplier (at row k) (at row j))) ⌝ }
+{
+    if some_large(&row, j, n, 2560000000) {
+        return true;
+    }
+    let l = row[CONSTANT];
+    if 4000000000 < exact::magnitude(l) {
+        return true;
+    }
+    let pivot = row[j];
+    if pivot < 100 {
+        return true;
+    }
+    let all = multiplied(row, j, n);
+    *m = all;
+    some_large(&all, j + 1, n, 1000000000)
+}
+
+// All rows in their order, up to the first weak one, into the triangle, and their multipliers; how many they are.
+pub fn reduce(
+    q: &[i64],
+    a: &[i64],
+    w: &[i64],
+    rows: &mut [Row; 24],
+    multipliers: &mut [[i64; 24]; 24],
+) -> usize
+    requires { ⌜ Sound (now q) (now a) (now w) ⌝ }
+    requires { ⌜ (length (now rows) ≡ 24) × (length (now multipliers) ≡ 24) ⌝ }
+    ensures { λ r. ⌜ r ≡ first (length (now (w .entry)))
+        (weak (tableOf (now (q .entry)) (now (a .entry)) (now (w .entry)))) ⌝ }
+    ensures { λ r. ⌜ Rows (tableOf (now (q .entry)) (now (a .entry)) (now (w .entry))) r (now (rows .exit)) (now (multipliers .exit)) ⌝ }
+{
+    let n = w.len();
+    let mut at = 0;
+    let mut j = 0;
+    while j < n {
+        let own = normal_row(q, a, w, j, at);
+        let row = reduced(own, rows, multipliers, j, n);
+        let mut m = [0i64; 24];
+        if is_weak(row, j, n, &mut m) {
+            return j;
+        }
+        rows[j] = row;
+        multipliers[j] = m;
+        at += q.len();
+        j += 1;
+    }
+    n
+}
