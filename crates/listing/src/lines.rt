@@ -3,9 +3,8 @@ ghost use Prim.Native.Nat.{_+_, _*_, _≤_};
 ghost use lib.ListN.{length};
 ghost use Rattle.text.specs.Written.{Wrote};
 ghost use Rattle.listing.specs.Listing.{lineHead, adjLine, vLine, kLine, refusedLine, vLines, kLines, acceptedListing};
+use text::LF;
 use text::writer;
-
-const LF: u8 = 10;
 
 // The head of a V or a K line: its letter, a number and two signed numbers.
 fn put_head(out: &mut [u8], at: usize, letter: u8, number: u64, first: i64, second: i64) -> usize

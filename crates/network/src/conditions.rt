@@ -162,6 +162,7 @@ pub fn form_all(
     ensures { λ r. ⌜ Forms (now (directions .entry)) (now (q .entry)) (netFrom (now (file .entry)) first .conditions) (r .reply) (r .n) (now (a .exit)) (now (w .exit)) ⌝ }
 {
     let m = directions.len();
+    // where the line that says `said` starts: what is still to come is told from there
     let mut start = first;
     let mut said = opening;
     let mut next = behind;

@@ -7,12 +7,10 @@ ghost use Rattle.text.specs.Lines.{LF};
 ghost use Rattle.text.specs.Fields.{TAB};
 ghost use Rattle.network.specs.Records.{letter-C};
 ghost use Rattle.network.specs.Turns.{Readable, numbersOf, recordWith, numberedAt, saidAt};
+use text::LF;
+use text::TAB;
 use text::row;
 use text::row::RowEnd;
-
-const TAB: u8 = 9;
-
-const LF: u8 = 10;
 
 // What a line says.
 pub enum Record {

@@ -5,3 +5,8 @@ pub mod line;
 pub mod number;
 pub mod row;
 pub mod writer;
+
+// What ends a field, and what ends a line.
+pub const TAB: u8 = 9;
+
+pub const LF: u8 = 10;

@@ -1,9 +1,8 @@
 // The lines of a file, each ended by LF. Any start is allowed, and no length is too long.
 ghost use mathlib.Core.Path.{_≡_};
 ghost use Rattle.text.specs.Lines.{lineAt, statusAt};
+use crate::LF;
 use crate::find;
-
-const LF: u8 = 10;
 
 // What stands at a start.
 pub enum LineStatus {

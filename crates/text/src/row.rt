@@ -3,12 +3,10 @@ ghost use mathlib.Core.Path.{_≡_};
 ghost use Prim.Native.Nat.{_≤_};
 ghost use lib.ListN.{length, take};
 ghost use Rattle.text.specs.Rows.{rowAt, rowEnd, rowValues};
+use crate::LF;
+use crate::TAB;
 use crate::number;
 use crate::number::Number;
-
-const TAB: u8 = 9;
-
-const LF: u8 = 10;
 
 // Where the next line starts, or that there is no such row.
 pub enum RowEnd {

@@ -3,9 +3,8 @@ ghost use mathlib.Core.List.{[], _∷_};
 ghost use Prim.Native.Nat.{_+_, _≤_};
 ghost use lib.ListN.{length};
 ghost use Rattle.text.specs.Written.{signedField, countField, Wrote};
+use crate::TAB;
 use crate::decimal;
-
-const TAB: u8 = 9;
 
 // One byte, from `at` on. Answers the place after it.
 pub fn put_byte(out: &mut [u8], at: usize, b: u8) -> usize
