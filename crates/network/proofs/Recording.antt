@@ -17,7 +17,7 @@ use borrow.Author.Tests.{lt-ltb, ltb-true, eq-eqb, ne-eqb, eqb-true, eqb-false}
 use lib.Dec.{eqb, ltb}
 use lib.IntN.{ℤ, pos}
 use lib.ListN.{length, getD, take, drop, length-drop}
-use lib.Seq.{getD-take, drop-cons}
+use lib.Seq.{getD-take}
 use Rattle.text.specs.Parts.{bytesBefore, placeFrom, onFirst, parted}
 use Rattle.text.specs.Lines.{LF, lineAt}
 use Rattle.text.specs.Fields.{TAB, fieldsOf, fieldAt, letterOf}
@@ -26,6 +26,7 @@ use Rattle.text.specs.Rows.{before, numbersIn, rowAt}
 use Rattle.text.specs.declared.number.Number.{Number}
 use Rattle.text.specs.declared.number.Number.the-variants.{Value, Malformed}
 use Rattle.text.proofs.Parting.{place-here, place-next}
+use Rattle.text.proofs.Lettering.{firstLetter, lineIn, one-tab, one-end, lone-field, at-lf, at-tab, no-first, other-letter, two-bytes, two-on, short-line}
 use Rattle.network.specs.Records.{letter-A, letter-C, letter-D, letter-F, letter-L, letter-P, letter-R, letter-S, with, directionLine, anglesLine, sidesLine, conditionLine, angleLine, fixedLine, sideLine, lineOf, recordOf}
 use Rattle.network.specs.Turns.{saidAt, Readable, numbersOf, recordWith, recordIn, numberedAt}
 use Rattle.network.specs.declared.record.Record.{Record}
@@ -192,10 +193,7 @@ angles-line line fields e =
     (chain-row 1 fields (λ zs. Angles (getD zs 0 (pos 0))) ∙ numbered-by letter-C 0 fields (λ zs. Angles (getD zs 0 (pos 0))) refl (λ zs. refl))
 
 -- ---- lines that say nothing
-abbrev first : List ℕ → ℕ
-first line = letterOf (getD (fieldsOf line) 0 [])
-
-no-letter : (line : List ℕ) → first line ≡ 0 → recordOf line ≡ Unreadable
+no-letter : (line : List ℕ) → firstLetter line ≡ 0 → recordOf line ≡ Unreadable
 unfolding recordOf lineOf fieldAt
 no-letter line e = rw e
 
@@ -212,54 +210,6 @@ lone line letter e =
       either (eqb letter letter-C),
       either (eqb letter letter-D),
     )
-
--- ---- the first field of a line, by its first two bytes
-abbrev pub lineIn : List ℕ → List ℕ
-lineIn s = take (bytesBefore LF s) s
-
--- a byte before a field that is there
-long-field : (b c : ℕ) (fields : List (List ℕ)) → letterOf (getD (onFirst b (onFirst c fields)) 0 []) ≡ 0
-unfolding onFirst letterOf
-long-field b c [] = refl
-long-field b c (field ∷ fields) = rw (ne-eqb (suc (suc (length field))) 1 (λ e. omega (arith, e)))
-
-module _ (b : ℕ) (lf : eqb b LF ≡ false) (tab : eqb b TAB ≡ false) where
-  -- a tab after it
-  one-tab : (r : List ℕ) → fieldsOf (lineIn (b ∷ TAB ∷ r)) ≡ (b ∷ []) ∷ fieldsOf (lineIn r)
-  unfolding bytesBefore fieldsOf parted onFirst
-  one-tab r = rw (lf, tab)
-
-  -- the LF
-  one-end : (r : List ℕ) → lineIn (b ∷ LF ∷ r) ≡ b ∷ []
-  unfolding bytesBefore
-  one-end r = rw lf
-
-  lone-field : fieldsOf (b ∷ []) ≡ (b ∷ []) ∷ []
-  unfolding fieldsOf parted onFirst
-  lone-field = rw tab
-
-  -- another byte
-  longer : (c : ℕ) (r : List ℕ) → eqb c LF ≡ false → eqb c TAB ≡ false → first (lineIn (b ∷ c ∷ r)) ≡ 0
-  unfolding bytesBefore fieldsOf parted
-  longer c r l t = rw (lf, l, tab, t) (long-field b c (parted TAB ([] ∷ []) (take (bytesBefore LF r) r)))
-
--- an LF or a tab at the start
-at-lf : (b : ℕ) (r : List ℕ) → eqb b LF ≡ true → first (lineIn (b ∷ r)) ≡ 0
-unfolding bytesBefore fieldsOf parted letterOf
-at-lf b r l = rw l
-
-at-tab : (b : ℕ) (r : List ℕ) → eqb b LF ≡ false → eqb b TAB ≡ true → first (lineIn (b ∷ r)) ≡ 0
-unfolding bytesBefore fieldsOf parted letterOf
-at-tab b r l t = rw (l, t)
-
--- two bytes of which the second is neither a tab nor the LF
-no-first : (b c : ℕ) (r : List ℕ) → eqb c LF ≡ false → eqb c TAB ≡ false → first (lineIn (b ∷ c ∷ r)) ≡ 0
-no-first b c r l t = by-start (eqb b LF) (eqb b TAB) refl refl
-  where
-    by-start : (x y : Bool) → eqb b LF ≡ x → eqb b TAB ≡ y → first (lineIn (b ∷ c ∷ r)) ≡ 0
-    by-start true y lf tab = at-lf b (c ∷ r) lf
-    by-start false true lf tab = at-tab b (c ∷ r) lf tab
-    by-start false false lf tab = longer b lf tab c r l t
 
 -- no tab behind the letter
 pub no-tab : (b c : ℕ) (r : List ℕ) → eqb c TAB ≡ false → recordOf (lineIn (b ∷ c ∷ r)) ≡ Unreadable
@@ -290,28 +240,6 @@ no-kind : (line : List ℕ) (fields : List (List ℕ)) → fieldsOf line ≡ (le
     → eqb (letterOf (getD fields 0 [])) letter-A ≡ false → eqb (letterOf (getD fields 0 [])) letter-S ≡ false → recordOf line ≡ Unreadable
 unfolding recordOf lineOf conditionLine fieldAt letterOf
 no-kind line fields e a s = rw (e, a, s)
-
--- a kind, or none, but not another letter
-one-of : (k x : ℕ) (fields : List (List ℕ)) → eqb k x ≡ false → eqb 0 x ≡ false → eqb (letterOf (getD (onFirst k fields) 0 [])) x ≡ false
-unfolding onFirst letterOf
-one-of k x [] e o = o
-one-of k x (field ∷ fields) e o = by-length (eqb (suc (length field)) 1)
-  where
-    by-length : (b : Bool) → eqb (cond b k 0) x ≡ false
-    by-length true = e
-    by-length false = o
-
-plain-kind : (k x : ℕ) (r : List ℕ) → eqb k x ≡ false → eqb 0 x ≡ false → eqb k LF ≡ false → eqb k TAB ≡ false → eqb (first (lineIn (k ∷ r))) x ≡ false
-unfolding bytesBefore fieldsOf parted
-plain-kind k x r e o lf tab = rw (lf, tab) (one-of k x (parted TAB ([] ∷ []) (take (bytesBefore LF r) r)) e o)
-
-other-kind : (k x : ℕ) (r : List ℕ) → eqb k x ≡ false → eqb 0 x ≡ false → eqb (first (lineIn (k ∷ r))) x ≡ false
-other-kind k x r e o = by-start (eqb k LF) (eqb k TAB) refl refl
-  where
-    by-start : (a b : Bool) → eqb k LF ≡ a → eqb k TAB ≡ b → eqb (first (lineIn (k ∷ r))) x ≡ false
-    by-start true b lf tab = ap (λ (n : ℕ). eqb n x) (at-lf k r lf) ∙ o
-    by-start false true lf tab = ap (λ (n : ℕ). eqb n x) (at-tab k r lf tab) ∙ o
-    by-start false false lf tab = plain-kind k x r e o lf tab
 
 some-step : (x : ℕ) (b : Bool) (fields : List (List ℕ)) → 1 ≤ length fields → 1 ≤ length (cond b ([] ∷ fields) (onFirst x fields))
 unfolding onFirst
@@ -349,7 +277,7 @@ module _ (k n : ℕ) (r : List ℕ) where
 
   pub c-other : eqb k letter-A ≡ false → eqb k letter-S ≡ false → recordOf (behind (k ∷ n ∷ r)) ≡ Unreadable
   c-other a s =
-      no-kind (behind (k ∷ n ∷ r)) (fieldsOf (lineIn (k ∷ n ∷ r))) (c-fields (k ∷ n ∷ r)) (other-kind k letter-A (n ∷ r) a refl) (other-kind k letter-S (n ∷ r) s refl)
+      no-kind (behind (k ∷ n ∷ r)) (fieldsOf (lineIn (k ∷ n ∷ r))) (c-fields (k ∷ n ∷ r)) (other-letter k letter-A (n ∷ r) a refl) (other-letter k letter-S (n ∷ r) s refl)
 
 module _ (n : ℕ) (r : List ℕ) where
   pub c-sides : n ≡ LF → recordOf (behind (letter-S ∷ n ∷ r)) ≡ Sides
@@ -383,20 +311,6 @@ module _ (n : ℕ) (r : List ℕ) where
       by-end false l = c-long letter-A n r l t
 
 -- ---- in a file
--- two bytes and the rest
-pub two-bytes : (file : List ℕ) (start : ℕ) → start + 2 ≤ length file → drop start file ≡ getD file start 0 ∷ getD file (start + 1) 0 ∷ drop (start + 2) file
-two-bytes file start l =
-    let one : suc start ≡ start + 1 = omega arith in let two : suc (start + 1) ≡ start + 2 = omega arith in
-    drop-cons file start 0 (omega (arith, l))
-    ∙ ap (λ (n : ℕ). getD file start 0 ∷ drop n file) one
-    ∙ ap (λ (rest : List ℕ). getD file start 0 ∷ rest) (drop-cons file (start + 1) 0 (omega (arith, l)) ∙ ap (λ (n : ℕ). getD file (start + 1) 0 ∷ drop n file) two)
-
-pub two-on : (file : List ℕ) (start : ℕ) → start + 2 ≤ length file → (getD file start 0 ≡ LF → ⊥) → (getD file (start + 1) 0 ≡ LF → ⊥)
-    → placeFrom LF file start ≡ placeFrom LF file (start + 2)
-two-on file start l a b =
-    let two : start + 1 + 1 ≡ start + 2 = omega arith in
-    place-next LF file start (omega (arith, l)) a ∙ place-next LF file (start + 1) (omega (arith, l)) b ∙ ap (placeFrom LF file) two
-
 module _ (file : List ℕ) (start : ℕ) where
   abbrev found : Bool
   found = ltb (placeFrom LF file start) (length file)
@@ -433,10 +347,6 @@ module _ (file : List ℕ) (start : ℕ) where
   pub numbered-is : (letter : ℕ) → numberedAt file start letter ≡ cond found (numberedIn letter (fieldsOf (upTo LF file start))) Unreadable
   unfolding numberedAt rowAt lineAt
   numbered-is letter = row-by found letter
-
--- fewer than two bytes: no line, or an empty one
-short-line : (s : List ℕ) → length s < 2 → bytesBefore LF s < length s → bytesBefore LF s ≡ 0
-short-line s l h = omega (arith, l, h)
 
 module _ (file : List ℕ) (start : ℕ) where
   pub short-said : length file - start < 2 → Unreadable ≡ saidAt file start

@@ -9,9 +9,7 @@ use crate::record::Record;
 use reply::Refusal;
 use reply::Reply;
 
-// The longest file, and the most directions, conditions and terms of a condition.
-const MOST_BYTES: usize = 65_535;
-
+// The most directions, conditions and terms of a condition.
 const MOST_DIRECTIONS: u64 = 64;
 
 const MOST_CONDITIONS: u64 = 24;
@@ -233,7 +231,7 @@ fn end_reply(c: Counts) -> Reply
 pub fn scan(file: &[u8]) -> Reply
     ensures { λ r. ⌜ Replies (scanReply (now (file .entry))) r ⌝ }
 {
-    if MOST_BYTES < file.len() {
+    if text::MOST_BYTES < file.len() {
         return Reply::Refused(Refusal::Count(0));
     }
     let mut start: usize = 0;

@@ -3,6 +3,7 @@ pub mod Splitting
 pub mod Numerals
 pub mod Spanning
 pub mod Rowing
+pub mod Lettering
 pub mod Writing
 pub mod ReadingBack
 pub mod Putting

@@ -1,14 +1,14 @@
--- What inner functions hand each other: the numbers of a line, one to a field, and what the reader of such a row answers.
+-- The numbers of a line, one to a field, and those behind its letter.
 use mathlib.Core.Bool.{cond}
 use mathlib.Core.List.{List, [], _∷_}
 use mathlib.Core.Option.{Option, none, some}
 use Prim.Native.Nat.{ℕ, zero, suc, _+_}
-use lib.Dec.{ltb}
+use lib.Dec.{eqb, ltb}
 use lib.IntN.{ℤ}
-use lib.ListN.{length}
+use lib.ListN.{length, drop}
 use Rattle.text.specs.Parts.{placeFrom}
 use Rattle.text.specs.Lines.{LF, lineAt}
-use Rattle.text.specs.Fields.{fieldsOf}
+use Rattle.text.specs.Fields.{fieldsOf, fieldAt, letterOf}
 use Rattle.text.specs.Numbers.{numeral}
 use Rattle.text.specs.declared.number.Number.{Number}
 use Rattle.text.specs.declared.number.Number.the-variants.{Value, Malformed}
@@ -28,10 +28,19 @@ numbersIn zero (field ∷ fields) = none
 numbersIn (suc k) [] = none
 numbersIn (suc k) (field ∷ fields) = before (numeral field) (numbersIn k fields)
 
--- those of the line at a start; none, where no LF follows
+-- a letter in the first field, and so many numbers behind it
+unfoldable pub behindLetter : (letter count : ℕ) (line : List ℕ) → Option (List ℤ)
+behindLetter letter count line = cond (eqb (letterOf (fieldAt line 0)) letter) (numbersIn count (drop 1 (fieldsOf line))) none
+
+-- ---- what inner functions hand each other
+-- the numbers of the line at a start; none, where no LF follows
 unfoldable pub rowAt : (file : List ℕ) (start count : ℕ) → Option (List ℤ)
 rowAt file start count = cond (ltb (placeFrom LF file start) (length file)) (numbersIn count (fieldsOf (lineAt file start))) none
 
+unfoldable pub behindAt : (file : List ℕ) (start letter count : ℕ) → Option (List ℤ)
+behindAt file start letter count = cond (ltb (placeFrom LF file start) (length file)) (behindLetter letter count (lineAt file start)) none
+
+-- what the reader of a row answers
 unfoldable pub endOf : Option (List ℤ) → ℕ → RowEnd
 endOf (some zs) next = Next next
 endOf none next = NoRow

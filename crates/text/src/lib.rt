@@ -10,3 +10,6 @@ pub mod writer;
 pub const TAB: u8 = 9;
 
 pub const LF: u8 = 10;
+
+// The longest file of lines.
+pub const MOST_BYTES: usize = 65_535;
