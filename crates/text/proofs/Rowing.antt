@@ -6,7 +6,7 @@
 --   prepend, prepend-nothing, prepend-more   the numbers read so far, and those of what is left
 --   row-more, row-last                  one number more, and the last
 --   row-some, row-none                  the answer, by the row
---   row-told, no-row-told               the row, by the answer
+--   told-some, told-none, row-told, no-row-told   the row, by the answer
 use mathlib.Core.Path.{_≡_, refl, sym, _∙_, ap}
 use mathlib.Core.Bool.{Bool, true, false, cond}
 use mathlib.Core.List.{List, [], _∷_, _++_}
@@ -261,12 +261,12 @@ abbrev nextIn : RowEnd → ℕ
 nextIn (Next n) = n
 nextIn NoRow = 0
 
-told-some : (o : Option (List ℤ)) (n next : ℕ) (xs : List ℤ) → endOf o n ≡ Next next → xs ≡ rowValues o xs → (o ≡ some xs) × (next ≡ n)
+pub told-some : (o : Option (List ℤ)) (n next : ℕ) (xs : List ℤ) → endOf o n ≡ Next next → xs ≡ rowValues o xs → (o ≡ some xs) × (next ≡ n)
 unfolding endOf rowValues
 told-some (some zs) n next xs e v = (ap some (sym v), sym (ap nextIn e))
 told-some none n next xs e v = absurd (omega (arith, ap ends e))
 
-told-none : (o : Option (List ℤ)) (n : ℕ) → endOf o n ≡ NoRow → o ≡ none
+pub told-none : (o : Option (List ℤ)) (n : ℕ) → endOf o n ≡ NoRow → o ≡ none
 unfolding endOf
 told-none (some zs) n e = absurd (omega (arith, ap ends e))
 told-none none n e = refl

@@ -5,17 +5,18 @@
 --   line-next                                      the LF stands right after the line, so the next line starts one further
 --   lines-whole, lines-rest, lines-end             the list of lines from a start: the line there and those after its LF, or no line
 --   walk-on, walk-missing, walk-ended              the same by the status: going from line to line gives the file's lines
+--   bytes-most                                     a file's lines with their LF have no more bytes than the file
 use mathlib.Core.Path.{_≡_, refl, sym, _∙_, ap}
 use mathlib.Core.Bool.{Bool, true, false, cond}
 use mathlib.Core.List.{List, [], _∷_}
-use Prim.Native.Nat.{ℕ, _+_, _-_, _<_, _≤_}
+use Prim.Native.Nat.{ℕ, suc, _+_, _-_, _<_, _≤_}
 use native.Mathlib.Omega.{arith}
 use borrow.Author.Tests.{lt-ltb, le-ltb, ltb-true, ltb-false}
-use lib.Dec.{ltb}
+use lib.Dec.{ltb, eqb}
 use lib.ListN.{length, take, drop, drop-of-length-le, length-drop}
 use lib.Seq.{length-take-le}
-use Rattle.text.specs.Parts.{bytesBefore, placeFrom, parted}
-use Rattle.text.specs.Lines.{LF, lineAt, statusAt, linesOf}
+use Rattle.text.specs.Parts.{bytesBefore, placeFrom, onFirst, parted}
+use Rattle.text.specs.Lines.{LF, lineAt, statusAt, linesOf, bytesOf}
 use Rattle.text.specs.declared.line.LineStatus.{LineStatus}
 use Rattle.text.specs.declared.line.LineStatus.the-variants.{Whole, NoneLeft, LfMissing}
 use Rattle.text.proofs.Parting.{parts-more, parts-dropped}
@@ -124,3 +125,19 @@ module _ (s : List ℕ) (i : ℕ) where
 
   pub walk-ended : statusAt s i ≡ NoneLeft → linesOf (drop i s) ≡ []
   walk-ended e = lines-end s i (none-past s i e)
+
+-- ---- how many bytes they have
+bytes-first : (x : ℕ) (lines : List (List ℕ)) → bytesOf (onFirst x lines) ≤ suc (bytesOf lines)
+unfolding bytesOf onFirst
+bytes-first x [] = omega arith
+bytes-first x (line ∷ lines) = omega arith
+
+bytes-step : (x n : ℕ) (lines : List (List ℕ)) (b : Bool) → bytesOf lines ≤ n → bytesOf (cond b ([] ∷ lines) (onFirst x lines)) ≤ suc n
+unfolding bytesOf
+bytes-step x n lines true h = omega arith
+bytes-step x n lines false h = omega (arith, bytes-first x lines)
+
+pub bytes-most : (s : List ℕ) → bytesOf (linesOf s) ≤ length s
+unfolding linesOf parted bytesOf
+bytes-most [] = omega arith
+bytes-most (x ∷ s) = bytes-step x (length s) (linesOf s) (eqb x LF) (bytes-most s)

@@ -1,7 +1,7 @@
--- The lines of a file, "each ended by LF": the line at a start, what the companion says of that start, and the list of all lines.
-use mathlib.Core.Bool.{cond}
-use mathlib.Core.List.{List, []}
-use Prim.Native.Nat.{ℕ}
+-- The lines of a file, "each ended by LF": the line at a start, what the companion says of that start, the list of all lines, and what stands behind them.
+use mathlib.Core.Bool.{Bool, cond}
+use mathlib.Core.List.{List, [], _∷_}
+use Prim.Native.Nat.{ℕ, _+_}
 use lib.ListN.{length, take, drop}
 use lib.Dec.{ltb}
 use Rattle.text.specs.Parts.{bytesBefore, placeFrom, parted}
@@ -22,3 +22,12 @@ statusAt file start = cond (ltb start (length file)) (cond (ltb (placeFrom LF fi
 -- all lines of a file that have their LF, in order, each without it; bytes after the last LF are no line
 unfoldable pub linesOf : List ℕ → List (List ℕ)
 linesOf file = parted LF [] file
+
+-- how many bytes these lines have, each with its LF
+unfoldable pub bytesOf : List (List ℕ) → ℕ
+bytesOf [] = 0
+bytesOf (line ∷ lines) = length line + 1 + bytesOf lines
+
+-- the file has more: a last line without LF
+unfoldable pub unended : List ℕ → Bool
+unended file = ltb (bytesOf (linesOf file)) (length file)

@@ -1,0 +1,2 @@
+// The sighting book of a station.
+mod entries;
