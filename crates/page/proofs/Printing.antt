@@ -1,14 +1,15 @@
 -- The laws of what is answered and printed of a file, whatever its reply, its listing and the room for the longest listing are. Assumes nothing.
---   listed-refused, listed-accepted, relisted   what is left by a refusal, and by an accepted listing; the same by an equal rule
---   refusal-leaves                              a refusal that keeps the promise leaves the lent buffer as it was
---   one-listed                                  two answers that keep the promise are equal, and leave equal buffers
---   short, roomy, room-accepted                 the reply where the buffer is too short and where it has room; where that accepts
---   no-line, whole-line, one-refused-line       `refused_line` keeps its promise, and nothing else does
+--   listed-refused, listed-accepted, relisted     what is left by a refusal, and by an accepted listing; the same by an equal rule
+--   refusal-leaves                                a refusal that keeps the promise leaves the lent buffer as it was
+--   one-listed                                    two answers that keep the promise are equal, and leave equal buffers
+--   short, roomy, room-accepted                   the reply where the buffer is too short, and where it has room; what an acceptance says
+--   no-line, whole-line, one-refused-line         `refused_line` keeps its promise, and nothing else does
 --   prints-listing, prints-refusal, one-printed   so does `print`, after an acceptance and after a refusal, and nothing else does
---   printed-most                                what is printed of a file has no more bytes than the longest listing
---   nothing-printed, listed-printed             a listing for programs: with a buffer that is too short, and by an operation that lists and `print`
+--   printed-most                                  what is printed of a file has no more bytes than the longest listing
+--   nothing-printed, listed-printed               a listing for programs: with a buffer that is too short, and by an operation that lists and `print`
 use mathlib.Core.Path.{_≡_, refl, sym, _∙_, ap, subst}
-use mathlib.Core.List.{List}
+use mathlib.Core.Bool.{cond}
+use mathlib.Core.List.{List, []}
 use Prim.Native.Nat.{ℕ, _≤_, _<_}
 use native.Mathlib.Nat.{zero-add}
 use native.Mathlib.Omega.{arith}
@@ -71,11 +72,15 @@ module _ (most room : ℕ) (reply : Reply) where
   unfolding inRoom
   room-accepted e = both-accepted (refuseIf (ltb room most) (Count 0)) reply e .1
 
+-- a buffer of fewer bytes than are asked for stays as it was
+none-written : (most : ℕ) (before bytes : List ℕ) → length before < most → Wrote before 0 (cond (ltb (length before) most) [] bytes) before 0
+none-written most before bytes l = rw (lt-ltb (length before) most l) (record { buffer = refl; place = refl })
+
 -- ---- `refused_line`
 module _ (v : Verdict) (before : List ℕ) where
   pub no-line : length before < 52 → Wrote before 0 (refusedLineIn v (length before)) before 0
   unfolding refusedLineIn
-  no-line l = rw (lt-ltb (length before) 52 l) (record { buffer = refl; place = refl })
+  no-line l = none-written 52 before (refusedLine (v .number) (v .place)) l
 
   pub whole-line : {after : List ℕ} {n : ℕ} → 52 ≤ length before → Wrote before 0 (refusedLine (v .number) (v .place)) after n → Wrote before 0 (refusedLineIn v (length before)) after n
   unfolding refusedLineIn
@@ -116,7 +121,7 @@ module _ (most : ℕ) (reply : Reply) (listing : List ℕ) where
   module _ (before : List ℕ) where
     pub nothing-printed : length before < most → Wrote before 0 (printedIn most (length before) reply listing) before 0
     unfolding printedIn
-    nothing-printed l = rw (lt-ltb (length before) most l) (record { buffer = refl; place = refl })
+    nothing-printed l = none-written most before (printed reply listing) l
 
     pub listed-printed : {listed : Listed} {after last : List ℕ} {n : ℕ} → 52 ≤ most → (reply ≡ Accepted → length listing ≤ most) → most ≤ length before
         → ListedBy (inRoom most (length before) reply) listing before listed after → Printed after listed last n
