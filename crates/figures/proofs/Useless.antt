@@ -5,7 +5,7 @@
 --   coefficients-shut-out        of `condition::coefficients`: a side condition is accepted, one whose second term names direction 4 of 3 refused
 --   misclosure-shuts-out         of `condition::misclosure`: the same two
 --   table-shuts-out              of `adjustment::adjust`: figure 1 is accepted, figure 7 refused
---   file-shuts-out               of `figures::adjust`: figure 3's file is accepted, one with a malformed line refused
+--   file-shuts-out               of `listing::adjust`: figure 3's file is accepted, one with a malformed line refused
 use mathlib.Core.Path.{_≡_, refl, sym, _∙_, ap}
 use mathlib.Core.List.{List, [], _∷_}
 use Prim.Native.Nat.{ℕ, _≤_, _<_}
@@ -33,7 +33,8 @@ use Rattle.doolittle.specs.Table.{Table}
 use Rattle.adjustment.specs.Demand.{Demand3}
 use Rattle.adjustment.specs.Promise.{Answers as Lists, lists, Adjusts}
 use Rattle.adjustment.proofs.Figures.{Figure as Lent-table, figure1, figure7, figure-1, figure-7}
-use Rattle.listing.specs.declared.Listed.{Listed}
+use Rattle.page.specs.declared.Listed.{Listed}
+use Rattle.page.specs.Page.{inRoom}
 use Rattle.listing.specs.File.{adjustFileReply, AdjustsFile}
 use Rattle.listing.specs.File.{fileReply}
 use Rattle.listing.proofs.Figure3.{file, figure-3}
@@ -120,7 +121,7 @@ buffer = replicate 6560 0
 
 -- it has room for any listing
 roomy : (f : List ℕ) → adjustFileReply f (length buffer) ≡ fileReply f
-unfolding adjustFileReply
+unfolding adjustFileReply inRoom
 roomy f = ap (adjustFileReply f) (length-replicate {A = ℕ} 6560 0)
 
 pub accepts-figure-3 : (listed : Listed) (after : List ℕ) → AdjustsFile file buffer listed after → listed .reply ≡ Accepted

@@ -1,14 +1,12 @@
 -- Laws of the reply to a condition table and to a net, and of their listings, by what `adjustment` and the conditions have answered. Assumes nothing.
 --   Lent                                        answer lists as long as they must be
---   listed-refused, listed-accepted, relisted   what is left by a refusal, and by an accepted listing
 --   answered, table-accepted                    the reply to a table, and the listing of an accepted one
 --   misclosures-length                          a misclosure for each condition
 --   file-refused, file-reply, file-listing      the reply to a file whose table is refused, and to one whose is not; its listing
 --   answers-most                                no listing has more than 6,560 bytes
-use mathlib.Core.Path.{_≡_, refl, sym, _∙_, ap, ap₂, subst}
+use mathlib.Core.Path.{_≡_, refl, sym, _∙_, ap, ap₂}
 use mathlib.Core.List.{List, [], _∷_}
 use Prim.Native.Nat.{ℕ, suc, _*_, _≤_}
-use native.Mathlib.Nat.{zero-add}
 use native.Mathlib.Omega.{arith}
 use lib.IntN.{ℤ}
 use lib.ListN.{length, take}
@@ -25,10 +23,8 @@ use Rattle.text.specs.Lines.{linesOf}
 use Rattle.network.specs.Scan.{scanReply}
 use Rattle.network.specs.Net.{Condition, Net, netOf, zeros, formedReply, rowsOf, misclosuresOf, tableReply, Tables}
 use Rattle.network.specs.declared.Tabled.{Tabled}
-use Rattle.listing.specs.declared.Listed.{Listed}
 use Rattle.listing.specs.Listing.{acceptedListing}
-use Rattle.text.specs.Written.{Wrote}
-use Rattle.listing.specs.File.{tableIn, room, netReply, netAnswers, fileReply, answersListing, tableListing, netListing, fileListing, ListedBy}
+use Rattle.listing.specs.File.{tableIn, room, netReply, netAnswers, fileReply, answersListing, tableListing, netListing, fileListing}
 use Rattle.listing.proofs.Composing.{accepted-most}
 
 -- the lengths of lent answer lists, m by direction and n by condition
@@ -39,18 +35,6 @@ pub record Lent (m n : ℕ) (lent : Answers) : Type 0 where
   pub correlates : length (lent .correlates) ≡ n
   pub remainders : length (lent .remainders) ≡ n
   pub misses : length (lent .misses) ≡ n
-
--- ---- what the operations that list leave
-pub listed-refused : {rule : Reply} {listing before : List ℕ} (why : Refusal) → rule ≡ Refused why → ListedBy rule listing before (record { reply = Refused why; length = 0 }) before
-listed-refused why e = record { answer = sym e; length-is = refl; buffer = refl }
-
-pub listed-accepted : {rule : Reply} {listing before after : List ℕ} {n : ℕ} → rule ≡ Accepted → Wrote before 0 listing after n → ListedBy rule listing before (record { reply = Accepted; length = n }) after
-listed-accepted {listing = listing} e w = record { answer = sym e; length-is = w .place ∙ zero-add (length listing); buffer = w .buffer }
-
--- by another rule, and with another listing, that are the same
-pub relisted : {rule rule' : Reply} {listing listing' before after : List ℕ} {listed : Listed} → rule ≡ rule' → listing ≡ listing' → ListedBy rule listing before listed after → ListedBy rule' listing' before listed after
-relisted {rule} {listing' = listing'} {before} {after} {listed} r l b =
-    subst (λ (x : Reply). ListedBy x listing' before listed after) r (subst (λ (x : List ℕ). ListedBy rule x before listed after) l b)
 
 -- ---- a condition table
 module _ (ds q a w : List ℤ) {lent : Answers} (l : Lent (length ds) (length w) lent) where

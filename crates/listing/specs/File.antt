@@ -1,27 +1,22 @@
 -- What becomes of a file: the reply to it, and the listing of an accepted one, byte for byte.
 use mathlib.Core.Path.{_≡_}
-use mathlib.Core.Bool.{cond}
-use mathlib.Core.List.{List, []}
+use mathlib.Core.List.{List}
 use Prim.Native.Nat.{ℕ}
 use lib.IntN.{ℤ}
-use lib.Dec.{ltb}
 use lib.ListN.{length}
-use lib.Seq.{sets}
-use Rattle.reply.specs.declared.Refusal.the-variants.{Count}
 use Rattle.reply.specs.declared.Reply.{Reply}
-use Rattle.reply.specs.declared.Reply.the-variants.{Accepted, Refused}
-use Rattle.reply.specs.declared.Verdict.{Verdict}
-use Rattle.reply.specs.Numbers.{numberOf, placeOf}
-use Rattle.reply.specs.Checks.{refuseIf, _andThen_, leaves}
+use Rattle.reply.specs.declared.Reply.the-variants.{Accepted}
+use Rattle.reply.specs.Checks.{_andThen_}
 use Rattle.reply.specs.Verdicts.{verdictOf}
 use Rattle.doolittle.specs.Table.{Table, at, tableOf}
 use Rattle.doolittle.specs.Solution.{K}
 use Rattle.adjustment.specs.Corrections.{V-of, R-of, u-of, Q-of}
 use Rattle.adjustment.specs.Demand.{Demand3}
 use Rattle.adjustment.specs.Promise.{Answers, lists, adjustReply, answersOf}
-use Rattle.listing.specs.declared.Listed.{Listed}
 use Rattle.text.specs.Lines.{linesOf}
-use Rattle.listing.specs.Listing.{refusedLine, acceptedListing}
+use Rattle.page.specs.declared.Listed.{Listed}
+use Rattle.page.specs.Page.{ListedBy, inRoom, printed, printedIn}
+use Rattle.listing.specs.Listing.{acceptedListing}
 use Rattle.network.specs.Scan.{scanReply}
 use Rattle.network.specs.Net.{Net, netOf, zeros, formedReply, rowsOf, misclosuresOf}
 
@@ -67,16 +62,9 @@ fileListing file = netListing (netOf (linesOf file))
 abbrev pub FileDemand3 : List ℕ → Type 0
 FileDemand3 file = let t = tableIn (netOf (linesOf file)) in Demand3 t (V-of t (K t)) (u-of t (K t)) (R-of t (K t)) (Q-of t (K t))
 
--- ---- the operation on a file: where the reply is to accept, the listing stands at the start of the lent buffer, and its length is answered;
--- "a refusal returns number and place only; all lent lists stay as they were"
-pub record ListedBy (rule : Reply) (listing before : List ℕ) (listed : Listed) (after : List ℕ) : Type 0 where
-  pub answer : listed .reply ≡ rule
-  pub length-is : listed .length ≡ leaves (listed .reply) (length listing) 0
-  pub buffer : after ≡ leaves (listed .reply) (sets before 0 listing) before
-
--- a buffer of fewer than 6,560 bytes could not hold the longest listing: a length that disagrees, 2 at 0, before all else
+-- ---- the operation on a file; a buffer of fewer than 6,560 bytes could not hold the longest listing, and is refused before all else
 unfoldable pub adjustFileReply : (file : List ℕ) (room : ℕ) → Reply
-adjustFileReply file room = refuseIf (ltb room 6560) (Count 0) andThen fileReply file
+adjustFileReply file room = inRoom 6560 room (fileReply file)
 
 pub record AdjustsFile (file before : List ℕ) (listed : Listed) (after : List ℕ) : Type 0 where
   pub lists : ListedBy (adjustFileReply file (length before)) (fileListing file) before listed after
@@ -85,18 +73,10 @@ pub record AdjustsFile (file before : List ℕ) (listed : Listed) (after : List 
   -- and of every accepted file demand 3
   pub demand3 : listed .reply ≡ Accepted → FileDemand3 file
 
--- ---- "A refusal prints one line: REFUSED, number, place." None, where the lent buffer has fewer than 52 bytes
-unfoldable pub refusedLineIn : Verdict → (room : ℕ) → List ℕ
-refusedLineIn v room = cond (ltb room 52) [] (refusedLine (v .number) (v .place))
-
 -- ---- for programs: the listing of any file, an accepted one's or the line of its refusal
-unfoldable pub listingFor : Reply → Answers → List ℕ
-listingFor Accepted a = answersListing a
-listingFor (Refused why) a = refusedLine (numberOf why) (placeOf why)
-
 unfoldable pub listingOf : List ℕ → List ℕ
-listingOf file = listingFor (fileReply file) (netAnswers (netOf (linesOf file)))
+listingOf file = printed (fileReply file) (fileListing file)
 
--- what goes into a lent buffer of so many bytes: nothing, where it could not hold the longest listing
+-- what goes into a lent buffer of so many bytes: nothing, where they are fewer than 6,560
 unfoldable pub listingIn : (file : List ℕ) (room : ℕ) → List ℕ
-listingIn file room = cond (ltb room 6560) [] (listingOf file)
+listingIn file room = printedIn 6560 room (fileReply file) (fileListing file)

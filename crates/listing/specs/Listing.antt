@@ -1,30 +1,23 @@
 -- The listing of an adjusted net, byte for byte. "Its output: ADJ with m and n; V with number, u, adjusted; K with condition, K, R, Q. Tabs part these
--- fields too." "A refusal prints one line: REFUSED, number, place."
-use mathlib.Core.List.{List, [], _∷_, _++_}
+-- fields too."
+use mathlib.Core.List.{List, _++_}
 use Prim.Native.Nat.{ℕ, _+_}
 use lib.ListN.{getD}
 use lib.IntN.{ℤ, pos}
-use Rattle.text.specs.Written.{signedField, countField, lineEnd, inOrder}
+use Rattle.text.specs.Written.{signedField, lineEnd, inOrder}
+use Rattle.page.specs.Lines.{headingLine, lineHead, numberedLine}
 
 -- ADJ, m, n
 abbrev pub adjLine : ℕ → ℕ → List ℕ
-adjLine m n = (65 ∷ 68 ∷ 74 ∷ []) ++ (countField m ++ (countField n ++ lineEnd))
-
--- the head of a V or a K line: its letter, a number and two signed numbers
-abbrev pub lineHead : ℕ → ℕ → ℤ → ℤ → List ℕ
-lineHead letter number first second = (letter ∷ []) ++ (countField number ++ (signedField first ++ signedField second))
+adjLine m n = headingLine 65 68 74 m n
 
 -- V, number, u, adjusted
 abbrev pub vLine : ℕ → ℤ → ℤ → List ℕ
-vLine number u adjusted = lineHead 86 number u adjusted ++ lineEnd
+vLine number u adjusted = numberedLine 86 number u adjusted
 
 -- K, condition, K, R, Q
 abbrev pub kLine : ℕ → ℤ → ℤ → ℤ → List ℕ
 kLine condition k r q = lineHead 75 condition k r ++ (signedField q ++ lineEnd)
-
--- REFUSED, number, place
-abbrev pub refusedLine : ℕ → ℕ → List ℕ
-refusedLine number place = (82 ∷ 69 ∷ 70 ∷ []) ++ ((85 ∷ 83 ∷ 69 ∷ []) ++ ((68 ∷ []) ++ (countField number ++ (countField place ++ lineEnd))))
 
 -- line i + 1 of each kind, by the numbers at place i of their lists
 abbrev pub vLineOf : (u adjusted : List ℤ) → ℕ → List ℕ

@@ -1,27 +1,18 @@
-// The listing of a network file: its ADJ, V, K and REFUSED lines, and the operations on a whole file: `adjust`, which answers the reply and lists an
-// accepted net, `refused_line`, and above both `list`, for programs.
+// The listing of a network file: its ADJ, V and K lines, and the operations on a whole file: `adjust`, which answers the reply and lists an
+// accepted net, and above it `list`, for programs.
 mod lines;
 mod solve;
 
 ghost use Prim.Native.Nat.{_≤_};
 ghost use lib.ListN.{length};
 ghost use Rattle.text.specs.Written.{Wrote};
-ghost use Rattle.listing.specs.File.{AdjustsFile, refusedLineIn, listingIn};
+ghost use Rattle.listing.specs.File.{AdjustsFile, listingIn};
+use page::Listed;
 use reply::Refusal;
 use reply::Reply;
-use reply::Verdict;
 
 // The longest listing: that of 64 directions and 24 conditions, with the longest numbers.
 pub const LISTING: usize = 6560;
-
-// Bytes that hold any REFUSED line.
-pub const REFUSED_LINE: usize = 52;
-
-// What becomes of a file: the reply, and how many bytes the listing of an accepted one has.
-pub struct Listed {
-    pub reply: Reply,
-    pub length: usize,
-}
 
 // Adjusts a network file. The listing of an accepted one goes into the lent buffer, which must have room for LISTING bytes; a refusal leaves it as it was.
 pub fn adjust(file: &[u8], out: &mut [u8]) -> Listed
@@ -50,17 +41,6 @@ pub fn adjust(file: &[u8], out: &mut [u8]) -> Listed
     solve::solve(&directions[..m], &q[..m], &a[..n * m], &w[..n], out)
 }
 
-// The REFUSED line of a refusal, into a lent buffer; how many bytes it has. A buffer of fewer than REFUSED_LINE bytes stays as it was, and the answer is 0.
-pub fn refused_line(refusal: Verdict, out: &mut [u8]) -> usize
-    ensures line { λ r. ⌜ Wrote (now (out .entry)) 0 (refusedLineIn refusal (length (now (out .entry)))) (now (out .exit)) r ⌝ }
-    ensures within { λ r. ⌜ r ≤ length (now (out .entry)) ⌝ }
-{
-    if out.len() < REFUSED_LINE {
-        return 0;
-    }
-    lines::put_refused(out, 0, refusal.number, refusal.place)
-}
-
 // The listing of any file, an accepted one's or the line of its refusal; how many bytes it has. A buffer of fewer than LISTING bytes stays as it was,
 // and the answer is 0.
 pub fn list(file: &[u8], out: &mut [u8]) -> usize
@@ -71,9 +51,5 @@ pub fn list(file: &[u8], out: &mut [u8]) -> usize
         return 0;
     }
     let listed = adjust(file, out);
-    let reply = listed.reply;
-    if let Reply::Refused(why) = reply {
-        return refused_line(reply::refuse(why), out);
-    }
-    listed.length
+    page::print(listed, out)
 }

@@ -1,63 +1,19 @@
-// The lines of a listing: ADJ, V and K lines, or one REFUSED line, written into a lent buffer.
+// The lines of an accepted net's listing: ADJ, V and K lines, written into a lent buffer.
 ghost use Prim.Native.Nat.{_+_, _*_, _≤_};
 ghost use lib.ListN.{length};
 ghost use Rattle.text.specs.Written.{Wrote};
-ghost use Rattle.listing.specs.Listing.{lineHead, adjLine, vLine, kLine, refusedLine, vLines, kLines, acceptedListing};
+ghost use Rattle.listing.specs.Listing.{kLine, vLines, kLines, acceptedListing};
 use text::LF;
 use text::writer;
-
-// The head of a V or a K line: its letter, a number and two signed numbers.
-fn put_head(out: &mut [u8], at: usize, letter: u8, number: u64, first: i64, second: i64) -> usize
-    requires { ⌜ at + 67 ≤ length (now out) ⌝ }
-    ensures { λ r. ⌜ Wrote (now (out .entry)) at (lineHead letter number first second) (now (out .exit)) r ⌝ }
-{
-    let head = writer::put_byte(out, at, letter);
-    let numbered = writer::put_count(out, head, number);
-    let one = writer::put_signed(out, numbered, first);
-    writer::put_signed(out, one, second)
-}
-
-// V, number, u, adjusted.
-fn put_v(out: &mut [u8], at: usize, number: u64, u: i64, adjusted: i64) -> usize
-    requires { ⌜ at + 68 ≤ length (now out) ⌝ }
-    ensures { λ r. ⌜ Wrote (now (out .entry)) at (vLine number u adjusted) (now (out .exit)) r ⌝ }
-{
-    let end = put_head(out, at, b'V', number, u, adjusted);
-    writer::put_byte(out, end, LF)
-}
 
 // K, condition, K, R, Q.
 fn put_k(out: &mut [u8], at: usize, condition: u64, k: i64, r: i64, q: i64) -> usize
     requires { ⌜ at + 90 ≤ length (now out) ⌝ }
     ensures { λ p. ⌜ Wrote (now (out .entry)) at (kLine condition k r q) (now (out .exit)) p ⌝ }
 {
-    let third = put_head(out, at, b'K', condition, k, r);
+    let third = page::lines::put_head(out, at, b'K', condition, k, r);
     let end = writer::put_signed(out, third, q);
     writer::put_byte(out, end, LF)
-}
-
-// ADJ, m, n.
-fn put_adj(out: &mut [u8], at: usize, m: u64, n: u64) -> usize
-    requires { ⌜ at + 48 ≤ length (now out) ⌝ }
-    ensures { λ r. ⌜ Wrote (now (out .entry)) at (adjLine m n) (now (out .exit)) r ⌝ }
-{
-    let head = writer::put_three(out, at, b'A', b'D', b'J');
-    let first = writer::put_count(out, head, m);
-    let second = writer::put_count(out, first, n);
-    writer::put_byte(out, second, LF)
-}
-
-// REFUSED, number, place.
-pub fn put_refused(out: &mut [u8], at: usize, number: u64, place: u64) -> usize
-    requires { ⌜ at + 52 ≤ length (now out) ⌝ }
-    ensures { λ r. ⌜ Wrote (now (out .entry)) at (refusedLine number place) (now (out .exit)) r ⌝ }
-{
-    let refu = writer::put_three(out, at, b'R', b'E', b'F');
-    let used = writer::put_three(out, refu, b'U', b'S', b'E');
-    let head = writer::put_byte(out, used, b'D');
-    let first = writer::put_count(out, head, number);
-    let second = writer::put_count(out, first, place);
-    writer::put_byte(out, second, LF)
 }
 
 // The V lines of m directions.
@@ -70,7 +26,7 @@ fn put_vs(out: &mut [u8], at: usize, u: &[i64], adjusted: &[i64], m: usize) -> u
     let mut next = at;
     let mut i = 0;
     while i < m {
-        next = put_v(out, next, (i as u64) + 1, u[i], adjusted[i]);
+        next = page::lines::put_numbered(out, next, b'V', (i as u64) + 1, u[i], adjusted[i]);
         i = i + 1;
     }
     next
@@ -120,7 +76,7 @@ pub fn put_accepted(
         (now (out .exit)) p
         ⌝ }
 {
-    let head = put_adj(out, 0, m as u64, n as u64);
+    let head = page::lines::put_heading(out, 0, b'A', b'D', b'J', m as u64, n as u64);
     let middle = put_vs(out, head, u, adjusted, m);
     put_ks(out, middle, k, r, q, n)
 }

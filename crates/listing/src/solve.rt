@@ -3,10 +3,10 @@ ghost use mathlib.Core.Path.{_≡_};
 ghost use Prim.Native.Nat.{_≤_};
 ghost use lib.ListN.{length};
 ghost use Rattle.adjustment.specs.Promise.{adjustReply};
-ghost use Rattle.listing.specs.File.{room};
-ghost use Rattle.listing.specs.File.{tableListing, ListedBy};
-use crate::Listed;
+ghost use Rattle.page.specs.Page.{ListedBy};
+ghost use Rattle.listing.specs.File.{room, tableListing};
 use crate::lines;
+use page::Listed;
 use reply::Reply;
 
 // The listing of a lent condition table that is accepted, from the start of the buffer; the six answer lists are lent too.

@@ -16,7 +16,7 @@ use Rattle.reply.specs.Verdicts.{verdictOf}
 use Rattle.station.specs.Sightings.{Book}
 use Rattle.station.specs.Replies.{Answers}
 use Rattle.adjustment.specs.Promise.{Answers as Lists, Adjusts}
-use Rattle.listing.specs.declared.Listed.{Listed}
+use Rattle.page.specs.declared.Listed.{Listed}
 use Rattle.listing.specs.File.{fileListing, AdjustsFile}
 use Rattle.office.specs.Promises.{Means, Table, File}
 

@@ -1,6 +1,6 @@
 -- The promises leave nothing open: two answers, with what was lent afterwards, that keep one promise are equal. Assumes nothing.
 --   one-means, one-coefficients, one-misclosure, one-table, one-file, one-length, one-status      of the function of that name
---   (of `molsadriu_refused_line` and `molsadriu_list_file`: listing's one-refused-line and one-listing)
+--   (of `molsadriu_refused_line` and `molsadriu_list_file`: page's one-refused-line and listing's one-listing)
 use mathlib.Core.Path.{_≡_}
 use mathlib.Core.List.{List}
 use Prim.Native.Nat.{ℕ}

@@ -7,7 +7,8 @@ ghost use Rattle.station.specs.Sightings.{book};
 ghost use Rattle.adjustment.specs.Promise.{lists};
 ghost use Rattle.text.specs.Lines.{lineAt, statusAt};
 ghost use Rattle.text.specs.Written.{Wrote};
-ghost use Rattle.listing.specs.File.{refusedLineIn, listingIn};
+ghost use Rattle.page.specs.Page.{refusedLineIn};
+ghost use Rattle.listing.specs.File.{listingIn};
 ghost use Rattle.office.specs.Promises.{Means, Coefficients, Misclosed, Table, File};
 ghost use Rattle.office.specs.Terms.{headingOf, termsOf};
 ghost use Rattle.office.specs.Statuses.{statusNumber};
@@ -168,7 +169,7 @@ pub extern "C" fn molsadriu_refused_line(number: u64, place: u64, out: &mut [u8]
     ensures line { λ r. ⌜ Wrote (now (out .entry)) 0 (refusedLineIn (record { number = number; place = place }) (length (now (out .entry)))) (now (out .exit)) r ⌝ }
     ensures within { λ r. ⌜ r ≤ length (now (out .entry)) ⌝ }
 {
-    listing::refused_line(Verdict { number, place }, out)
+    page::refused_line(Verdict { number, place }, out)
 }
 
 // The listing of any network file, accepted or refused, into a lent buffer of at least 6,560 bytes, and how many bytes it has.

@@ -6,19 +6,19 @@ use borrow.Author.Needs.{needs}
 use denote.Ref.{now}
 use Rattle.listing.specs.Listing.{vLineOf}
 use Rattle.text.proofs.Putting.{Come, then, wrote-length, come-within, come-on, lines-most}
-use Rattle.listing.proofs.Composing.{adj-most, v-most}
+use Rattle.page.proofs.Composing.{heading-most, numbered-most}
 use Rattle.listing.proofs.lines.put_accepted.Statement.{statement}
 use Rattle.listing.proofs.lines.put_accepted.Tie as tie
 
-put-adj-requires : tie.Need-put-adj-requires
-put-adj-requires c κs = search needs
+put-heading-requires : tie.Need-put-heading-requires
+put-heading-requires c κs = search needs
 
 -- how far the first line, and the V lines, have come
-abbrev start1 : tie.After-put-adj → tie.Start
+abbrev start1 : tie.After-put-heading → tie.Start
 start1 c = c .before .before .before
 
-come1 : (c : tie.After-put-adj) → Come (now (start1 c .args .out)) 0 48 (c .put-adj .last .0) (c .put-adj .result)
-come1 c = come-within 48 (adj-most (start1 c .args .m) (start1 c .args .n)) (c .put-adj .ensures)
+come1 : (c : tie.After-put-heading) → Come (now (start1 c .args .out)) 0 48 (c .put-heading .last .0) (c .put-heading .result)
+come1 c = come-within 48 (heading-most 65 68 74 (start1 c .args .m) (start1 c .args .n)) (c .put-heading .ensures)
 
 put-vs-requires : tie.Need-put-vs-requires
 put-vs-requires c κs =
@@ -35,7 +35,7 @@ come2 c =
     come-on
     (s .args .m * 68)
     (come1 (c .before .before .before .before))
-    (lines-most (s .args .m) 68 (vLineOf (now (s .args .u)) (now (s .args .adjusted))) (λ i. v-most (i + 1) _ _))
+    (lines-most (s .args .m) 68 (vLineOf (now (s .args .u)) (now (s .args .adjusted))) (λ i. numbered-most 86 (i + 1) _ _))
     (c .put-vs .ensures)
 
 put-ks-requires : tie.Need-put-ks-requires
@@ -49,7 +49,7 @@ same-length c = let b = c .before .before in wrote-length (b .put-ks .ensures) �
 returns : tie.Need-returns
 returns c =
     let e3 = c .before .before in let e2 = e3 .before .before .before .before in let e1 = e2 .before .before .before .before in
-    then (e1 .put-adj .ensures) (then (e2 .put-vs .ensures) (e3 .put-ks .ensures))
+    then (e1 .put-heading .ensures) (then (e2 .put-vs .ensures) (e3 .put-ks .ensures))
 
 pub put-accepted-spec : {M : Type 1} → statement M
-put-accepted-spec = tie.close (tie.spec put-adj-requires put-vs-requires put-ks-requires same-length returns)
+put-accepted-spec = tie.close (tie.spec put-heading-requires put-vs-requires put-ks-requires same-length returns)

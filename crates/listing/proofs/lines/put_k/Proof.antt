@@ -4,10 +4,10 @@ use native.Mathlib.Omega.{arith}
 use borrow.Author.Needs.{needs}
 use denote.Ref.{now}
 use Rattle.exact.proofs.Bound.{read}
-use Rattle.listing.specs.Listing.{lineHead}
 use Rattle.text.specs.Written.{Wrote}
 use Rattle.text.proofs.Putting.{Come, rewrote, then, wrote-length, read-signed, signed-on, come-within}
-use Rattle.listing.proofs.Composing.{head-most}
+use Rattle.page.specs.Lines.{lineHead}
+use Rattle.page.proofs.Composing.{head-most}
 use Rattle.listing.proofs.lines.put_k.Statement.{statement}
 use Rattle.listing.proofs.lines.put_k.Tie as tie
 

@@ -8,7 +8,7 @@ use Rattle.exact.proofs.Bound.{read-at}
 use Rattle.listing.specs.Listing.{vLine, vLineOf}
 use Rattle.text.specs.Written.{inOrder, Wrote}
 use Rattle.text.proofs.Putting.{wrote-length, rewrote, lines-none, lines-on, lines-room}
-use Rattle.listing.proofs.Composing.{v-most}
+use Rattle.page.proofs.Composing.{numbered-most}
 use Rattle.listing.proofs.lines.put_vs.Statement.{statement}
 use Rattle.listing.proofs.lines.put_vs.Tie as tie
 
@@ -21,25 +21,25 @@ abbrev μ-loop : tie.MeasureT-loop
 loop-holds : tie.Need-loop-holds Inv-loop μ-loop
 loop-holds c = (omega arith, lines-none (now (c .before .args .out)) (c .before .args .at) _)
 
-add-put-v : tie.Need-add-put-v Inv-loop μ-loop
-add-put-v c = search needs
+add-put-numbered : tie.Need-add-put-numbered Inv-loop μ-loop
+add-put-numbered c = search needs
 
-mul-put-v : tie.Need-mul-put-v Inv-loop μ-loop
-mul-put-v c = search needs
+mul-put-numbered : tie.Need-mul-put-numbered Inv-loop μ-loop
+mul-put-numbered c = search needs
 
-shared-slice-copy-out-put-v : tie.Need-shared-slice-copy-out-put-v Inv-loop μ-loop
-shared-slice-copy-out-put-v c = search needs
+shared-slice-copy-out-put-numbered : tie.Need-shared-slice-copy-out-put-numbered Inv-loop μ-loop
+shared-slice-copy-out-put-numbered c = search needs
 
-mul-put-v-2 : tie.Need-mul-put-v-2 Inv-loop μ-loop
-mul-put-v-2 c = search needs
+mul-put-numbered-2 : tie.Need-mul-put-numbered-2 Inv-loop μ-loop
+mul-put-numbered-2 c = search needs
 
-shared-slice-copy-out-put-v-2 : tie.Need-shared-slice-copy-out-put-v-2 Inv-loop μ-loop
-shared-slice-copy-out-put-v-2 c = search needs
+shared-slice-copy-out-put-numbered-2 : tie.Need-shared-slice-copy-out-put-numbered-2 Inv-loop μ-loop
+shared-slice-copy-out-put-numbered-2 c = search needs
 
-put-v-requires : tie.Need-put-v-requires Inv-loop μ-loop
-put-v-requires c κs =
+put-numbered-requires : tie.Need-put-numbered-requires Inv-loop μ-loop
+put-numbered-requires c κs =
     let t = c .before .before .before in let l = t .before in let s = l .before .before in
-    lines-room (s .args .m) (l .loop .i) 68 _ (λ j. v-most (j + 1) _ _) (s .pre .0) (t .loop-test .taken) (l .loop .inv .1)
+    lines-room (s .args .m) (l .loop .i) 68 _ (λ j. numbered-most 86 (j + 1) _ _) (s .pre .0) (t .loop-test .taken) (l .loop .inv .1)
 
 add-i : tie.Need-add-i Inv-loop μ-loop
 add-i c = search needs
@@ -52,7 +52,7 @@ loop-again c =
     let p = c .before .before in let t = p .before .before .before .before in let l = t .before in let s = l .before .before in (
       omega (arith, t .loop-test .taken),
       lines-on (l .loop .i) (vLineOf (now (s .args .u)) (now (s .args .adjusted))) (l .loop .inv .1)
-          (rewrote (ap₂ (vLine (l .loop .i + 1)) (read-at _ (p .before .before .put-v-arg2 .given)) (read-at _ (p .before .put-v-arg3 .given))) (p .put-v .ensures)),
+          (rewrote (ap₂ (vLine (l .loop .i + 1)) (read-at _ (p .before .before .put-numbered-arg2 .given)) (read-at _ (p .before .put-numbered-arg3 .given))) (p .put-numbered .ensures)),
     )
 
 same-length : tie.Need-same-length Inv-loop μ-loop
@@ -73,12 +73,12 @@ put-vs-spec =
     Inv-loop
     μ-loop
     loop-holds
-    add-put-v
-    mul-put-v
-    shared-slice-copy-out-put-v
-    mul-put-v-2
-    shared-slice-copy-out-put-v-2
-    put-v-requires
+    add-put-numbered
+    mul-put-numbered
+    shared-slice-copy-out-put-numbered
+    mul-put-numbered-2
+    shared-slice-copy-out-put-numbered-2
+    put-numbered-requires
     add-i
     loop-less
     loop-again

@@ -5,7 +5,8 @@ use denote.Ref.{now}
 use lib.ListN.{length}
 use Rattle.adjustment.specs.Promise.{lists}
 use Rattle.text.proofs.Putting.{rewrote}
-use Rattle.listing.proofs.Tabling.{Lent, listed-refused, listed-accepted, answered, table-accepted}
+use Rattle.page.proofs.Printing.{listed-refused, listed-accepted}
+use Rattle.listing.proofs.Tabling.{Lent, answered, table-accepted}
 use Rattle.listing.proofs.solve.list_table.Statement.{statement}
 use Rattle.listing.proofs.solve.list_table.Tie as tie
 

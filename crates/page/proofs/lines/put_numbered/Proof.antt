@@ -1,15 +1,15 @@
--- `listing::put_v` meets its contract. Assumes nothing.
+-- `page::put_numbered` meets its contract. Assumes nothing.
 use mathlib.Core.Path.{_∙_, ap₂}
 use native.Mathlib.Omega.{arith}
 use borrow.Author.Needs.{needs}
 use denote.Ref.{now}
 use Rattle.exact.proofs.Bound.{read}
-use Rattle.listing.specs.Listing.{lineHead}
+use Rattle.page.specs.Lines.{lineHead}
 use Rattle.text.specs.Written.{Wrote}
 use Rattle.text.proofs.Putting.{Come, rewrote, then, wrote-length, come-within}
-use Rattle.listing.proofs.Composing.{head-most}
-use Rattle.listing.proofs.lines.put_v.Statement.{statement}
-use Rattle.listing.proofs.lines.put_v.Tie as tie
+use Rattle.page.proofs.Composing.{head-most}
+use Rattle.page.proofs.lines.put_numbered.Statement.{statement}
+use Rattle.page.proofs.lines.put_numbered.Tie as tie
 
 put-head-requires : tie.Need-put-head-requires
 put-head-requires c κs = search needs
@@ -20,11 +20,11 @@ start1 c = c .before .before .before
 
 headed :
     (c : tie.After-put-head) →
-    let s = start1 c in Wrote (now (s .args .out)) (s .args .at) (lineHead 86 (s .args .number) (s .args .u) (s .args .adjusted)) (c .put-head .last .0) (c .put-head .result)
-headed c = let s = start1 c in rewrote (ap₂ (lineHead 86 (s .args .number)) (read (s .fits .u)) (read (s .fits .adjusted))) (c .put-head .ensures)
+    let s = start1 c in Wrote (now (s .args .out)) (s .args .at) (lineHead (s .args .letter) (s .args .number) (s .args .first) (s .args .second)) (c .put-head .last .0) (c .put-head .result)
+headed c = let s = start1 c in rewrote (ap₂ (lineHead (s .args .letter) (s .args .number)) (read (s .fits .first)) (read (s .fits .second))) (c .put-head .ensures)
 
 come1 : (c : tie.After-put-head) → Come (now (start1 c .args .out)) (start1 c .args .at) 67 (c .put-head .last .0) (c .put-head .result)
-come1 c = let s = start1 c in come-within 67 (head-most 86 (s .args .number) (s .args .u) (s .args .adjusted)) (headed c)
+come1 c = let s = start1 c in come-within 67 (head-most (s .args .letter) (s .args .number) (s .args .first) (s .args .second)) (headed c)
 
 put-byte-requires : tie.Need-put-byte-requires
 put-byte-requires c κs = let b = c .before .before .before in omega (arith, start1 b .pre, come1 b .far, come1 b .kept)
@@ -39,8 +39,8 @@ returns c =
     (then (headed e1)
     (e2 .put-byte .ensures))
 
-pub put-v-spec : {M : Type 1} → statement M
-put-v-spec =
+pub put-numbered-spec : {M : Type 1} → statement M
+put-numbered-spec =
     tie.close
     (tie.spec
     put-head-requires

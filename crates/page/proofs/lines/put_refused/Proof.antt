@@ -1,11 +1,11 @@
--- `listing::put_refused` meets its contract. Assumes nothing.
+-- `page::put_refused` meets its contract. Assumes nothing.
 use mathlib.Core.Path.{_∙_}
 use native.Mathlib.Omega.{arith}
 use borrow.Author.Needs.{needs}
 use denote.Ref.{now}
 use Rattle.text.proofs.Putting.{Come, then, wrote-length, come, come-on, count-on}
-use Rattle.listing.proofs.lines.put_refused.Statement.{statement}
-use Rattle.listing.proofs.lines.put_refused.Tie as tie
+use Rattle.page.proofs.lines.put_refused.Statement.{statement}
+use Rattle.page.proofs.lines.put_refused.Tie as tie
 
 put-three-requires : tie.Need-put-three-requires
 put-three-requires c κs = search needs

@@ -1,11 +1,11 @@
--- `listing::put_head` meets its contract. Assumes nothing.
+-- `page::put_head` meets its contract. Assumes nothing.
 use mathlib.Core.Path.{_∙_}
 use native.Mathlib.Omega.{arith}
 use borrow.Author.Needs.{needs}
 use denote.Ref.{now}
 use Rattle.text.proofs.Putting.{Come, then, wrote-length, read-signed, come, count-on, signed-on}
-use Rattle.listing.proofs.lines.put_head.Statement.{statement}
-use Rattle.listing.proofs.lines.put_head.Tie as tie
+use Rattle.page.proofs.lines.put_head.Statement.{statement}
+use Rattle.page.proofs.lines.put_head.Tie as tie
 
 put-byte-requires : tie.Need-put-byte-requires
 put-byte-requires c κs = search needs

@@ -1,11 +1,11 @@
--- `listing::refused_line` meets its contract. Assumes nothing.
+-- `page::refused_line` meets its contract. Assumes nothing.
 use native.Mathlib.Omega.{arith}
 use denote.Ref.{now}
-use Rattle.listing.proofs.Composing.{refused-most}
-use Rattle.listing.proofs.Filing.{no-line, whole-line}
+use Rattle.page.proofs.Composing.{refused-most}
+use Rattle.page.proofs.Printing.{no-line, whole-line}
 use borrow.Author.Needs.{needs}
-use Rattle.listing.proofs.refused_line.Statement.{statement}
-use Rattle.listing.proofs.refused_line.Tie as tie
+use Rattle.page.proofs.refused_line.Statement.{statement}
+use Rattle.page.proofs.refused_line.Tie as tie
 
 returns : tie.Need-returns
 returns c = let a = c .before .before .args in (no-line (a .refusal) (now (a .out)) (c .if1 .taken), omega arith)

@@ -1,11 +1,11 @@
--- `listing::put_adj` meets its contract. Assumes nothing.
+-- `page::put_heading` meets its contract. Assumes nothing.
 use mathlib.Core.Path.{_∙_}
 use native.Mathlib.Omega.{arith}
 use borrow.Author.Needs.{needs}
 use denote.Ref.{now}
 use Rattle.text.proofs.Putting.{Come, then, wrote-length, come, count-on}
-use Rattle.listing.proofs.lines.put_adj.Statement.{statement}
-use Rattle.listing.proofs.lines.put_adj.Tie as tie
+use Rattle.page.proofs.lines.put_heading.Statement.{statement}
+use Rattle.page.proofs.lines.put_heading.Tie as tie
 
 put-three-requires : tie.Need-put-three-requires
 put-three-requires c κs = search needs
@@ -53,8 +53,8 @@ returns c =
     (then (e3 .put-count2 .ensures)
     (e4 .put-byte .ensures))))
 
-pub put-adj-spec : {M : Type 1} → statement M
-put-adj-spec =
+pub put-heading-spec : {M : Type 1} → statement M
+put-heading-spec =
     tie.close
     (tie.spec
     put-three-requires

@@ -1,0 +1,2 @@
+pub mod Composing
+pub mod Printing
