@@ -1,1 +1,3 @@
 pub mod Entering
+pub mod Composing
+pub mod Filing

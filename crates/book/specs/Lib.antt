@@ -1,3 +1,5 @@
 pub mod Lines
 pub mod Order
 pub mod Inner
+pub mod Listing
+pub mod File

@@ -1,2 +1,100 @@
-// The sighting book of a station.
+// The sighting book of a station: its lines (`entries`), the means of its sightings by `station`, and the listing of these (`lines`). `means` answers the
+// reply and lists an accepted book; `list` above it is for programs.
 mod entries;
+mod lines;
+
+ghost use Prim.Native.Nat.{_≤_};
+ghost use lib.ListN.{length};
+ghost use Rattle.text.specs.Written.{Wrote};
+ghost use Rattle.page.specs.Page.{ListedBy};
+ghost use Rattle.station.specs.Sightings.{book};
+ghost use Rattle.station.specs.Replies.{replyOf};
+ghost use Rattle.book.specs.Listing.{stationListing};
+ghost use Rattle.book.specs.File.{MeansOf, listingIn};
+use entries::Entries;
+use page::Listed;
+use reply::Refusal;
+use reply::Reply;
+
+// The longest listing: that of 16 objects, with the longest numbers.
+pub const LISTING: usize = 1136;
+
+// The listing of sightings in lent lists.
+fn list_sightings(
+    position: &[i64],
+    object: &[i64],
+    face: &[i64],
+    reading: &[i64],
+    out: &mut [u8],
+) -> Listed
+    requires { ⌜ 1136 ≤ length (now out) ⌝ }
+    ensures { λ l. ⌜ ListedBy (replyOf (book (now (position .entry)) (now (object .entry)) (now (face .entry)) (now (reading .entry))) 16 16)
+        (stationListing (book (now (position .entry)) (now (object .entry)) (now (face .entry)) (now (reading .entry)))) (now (out .entry)) l (now (out .exit)) ⌝ }
+{
+    let mut directions = [0i64; 16];
+    let mut pairs = [0i64; 16];
+    let reply = station::means(position, object, face, reading, &mut directions, &mut pairs);
+    if let Reply::Refused(why) = reply {
+        return Listed {
+            reply: Reply::Refused(why),
+            length: 0,
+        };
+    }
+    let length = lines::put_means(out, position.len() as u64, &directions, &pairs);
+    Listed {
+        reply: Reply::Accepted,
+        length,
+    }
+}
+
+// The station means of a sighting book. The listing of an accepted one goes into the lent buffer, which must have room for LISTING bytes; a refusal leaves
+// it as it was.
+pub fn means(file: &[u8], out: &mut [u8]) -> Listed
+    ensures { λ r. ⌜ MeansOf (now (file .entry)) (now (out .entry)) r (now (out .exit)) ⌝ }
+{
+    if out.len() < LISTING {
+        return Listed {
+            reply: Reply::Refused(Refusal::Sightings),
+            length: 0,
+        };
+    }
+    if text::MOST_BYTES < file.len() {
+        return Listed {
+            reply: Reply::Refused(Refusal::Count(0)),
+            length: 0,
+        };
+    }
+    let mut position = [0i64; entries::MOST];
+    let mut object = [0i64; entries::MOST];
+    let mut face = [0i64; entries::MOST];
+    let mut reading = [0i64; entries::MOST];
+    let read = entries::read(file, &mut position, &mut object, &mut face, &mut reading);
+    match read {
+        Entries::Broken(line) => Listed {
+            reply: Reply::Refused(Refusal::Malformed(line)),
+            length: 0,
+        },
+        Entries::Sightings(n) => {
+            if entries::MOST < n {
+                return Listed {
+                    reply: Reply::Refused(Refusal::Sightings),
+                    length: 0,
+                };
+            }
+            list_sightings(&position[..n], &object[..n], &face[..n], &reading[..n], out)
+        }
+    }
+}
+
+// The listing of any book, an accepted one's or the line of its refusal; how many bytes it has. A buffer of fewer than LISTING bytes stays as it was, and
+// the answer is 0.
+pub fn list(file: &[u8], out: &mut [u8]) -> usize
+    ensures listing { λ r. ⌜ Wrote (now (out .entry)) 0 (listingIn (now (file .entry)) (length (now (out .entry)))) (now (out .exit)) r ⌝ }
+    ensures within { λ r. ⌜ r ≤ length (now (out .entry)) ⌝ }
+{
+    if out.len() < LISTING {
+        return 0;
+    }
+    let listed = means(file, out);
+    page::print(listed, out)
+}

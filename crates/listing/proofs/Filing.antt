@@ -71,17 +71,17 @@ module _ (file : List ℕ) where
     kept l = record {
       lists = l;
       verdict = ap verdictOf (l .answer);
-      demand3 = λ e. file-demand3 (room-accepted 6560 (length before) (fileReply file) (sym (l .answer) ∙ e));
+      demand3 = λ e. file-demand3 (room-accepted (Count 0) 6560 (length before) (fileReply file) (sym (l .answer) ∙ e));
     }
 
     pub too-short : length before < 6560 → AdjustsFile file before (record { reply = Refused (Count 0); length = 0 }) before
     unfolding adjustFileReply
-    too-short l = kept (listed-refused (Count 0) (short 6560 (length before) (fileReply file) l))
+    too-short l = kept (listed-refused (Count 0) (short (Count 0) 6560 (length before) (fileReply file) l))
 
     module _ (l : 6560 ≤ length before) where
       has-room : adjustFileReply file (length before) ≡ fileReply file
       unfolding adjustFileReply
-      has-room = roomy 6560 (length before) (fileReply file) l
+      has-room = roomy (Count 0) 6560 (length before) (fileReply file) l
 
       pub table-refused : (why : Refusal) → tableReply file ≡ Refused why → AdjustsFile file before (record { reply = Refused why; length = 0 }) before
       table-refused why e = kept (listed-refused why (has-room ∙ file-refused file why e))
@@ -105,7 +105,7 @@ module _ (file : List ℕ) where
     pub listed-by : {listed : Listed} {after last : List ℕ} {n : ℕ} → 6560 ≤ length before → AdjustsFile file before listed after → Printed after listed last n
         → Wrote before 0 (listingIn file (length before)) last n × (n ≤ length before)
     unfolding adjustFileReply listingIn
-    listed-by l a p = listed-printed 6560 (fileReply file) (fileListing file) before (omega arith) file-most l (a .lists) p
+    listed-by l a p = listed-printed 6560 (fileReply file) (fileListing file) before (Count 0) (omega arith) file-most l (a .lists) p
 
     -- ---- and there is only one
     pub one-answer : (r r' : Listed) (after after' : List ℕ) → AdjustsFile file before r after → AdjustsFile file before r' after' → (r ≡ r') × (after ≡ after')

@@ -4,6 +4,7 @@ use mathlib.Core.List.{List}
 use Prim.Native.Nat.{ℕ}
 use lib.IntN.{ℤ}
 use lib.ListN.{length}
+use Rattle.reply.specs.declared.Refusal.the-variants.{Count}
 use Rattle.reply.specs.declared.Reply.{Reply}
 use Rattle.reply.specs.declared.Reply.the-variants.{Accepted}
 use Rattle.reply.specs.Checks.{_andThen_}
@@ -64,7 +65,7 @@ FileDemand3 file = let t = tableIn (netOf (linesOf file)) in Demand3 t (V-of t (
 
 -- ---- the operation on a file; a buffer of fewer than 6,560 bytes could not hold the longest listing, and is refused before all else
 unfoldable pub adjustFileReply : (file : List ℕ) (room : ℕ) → Reply
-adjustFileReply file room = inRoom 6560 room (fileReply file)
+adjustFileReply file room = inRoom (Count 0) 6560 room (fileReply file)
 
 pub record AdjustsFile (file before : List ℕ) (listed : Listed) (after : List ℕ) : Type 0 where
   pub lists : ListedBy (adjustFileReply file (length before)) (fileListing file) before listed after

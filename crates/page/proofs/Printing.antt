@@ -19,7 +19,6 @@ use lib.ListN.{length}
 use lib.Seq.{sets}
 use Rattle.exact.proofs.Unique.{only}
 use Rattle.reply.specs.declared.Refusal.{Refusal}
-use Rattle.reply.specs.declared.Refusal.the-variants.{Count}
 use Rattle.reply.specs.declared.Reply.{Reply}
 use Rattle.reply.specs.declared.Reply.the-variants.{Accepted, Refused}
 use Rattle.reply.specs.declared.Verdict.{Verdict}
@@ -58,19 +57,19 @@ one-listed {rule} {listing} {before} r r' a b =
     ((λ i. record { reply = e i; length = f i }), only (a .buffer ∙ ap left (a .answer)) (b .buffer ∙ ap left (b .answer)))
 
 -- ---- the room that is lent
-module _ (most room : ℕ) (reply : Reply) where
-  pub short : room < most → inRoom most room reply ≡ Refused (Count 0)
+module _ (why : Refusal) (most room : ℕ) (reply : Reply) where
+  pub short : room < most → inRoom why most room reply ≡ Refused why
   unfolding inRoom
   short l = rw (lt-ltb room most l)
 
   -- a buffer that has room changes nothing
-  pub roomy : most ≤ room → inRoom most room reply ≡ reply
+  pub roomy : most ≤ room → inRoom why most room reply ≡ reply
   unfolding inRoom
   roomy l = rw (le-ltb room most l)
 
-  pub room-accepted : inRoom most room reply ≡ Accepted → reply ≡ Accepted
+  pub room-accepted : inRoom why most room reply ≡ Accepted → reply ≡ Accepted
   unfolding inRoom
-  room-accepted e = both-accepted (refuseIf (ltb room most) (Count 0)) reply e .1
+  room-accepted e = both-accepted (refuseIf (ltb room most) why) reply e .1
 
 -- a buffer of fewer bytes than are asked for stays as it was
 none-written : (most : ℕ) (before bytes : List ℕ) → length before < most → Wrote before 0 (cond (ltb (length before) most) [] bytes) before 0
@@ -123,14 +122,14 @@ module _ (most : ℕ) (reply : Reply) (listing : List ℕ) where
     unfolding printedIn
     nothing-printed l = none-written most before (printed reply listing) l
 
-    pub listed-printed : {listed : Listed} {after last : List ℕ} {n : ℕ} → 52 ≤ most → (reply ≡ Accepted → length listing ≤ most) → most ≤ length before
-        → ListedBy (inRoom most (length before) reply) listing before listed after → Printed after listed last n
+    pub listed-printed : (short-why : Refusal) {listed : Listed} {after last : List ℕ} {n : ℕ} → 52 ≤ most → (reply ≡ Accepted → length listing ≤ most) → most ≤ length before
+        → ListedBy (inRoom short-why most (length before) reply) listing before listed after → Printed after listed last n
         → Wrote before 0 (printedIn most (length before) reply listing) last n × (n ≤ length before)
     unfolding printedIn printed refusedLineIn
-    listed-printed {listed} {after} {last} {n} line small l a p = let w = by-reply (listed .reply) refl in (w, omega (arith, w .place, within, l))
+    listed-printed short-why {listed} {after} {last} {n} line small l a p = let w = by-reply (listed .reply) refl in (w, omega (arith, w .place, within, l))
       where
         reply-is : reply ≡ listed .reply
-        reply-is = sym (roomy most (length before) reply l) ∙ sym (a .answer)
+        reply-is = sym (roomy short-why most (length before) reply l) ∙ sym (a .answer)
 
         whole : (why : Refusal) → listed .reply ≡ Refused why → refusedLineIn (refused why) (length before) ≡ printedIn most (length before) reply listing
         whole why e = rw (le-ltb (length before) most l, le-ltb (length before) 52 (omega (arith, line, l)), reply-is, e)

@@ -7,7 +7,6 @@ use lib.Dec.{ltb}
 use lib.ListN.{length}
 use lib.Seq.{sets}
 use Rattle.reply.specs.declared.Refusal.{Refusal}
-use Rattle.reply.specs.declared.Refusal.the-variants.{Count}
 use Rattle.reply.specs.declared.Reply.{Reply}
 use Rattle.reply.specs.declared.Reply.the-variants.{Accepted, Refused}
 use Rattle.reply.specs.declared.Verdict.{Verdict}
@@ -25,9 +24,9 @@ pub record ListedBy (rule : Reply) (listing before : List ℕ) (listed : Listed)
   pub length-is : listed .length ≡ leaves (listed .reply) (length listing) 0
   pub buffer : after ≡ leaves (listed .reply) (sets before 0 listing) before
 
--- a lent buffer that could not hold the longest listing: a length that disagrees, 2 at 0, before all else
-unfoldable pub inRoom : (most room : ℕ) → Reply → Reply
-inRoom most room reply = refuseIf (ltb room most) (Count 0) andThen reply
+-- a lent buffer that could not hold the longest listing: a length that disagrees, refused before all else
+unfoldable pub inRoom : (why : Refusal) (most room : ℕ) → Reply → Reply
+inRoom why most room reply = refuseIf (ltb room most) why andThen reply
 
 -- ---- "A refusal prints one line: REFUSED, number, place." None, where the lent buffer has fewer than 52 bytes
 unfoldable pub refusedLineIn : Verdict → (room : ℕ) → List ℕ

@@ -3,7 +3,6 @@ use mathlib.Core.Path.{sym, ap}
 use native.Mathlib.Omega.{arith}
 use borrow.Author.Needs.{needs}
 use lib.ListN.{set}
-use lib.IntN.{ℤ}
 use lib.Seq.{set-out}
 use Rattle.exact.proofs.Bound.{read-at}
 use Rattle.book.proofs.entries.enter.Statement.{statement}
