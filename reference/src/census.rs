@@ -9,7 +9,7 @@ use crate::generate::{
     line_case, network_case, number_case, station_case, table_case, terms_case, Rng,
 };
 use crate::refusal::Refusal;
-use crate::{adjustment, condition, network, station};
+use crate::{adjustment, condition, lines, network, station};
 
 /// Replies by number, 0 for acceptance, with how often each occurred.
 pub type Replies = BTreeMap<i64, usize>;
@@ -28,7 +28,7 @@ pub struct Census {
     /// Accepted tables in which some |K| is 10^8, and in which some |R| is 50,000,000.
     pub limits_met: [usize; 2],
     pub weaknesses: BTreeMap<adjustment::Weakness, usize>,
-    pub line_statuses: BTreeMap<network::LineStatus, usize>,
+    pub line_statuses: BTreeMap<lines::LineStatus, usize>,
     /// Malformed and well-formed numbers.
     pub numbers: BTreeMap<bool, usize>,
 }
@@ -43,9 +43,9 @@ pub fn take(seed: u64, cases: usize) -> Census {
         count_table(&mut rng, &mut census);
         count_network(&mut rng, &mut census);
         let case = line_case(&mut rng);
-        let status = network::line_status(&case.file, case.start);
+        let status = lines::line_status(&case.file, case.start);
         *census.line_statuses.entry(status).or_default() += 1;
-        let number = network::read_number(&number_case(&mut rng).field);
+        let number = lines::read_number(&number_case(&mut rng).field);
         *census.numbers.entry(number.is_some()).or_default() += 1;
     }
     census

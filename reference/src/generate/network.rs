@@ -1,7 +1,7 @@
 //! Network files, whole and damaged; and bytes for the line and number readers.
 
 use super::{direction_count, inverse_weights, Rng, CIRCLE};
-use crate::network::MOST_BYTES;
+use crate::lines::MOST_BYTES;
 
 /// The bytes of a network file.
 #[derive(Clone, Debug, PartialEq, Eq)]

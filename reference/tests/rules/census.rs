@@ -93,8 +93,8 @@ fn no_input_panics() {
             .map(|_| rng.range(0, 255) as u8)
             .collect();
         let _ = network::listing(&bytes);
-        let _ = network::line(&bytes, rng.below(70));
-        let _ = network::read_number(&bytes);
+        let _ = lines::line(&bytes, rng.below(70));
+        let _ = lines::read_number(&bytes);
     }
     let wide = [i128::MIN, i128::MAX];
     let fitting = station::AnswerLengths::fitting();

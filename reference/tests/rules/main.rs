@@ -8,6 +8,7 @@ mod refusals;
 
 use reference::adjustment::{self, Adjustment, ConditionTable};
 use reference::condition::{self, ConditionKind, LentCondition};
+use reference::lines;
 use reference::network;
 use reference::refusal::Refusal;
 use reference::station::{self, StationMeans};

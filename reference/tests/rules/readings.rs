@@ -3,7 +3,7 @@
 use super::figures::FIGURE_3;
 use super::*;
 use reference::adjustment::AnswerLengths;
-use reference::network::{line, line_status, read_number, LineStatus};
+use reference::lines::{line, line_status, read_number, LineStatus};
 
 const THREE: &str = "D 1 1000 1\nD 2 5000 2\nD 3 9000 3\n";
 

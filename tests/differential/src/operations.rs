@@ -9,8 +9,9 @@ use reference::generate::{
     line_case, network_case, station_case, table_case, terms_case, LineCase, Rng, StationCase,
     TableCase, TermsCase,
 };
-use reference::network::{self, LineStatus};
-use reference::refusal::Refusal;
+use reference::lines::{self, LineStatus};
+use reference::network;
+use reference::refusal::{refused_line, Refusal};
 use reference::station;
 
 use crate::compare::{Operation, Outcome, Reply};
@@ -464,7 +465,7 @@ impl Operation for RefusedLine {
 
     fn reference(drawn: &Self::Case) -> Outcome {
         let RefusedCase { verdict, room } = drawn.case;
-        let line = network::refused_line(verdict.number, verdict.place);
+        let line = refused_line(verdict.number, verdict.place);
         let out = Lent::blank(room).or_null(drawn.null);
         written(&line, REFUSED_LINE, vec![out])
     }
@@ -545,7 +546,7 @@ impl Operation for Line {
     }
 
     fn reference(drawn: &Self::Case) -> Outcome {
-        let line = network::line(&drawn.case.file, drawn.case.start);
+        let line = lines::line(&drawn.case.file, drawn.case.start);
         of_line(line.len() as u64, line_list(drawn))
     }
 
@@ -572,7 +573,7 @@ impl Operation for LineStatusAt {
     }
 
     fn reference(drawn: &Self::Case) -> Outcome {
-        let status = match network::line_status(&drawn.case.file, drawn.case.start) {
+        let status = match lines::line_status(&drawn.case.file, drawn.case.start) {
             LineStatus::Line => 0,
             LineStatus::NoneLeft => 1,
             LineStatus::LfMissing => 2,
