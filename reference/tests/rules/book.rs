@@ -3,6 +3,7 @@
 
 use super::*;
 use reference::book::{self, station_book};
+use reference::generate::{book_case, Rng};
 
 /// The listing of a book written with spaces for tabs.
 fn listing(book: &str) -> String {
@@ -133,6 +134,22 @@ fn rearranged_lines_change_no_byte_of_the_listing() {
     assert_eq!(reply("S 1 1 0 0\nS 1 1 2 0\n"), "REFUSED 22 2");
     assert_eq!(reply("S 1 3 0 0\nS 1 2 0 0\n"), "REFUSED 23 102");
     assert_eq!(reply("S 1 2 0 0\nS 1 3 0 0\n"), "REFUSED 23 102");
+}
+
+#[test]
+fn drawn_books_may_be_rearranged() {
+    let mut rng = Rng::new(14);
+    let mut accepted = 0;
+    for _ in 0..1_000 {
+        let file = book_case(&mut rng).file;
+        if let Ok(listing) = station_book(&file, book::LISTING_ROOM) {
+            let mut lines: Vec<&[u8]> = file.split_inclusive(|&byte| byte == b'\n').collect();
+            rng.shuffle(&mut lines);
+            assert_eq!(book::listing(&lines.concat()), listing);
+            accepted += 1;
+        }
+    }
+    assert!(accepted > 300);
 }
 
 #[test]
