@@ -8,7 +8,7 @@ use std::process::ExitCode;
 use differential::compare::{run, show, Operation, Tally};
 use differential::operations::{
     AdjustFile, AdjustTable, Coefficients, Line, LineStatusAt, ListFile, Misclosure, RefusedLine,
-    StationMeans,
+    StationBook, StationMeans,
 };
 
 const CASES: u64 = 100_000;
@@ -42,6 +42,7 @@ fn reply(words: &[&str]) -> Option<bool> {
         row::<Misclosure>(),
         row::<AdjustTable>(),
         row::<AdjustFile>(),
+        row::<StationBook>(),
         row::<RefusedLine>(),
         row::<ListFile>(),
         row::<Line>(),
