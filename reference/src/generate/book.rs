@@ -2,7 +2,9 @@
 //! sightings, to the lines or to the bytes.
 
 use super::station::{damage_sightings, sound_sightings, Sighting};
-use super::text::{damage_bytes, damage_line, line, no_number, write_lines, Line, LINE_DAMAGES};
+use super::text::{
+    damage_bytes, damage_line, line, no_number, read_lines, write_lines, Line, LINE_DAMAGES,
+};
 use super::{Rng, CIRCLE};
 use crate::lines::MOST_BYTES;
 
@@ -13,33 +15,45 @@ pub struct BookCase {
 }
 
 pub fn book_case(rng: &mut Rng) -> BookCase {
-    let mut sightings = if rng.chance(10) {
-        few_sightings(rng)
-    } else {
-        sound_sightings(rng)
-    };
+    let mut sightings = draw_sightings(rng);
     let damaged = rng.chance(65);
     if damaged && rng.chance(60) {
         for _ in 0..rng.pick(&[1, 1, 1, 1, 2, 3]) {
             damage_sightings(rng, &mut sightings);
         }
     }
-    let mut lines: Vec<Line> = sightings
-        .iter()
-        .map(|[position, object, face, reading]| line!["S", position, object, face, reading])
-        .collect();
+    let mut text = String::new();
+    for [position, object, face, reading] in sightings {
+        text += &format!("S\t{position}\t{object}\t{face}\t{reading}\n");
+    }
+    let mut file = text.into_bytes();
     if damaged && rng.chance(35) {
+        let mut lines = read_lines(&file);
         for _ in 0..rng.pick(&[1, 1, 1, 2, 3]) {
             damage_lines(rng, &mut lines);
         }
+        file = write_lines(&lines);
     }
-    let mut file = write_lines(&lines);
-    if damaged && rng.chance(20) {
+    if damaged && rng.chance(14) {
         for _ in 0..rng.pick(&[1, 1, 1, 2, 3]) {
             damage_bytes(rng, &mut file, &[b"\n\n", b"S\t1", b"S\t1\t1\t0\t0", b"."]);
         }
     }
     BookCase { file }
+}
+
+/// Sound sightings, or a few that need not be. Most of the fullest lists are drawn again,
+/// since they take long and are much alike.
+fn draw_sightings(rng: &mut Rng) -> Vec<Sighting> {
+    if rng.chance(10) {
+        return few_sightings(rng);
+    }
+    let sightings = sound_sightings(rng);
+    if sightings.len() > 256 && rng.chance(75) {
+        sound_sightings(rng)
+    } else {
+        sightings
+    }
 }
 
 /// Up to five sightings of two positions and two objects, paired or not.
@@ -87,8 +101,9 @@ fn damage_lines(rng: &mut Rng, lines: &mut Vec<Line>) {
             let letters = ["s", "SS", "O", "STA", "D", "C", "X", "", "S ", "5"];
             damage_line(rng, lines, [index, other], way, &letters, boundary_text);
         }
-        way if way < LINE_DAMAGES + 2 => add_lines(rng, lines),
-        _ => fill_file(rng, lines),
+        // Seldom, since such a file is long.
+        LINE_DAMAGES if rng.chance(50) => fill_file(rng, lines),
+        _ => add_lines(rng, lines),
     }
 }
 

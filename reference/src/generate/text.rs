@@ -20,6 +20,13 @@ pub fn write_lines(lines: &[Line]) -> Vec<u8> {
     text.into_bytes()
 }
 
+/// The lines of a file that [`write_lines`] could have written.
+pub fn read_lines(file: &[u8]) -> Vec<Line> {
+    let text = String::from_utf8_lossy(file);
+    let fields = |line: &str| line.split('\t').map(str::to_string).collect();
+    text.lines().map(fields).collect()
+}
+
 /// A field that is no number, for one reason or another.
 pub fn no_number(rng: &mut Rng) -> String {
     rng.pick(&[

@@ -11,7 +11,7 @@ use differential::operations::{
     StationBook, StationMeans,
 };
 
-const CASES: u64 = 100_000;
+const CASES: u64 = 90_000;
 const SEED: u64 = 138;
 
 /// An operation's name, the run of its cases, and one case alone.
