@@ -6,10 +6,10 @@ use std::fmt::Debug;
 
 use crate::adjustment::Adjustment;
 use crate::generate::{
-    line_case, network_case, number_case, station_case, table_case, terms_case, Rng,
+    book_case, line_case, network_case, number_case, station_case, table_case, terms_case, Rng,
 };
 use crate::refusal::Refusal;
-use crate::{adjustment, condition, network, station};
+use crate::{adjustment, book, condition, lines, network, station};
 
 /// Replies by number, 0 for acceptance, with how often each occurred.
 pub type Replies = BTreeMap<i64, usize>;
@@ -22,13 +22,18 @@ pub struct Census {
     pub misclosure: Replies,
     pub table: Replies,
     pub network: Replies,
+    pub book: Replies,
     /// Accepted tables of n = 24, of m = 64, and of both; then the same of networks.
     pub largest_tables: [usize; 3],
     pub largest_networks: [usize; 3],
+    /// Accepted books of 512 sightings, of 16 objects, and of one pair alone.
+    pub book_sizes: [usize; 3],
+    /// Books that are just as long as a file may be, and just one byte longer.
+    pub book_lengths: [usize; 2],
     /// Accepted tables in which some |K| is 10^8, and in which some |R| is 50,000,000.
     pub limits_met: [usize; 2],
     pub weaknesses: BTreeMap<adjustment::Weakness, usize>,
-    pub line_statuses: BTreeMap<network::LineStatus, usize>,
+    pub line_statuses: BTreeMap<lines::LineStatus, usize>,
     /// Malformed and well-formed numbers.
     pub numbers: BTreeMap<bool, usize>,
 }
@@ -42,10 +47,11 @@ pub fn take(seed: u64, cases: usize) -> Census {
         count_terms(&mut rng, &mut census);
         count_table(&mut rng, &mut census);
         count_network(&mut rng, &mut census);
+        count_book(&mut rng, &mut census);
         let case = line_case(&mut rng);
-        let status = network::line_status(&case.file, case.start);
+        let status = lines::line_status(&case.file, case.start);
         *census.line_statuses.entry(status).or_default() += 1;
-        let number = network::read_number(&number_case(&mut rng).field);
+        let number = lines::read_number(&number_case(&mut rng).field);
         *census.numbers.entry(number.is_some()).or_default() += 1;
     }
     census
@@ -111,6 +117,23 @@ fn count_network(rng: &mut Rng, census: &mut Census) {
     }
 }
 
+fn count_book(rng: &mut Rng, census: &mut Census) {
+    let file = book_case(rng).file;
+    let reply = book::station_book(&file, book::LISTING_ROOM);
+    count(&mut census.book, &reply);
+    let longest = lines::MOST_BYTES;
+    let lengths = [file.len() == longest, file.len() == longest + 1];
+    add(&mut census.book_lengths, lengths);
+    if let Ok(listing) = reply {
+        let sizes = [
+            listing.starts_with(b"STA\t512\t"),
+            listing.split_inclusive(|&byte| byte == b'\n').count() == 17,
+            listing.starts_with(b"STA\t2\t"),
+        ];
+        add(&mut census.book_sizes, sizes);
+    }
+}
+
 /// Whether n is 24, m is 64, and both.
 fn largest(adjustment: &Adjustment) -> [bool; 3] {
     let most_conditions = adjustment.k.len() == 24;
@@ -134,14 +157,21 @@ pub fn report(census: &Census) -> String {
         format!("{name} accepted: n = 24 {conditions}, m = 64 {directions}, both {both}\n")
     };
     let [k, r] = census.limits_met;
+    let [sightings, objects, pair] = census.book_sizes;
+    let [longest, too_long] = census.book_lengths;
     [
         describe("station", &census.station),
         describe("coefficients", &census.coefficients),
         describe("misclosure", &census.misclosure),
         describe("table", &census.table),
         describe("network", &census.network),
+        describe("book", &census.book),
         sizes("tables", census.largest_tables),
         sizes("networks", census.largest_networks),
+        format!(
+            "books accepted: 512 sightings {sightings}, 16 objects {objects}, one pair {pair}\n"
+        ),
+        format!("books of 65,535 bytes {longest}, of 65,536 {too_long}\n"),
         format!("limits met exactly in accepted tables: K {k}, R {r}\n"),
         describe("weak rows", &census.weaknesses),
         describe("line statuses", &census.line_statuses),

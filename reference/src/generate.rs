@@ -1,11 +1,14 @@
 //! Inputs for a differential test: long and short, sound and damaged, for each operation.
 //! The same seed gives the same inputs for ever; nothing here reads a clock.
 
+mod book;
 mod network;
 mod station;
 mod table;
 mod terms;
+mod text;
 
+pub use book::{book_case, BookCase};
 pub use network::{line_case, network_case, number_case, LineCase, NetworkCase, NumberCase};
 pub use station::{station_case, StationCase};
 pub use table::{table_case, TableCase};
@@ -189,6 +192,7 @@ mod tests {
         let (mut one, mut other) = (Rng::new(7), Rng::new(7));
         for _ in 0..50 {
             assert_eq!(network_case(&mut one).file, network_case(&mut other).file);
+            assert_eq!(book_case(&mut one).file, book_case(&mut other).file);
         }
     }
 

@@ -5,9 +5,11 @@
 //! makes it panic.
 
 pub mod adjustment;
+pub mod book;
 pub mod census;
 pub mod condition;
 pub mod generate;
+pub mod lines;
 pub mod network;
 mod numeric;
 pub mod refusal;

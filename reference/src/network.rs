@@ -1,71 +1,15 @@
-//! The network file: its lines, its numbers, its checks, and the listing it ends in.
-
-use std::fmt::Display;
+//! The network file: its lines, its checks, and the listing it ends in.
 
 use crate::adjustment::{Adjustment, Net, MOST_CONDITIONS};
 use crate::condition::{
     direction_allowed, sum_coefficients, sum_misclosure, target_allowed, ConditionKind, Side, Term,
     MOST_DIRECTIONS, MOST_TERMS,
 };
-use crate::refusal::{place, Refusal, COUNT, MALFORMED, RANGE};
+use crate::lines::{fields, read_lines, read_number};
+use crate::refusal::{place, refused_line, Refusal, COUNT, MALFORMED, RANGE};
 
-/// The longest file that is read.
-pub const MOST_BYTES: usize = 65_535;
 /// The least room that is lent for a listing: it holds the longest one.
 pub const LISTING_ROOM: usize = 6_560;
-
-const MOST_DIGITS: usize = 11;
-
-/// What the line reader found at a start.
-#[derive(Clone, Copy, Debug, PartialEq, Eq, PartialOrd, Ord)]
-pub enum LineStatus {
-    Line,
-    NoneLeft,
-    LfMissing,
-}
-
-/// The line that begins at `start`, without its LF; empty unless the status is `Line`.
-pub fn line(file: &[u8], start: usize) -> &[u8] {
-    let rest = file.get(start..).unwrap_or_default();
-    match line_feed(rest) {
-        Some(end) => &rest[..end],
-        None => &[],
-    }
-}
-
-/// The companion reply of [`line`] for the same start.
-pub fn line_status(file: &[u8], start: usize) -> LineStatus {
-    let rest = file.get(start..).unwrap_or_default();
-    if rest.is_empty() {
-        LineStatus::NoneLeft
-    } else if line_feed(rest).is_some() {
-        LineStatus::Line
-    } else {
-        LineStatus::LfMissing
-    }
-}
-
-fn line_feed(bytes: &[u8]) -> Option<usize> {
-    bytes.iter().position(|&byte| byte == b'\n')
-}
-
-/// A number as the file writes it, or nothing if the field is malformed.
-pub fn read_number(field: &[u8]) -> Option<i64> {
-    let (negative, digits) = match field {
-        [b'-', digits @ ..] => (true, digits),
-        digits => (false, digits),
-    };
-    let sound = (1..=MOST_DIGITS).contains(&digits.len())
-        && digits.iter().all(u8::is_ascii_digit)
-        && (digits[0] != b'0' || field == b"0");
-    if !sound {
-        return None;
-    }
-    let size = digits
-        .iter()
-        .fold(0, |size, digit| 10 * size + i64::from(digit - b'0'));
-    Some(if negative { -size } else { size })
-}
 
 /// The listing of a network file: the adjustment, or the one line of a refusal.
 pub fn listing(file: &[u8]) -> Vec<u8> {
@@ -73,11 +17,6 @@ pub fn listing(file: &[u8]) -> Vec<u8> {
         Ok(listing) => listing,
         Err(refusal) => refused_line(refusal.number, refusal.place),
     }
-}
-
-/// The one line of a refusal.
-pub fn refused_line(number: impl Display, place: impl Display) -> Vec<u8> {
-    format!("REFUSED\t{number}\t{place}\n").into_bytes()
 }
 
 /// The listing of a network file that is accepted, by a caller who lends so much room.
@@ -133,26 +72,8 @@ struct Network {
 }
 
 fn read_file(file: &[u8]) -> Result<Network, Refusal> {
-    if file.len() > MOST_BYTES {
-        return Err(Refusal::at_zero(COUNT));
-    }
     let mut network = Network::default();
-    let mut start = 0;
-    let mut number = 1;
-    loop {
-        match line_status(file, start) {
-            LineStatus::NoneLeft => break,
-            LineStatus::LfMissing => return Err(Refusal::new(MALFORMED, number)),
-            LineStatus::Line => {
-                let line = line(file, start);
-                network
-                    .take_line(line)
-                    .map_err(|refused| Refusal::new(refused, number))?;
-                start += line.len() + 1;
-                number += 1;
-            }
-        }
-    }
+    read_lines(file, |line| network.take_line(line))?;
     network.check_end()?;
     Ok(network)
 }
@@ -265,8 +186,7 @@ impl Network {
 
 /// The form of a line by itself: letters, number of fields, and well-formed numbers.
 fn read_entry(line: &[u8]) -> Option<Entry> {
-    let fields: Vec<&[u8]> = line.split(|&byte| byte == b'\t').collect();
-    match fields[..] {
+    match fields(line)[..] {
         [b"D", number, direction, q] => Some(Entry::Direction {
             number: read_number(number)?,
             direction: read_number(direction)?,

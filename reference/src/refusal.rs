@@ -1,4 +1,7 @@
-//! The refusal: a number from the table of refusals, and the place it points to.
+//! The refusal: a number from the table of refusals, the place it points to, and the line
+//! it is written as.
+
+use std::fmt::Display;
 
 /// Line malformed, unknown or under the wrong heading; or a kind that does not fit.
 pub const MALFORMED: i64 = 1;
@@ -45,6 +48,11 @@ impl Refusal {
     pub fn at_zero(number: i64) -> Self {
         Refusal::new(number, 0)
     }
+}
+
+/// The one line of a refusal.
+pub fn refused_line(number: impl Display, place: impl Display) -> Vec<u8> {
+    format!("REFUSED\t{number}\t{place}\n").into_bytes()
 }
 
 /// A count as a place; counts here are far below the limit of `i64`.

@@ -1,20 +1,21 @@
-//! Writes the listing of the network file on standard input; or, with the argument
-//! `census` (and a number of cases and a seed), how often each reply occurs among the
-//! generated inputs.
+//! Writes the listing of the network file on standard input; with the argument `means`,
+//! that of the sighting book there; or, with `census` (and a number of cases and a seed),
+//! how often each reply occurs among the generated inputs.
 
 use std::env;
 use std::io::{self, Read, Write};
 use std::process::ExitCode;
 
-use reference::{census, network};
+use reference::{book, census, network};
 
 fn main() -> ExitCode {
     let arguments: Vec<String> = env::args().skip(1).collect();
     let done = match arguments.first().map(String::as_str) {
-        None => write_listing(),
+        None => write_listing(network::listing),
+        Some("means") if arguments.len() == 1 => write_listing(book::listing),
         Some("census") => write_census(&arguments[1..]),
         Some(_) => Err(io::Error::other(
-            "use: reference < net, or reference census [cases [seed]]",
+            "use: reference < net, reference means < book, or reference census [cases [seed]]",
         )),
     };
     match done {
@@ -26,10 +27,10 @@ fn main() -> ExitCode {
     }
 }
 
-fn write_listing() -> io::Result<()> {
+fn write_listing(listing: fn(&[u8]) -> Vec<u8>) -> io::Result<()> {
     let mut file = Vec::new();
     io::stdin().lock().read_to_end(&mut file)?;
-    io::stdout().lock().write_all(&network::listing(&file))
+    io::stdout().lock().write_all(&listing(&file))
 }
 
 fn write_census(arguments: &[String]) -> io::Result<()> {

@@ -1,7 +1,9 @@
 //! Network files, whole and damaged; and bytes for the line and number readers.
 
+use super::text::{
+    damage_bytes, damage_line, line, no_number, odd_byte, write_lines, Line, LINE_DAMAGES,
+};
 use super::{direction_count, inverse_weights, Rng, CIRCLE};
-use crate::network::MOST_BYTES;
 
 /// The bytes of a network file.
 #[derive(Clone, Debug, PartialEq, Eq)]
@@ -22,13 +24,6 @@ pub struct NumberCase {
     pub field: Vec<u8>,
 }
 
-/// A line as its fields.
-type Line = Vec<String>;
-
-macro_rules! line {
-    ($($field:expr),+) => { vec![$($field.to_string()),+] };
-}
-
 pub fn network_case(rng: &mut Rng) -> NetworkCase {
     let mut lines = sound_net(rng);
     let damaged = rng.chance(55);
@@ -40,7 +35,7 @@ pub fn network_case(rng: &mut Rng) -> NetworkCase {
     let mut file = write_lines(&lines);
     if damaged && rng.chance(50) {
         for _ in 0..rng.pick(&[1, 1, 1, 2, 3]) {
-            damage_bytes(rng, &mut file);
+            damage_bytes(rng, &mut file, &[b"\n\n", b"D\t1", b"P\t0\t1", b"."]);
         }
     }
     NetworkCase { file }
@@ -89,15 +84,6 @@ pub fn number_case(rng: &mut Rng) -> NumberCase {
         field = boundary_text(rng, 9).into_bytes();
     }
     NumberCase { field }
-}
-
-fn write_lines(lines: &[Line]) -> Vec<u8> {
-    let mut text = String::new();
-    for line in lines {
-        text += &line.join("\t");
-        text.push('\n');
-    }
-    text.into_bytes()
 }
 
 /// A net that is well formed; what its solution says of it is another matter.
@@ -291,28 +277,7 @@ fn odd_condition(rng: &mut Rng, directions: &[i64]) -> Vec<Line> {
 fn boundary_text(rng: &mut Rng, m: usize) -> String {
     let m = m as i64;
     match rng.below(4) {
-        0 => rng
-            .pick(&[
-                "00",
-                "-0",
-                "+1",
-                "",
-                "-",
-                "01",
-                "-01",
-                " 1",
-                "1 ",
-                "1\r",
-                "1.0",
-                "0x1",
-                "A",
-                "100000000000",
-                "-100000000000",
-                "000000000000",
-                "18446744073709551617",
-                "--1",
-            ])
-            .to_string(),
+        0 => no_number(rng),
         1 => rng
             .pick(&[-1, 0, 1, m - 1, m, m + 1, 10, 11, 12, 13, 64, 65])
             .to_string(),
@@ -349,41 +314,14 @@ fn damage_lines(rng: &mut Rng, lines: &mut Vec<Line>) {
     let m = lines.iter().filter(|line| line[0] == "D").count();
     let index = rng.below(lines.len());
     let other = rng.below(lines.len());
-    match rng.below(22) {
-        0..=4 => {
-            let field = rng.below(lines[index].len());
-            lines[index][field] = boundary_text(rng, m);
-        }
-        5 => {
-            lines.remove(index);
-        }
-        6 => {
-            let again = lines[index].clone();
-            lines.insert(other, again);
-        }
-        7 => lines.swap(index, other),
-        8 => {
-            let again = lines[index].clone();
-            lines.insert(index, again);
-        }
-        9 => {
-            let text = boundary_text(rng, m);
-            lines[index].push(text);
-        }
-        10 => {
-            lines[index].pop();
-            if lines[index].is_empty() {
-                lines[index].push(String::new());
-            }
-        }
-        11 => {
+    match rng.below(LINE_DAMAGES + 8) {
+        way if way < LINE_DAMAGES => {
             let letters = [
                 "D", "C", "P", "F", "L", "R", "A", "S", "d", "c", "p", "X", "", "ADJ", "D ",
             ];
-            lines[index][0] = rng.pick(&letters).to_string();
+            let text = |rng: &mut Rng| boundary_text(rng, m);
+            damage_line(rng, lines, [index, other], way, &letters, text);
         }
-        12 => lines.insert(index, line![""]),
-        13 => lines.push(line![""]),
         14 | 15 => fill_directions(rng, lines, m),
         16 | 17 => fill_conditions(rng, lines, m),
         18 => fill_terms(rng, lines),
@@ -458,74 +396,4 @@ fn repeat_condition(rng: &mut Rng, lines: &mut Vec<Line>) {
         .unwrap_or(lines.len());
     let again: Vec<Line> = lines[start..end].to_vec();
     lines.extend(again);
-}
-
-/// A byte that has a meaning somewhere, or any byte.
-fn odd_byte(rng: &mut Rng) -> u8 {
-    if rng.chance(70) {
-        rng.pick(b"\t\t\n\n\r\0 -+0123456789DCPFLRASdx.")
-    } else {
-        rng.range(0, 255) as u8
-    }
-}
-
-fn damage_bytes(rng: &mut Rng, file: &mut Vec<u8>) {
-    let index = rng.below(file.len());
-    match rng.below(16) {
-        0..=3 => {
-            if let Some(byte) = file.get_mut(index) {
-                *byte = odd_byte(rng);
-            }
-        }
-        4 => {
-            if let Some(byte) = file.get_mut(index) {
-                *byte ^= 1 << rng.below(8);
-            }
-        }
-        5 => {
-            if index < file.len() {
-                file.remove(index);
-            }
-        }
-        6 => file.insert(index, odd_byte(rng)),
-        7 => {
-            file.pop();
-        }
-        8 => *file = with_carriage_returns(file),
-        9 => file.truncate(index),
-        10 => file.push(rng.pick(b"\n\0\t D")),
-        11 => file.extend(rng.pick(&[&b"\n\n"[..], b"D\t1", b"P\t0\t1", b"."])),
-        12 => file.clear(),
-        _ => stretch(rng, file),
-    }
-}
-
-fn with_carriage_returns(file: &[u8]) -> Vec<u8> {
-    let mut longer = Vec::new();
-    for &byte in file {
-        if byte == b'\n' {
-            longer.push(b'\r');
-        }
-        longer.push(byte);
-    }
-    longer
-}
-
-/// Brings the file to about the limit of its length, at its end or in its first line.
-fn stretch(rng: &mut Rng, file: &mut Vec<u8>) {
-    let wanted = MOST_BYTES - 1 + rng.pick(&[0, 1, 1, 2, 2, 3, 4_000]);
-    let filling = rng.pick(b"\n\0\t 1x");
-    let added = wanted.saturating_sub(file.len());
-    if rng.chance(80) {
-        file.extend(vec![filling; added]);
-        if rng.chance(50) {
-            if let Some(last) = file.last_mut() {
-                *last = b'\n';
-            }
-        }
-    } else {
-        let mut longer = vec![filling; added];
-        longer.append(file);
-        *file = longer;
-    }
 }

@@ -14,7 +14,7 @@ pub struct StationCase {
 }
 
 /// Position, object, face and reading.
-type Sighting = [i64; 4];
+pub(super) type Sighting = [i64; 4];
 
 pub fn station_case(rng: &mut Rng) -> StationCase {
     let mut sightings = sound_sightings(rng);
@@ -46,7 +46,7 @@ enum Spread {
     Limit,
 }
 
-fn sound_sightings(rng: &mut Rng) -> Vec<Sighting> {
+pub(super) fn sound_sightings(rng: &mut Rng) -> Vec<Sighting> {
     let (positions, objects) = match rng.below(6) {
         0 => (16, 16),
         1 => (1, rng.count(1, 16)),
@@ -129,7 +129,7 @@ fn add_pair(sightings: &mut Vec<Sighting>, position: i64, object: i64, left: i64
     sightings.push([position, object, 1, right]);
 }
 
-fn damage_sightings(rng: &mut Rng, sightings: &mut Vec<Sighting>) {
+pub(super) fn damage_sightings(rng: &mut Rng, sightings: &mut Vec<Sighting>) {
     if sightings.is_empty() {
         return;
     }

@@ -1,6 +1,7 @@
 //! What the generator reaches, and that nothing panics on what no generator would send.
 
 use super::*;
+use reference::book;
 use reference::census::{self, Replies};
 use reference::generate::Rng;
 
@@ -33,10 +34,14 @@ fn every_reply_occurs_often() {
     assert_frequent("table", &census.table, &table, cases);
     let network = [0, 1, 2, 3, 4, 5, 6, 7, 8];
     assert_frequent("network", &census.network, &network, cases);
+    let book = [0, 1, 2, 21, 22, 23, 24, 25, 26];
+    assert_frequent("book", &census.book, &book, cases);
     assert_eq!(census.weaknesses.len(), 4);
     assert_eq!(census.line_statuses.len(), 3);
     assert!(census.largest_tables.iter().all(|&count| count > 0));
     assert!(census.largest_networks.iter().all(|&count| count > 0));
+    assert!(census.book_sizes.iter().all(|&count| count > 0));
+    assert!(census.book_lengths.iter().all(|&count| count > 0));
     assert!(census.limits_met.iter().all(|&count| count > 0));
 }
 
@@ -93,8 +98,9 @@ fn no_input_panics() {
             .map(|_| rng.range(0, 255) as u8)
             .collect();
         let _ = network::listing(&bytes);
-        let _ = network::line(&bytes, rng.below(70));
-        let _ = network::read_number(&bytes);
+        let _ = book::listing(&bytes);
+        let _ = lines::line(&bytes, rng.below(70));
+        let _ = lines::read_number(&bytes);
     }
     let wide = [i128::MIN, i128::MAX];
     let fitting = station::AnswerLengths::fitting();

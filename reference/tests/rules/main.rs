@@ -1,6 +1,7 @@
-//! The rules as tests: the ten figures, every refusal, the readings of open points,
-//! and what the generator reaches.
+//! The rules as tests: the ten figures, every refusal, the readings of open points, the
+//! sighting book, and what the generator reaches.
 
+mod book;
 mod census;
 mod figures;
 mod readings;
@@ -8,6 +9,7 @@ mod refusals;
 
 use reference::adjustment::{self, Adjustment, ConditionTable};
 use reference::condition::{self, ConditionKind, LentCondition};
+use reference::lines;
 use reference::network;
 use reference::refusal::Refusal;
 use reference::station::{self, StationMeans};
@@ -18,17 +20,46 @@ pub fn refused<T>(number: i64, place: i64) -> Result<T, Refusal> {
     Err(Refusal::new(number, place))
 }
 
-/// The listing of a net written with spaces for tabs, in the same writing.
-pub fn listing(net: &str) -> String {
-    let listing = network::listing(net.replace(' ', "\t").as_bytes());
+/// Fields that are no number, for one reason each.
+pub const NO_NUMBERS: [&str; 16] = [
+    "100000000000",
+    "-100000000000",
+    "+1",
+    "",
+    "-",
+    "00",
+    "-0",
+    "-01",
+    "01",
+    " ",
+    "1 ",
+    "1\r",
+    "\r",
+    "--1",
+    "1-",
+    "\u{664}",
+];
+
+/// What a file written with spaces for tabs is listed as, in the same writing.
+pub fn list_spaced(list: fn(&[u8]) -> Vec<u8>, file: &str) -> String {
+    let listing = list(file.replace(' ', "\t").as_bytes());
     String::from_utf8_lossy(&listing).replace('\t', " ")
+}
+
+/// The first line of a listing, without its LF.
+pub fn first_line(listing: &str) -> String {
+    assert!(listing.ends_with('\n'));
+    listing.lines().next().unwrap_or_default().to_string()
+}
+
+/// The listing of a net written with spaces for tabs.
+pub fn listing(net: &str) -> String {
+    list_spaced(network::listing, net)
 }
 
 /// The refusal of a net written with spaces for tabs, without its LF.
 pub fn reply(net: &str) -> String {
-    let listing = listing(net);
-    assert!(listing.ends_with('\n'));
-    listing.lines().next().unwrap_or_default().to_string()
+    first_line(&listing(net))
 }
 
 /// The adjustment of rows of conditions; every direction is 0.

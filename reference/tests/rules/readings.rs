@@ -3,7 +3,7 @@
 use super::figures::FIGURE_3;
 use super::*;
 use reference::adjustment::AnswerLengths;
-use reference::network::{line, line_status, read_number, LineStatus};
+use reference::lines::{line, line_status, read_number, LineStatus};
 
 const THREE: &str = "D 1 1000 1\nD 2 5000 2\nD 3 9000 3\n";
 
@@ -55,24 +55,7 @@ fn reading_04_number_decides_over_the_whole_line() {
 
 #[test]
 fn reading_05_malformed_numbers() {
-    for field in [
-        "100000000000",
-        "-100000000000",
-        "+1",
-        "",
-        "-",
-        "00",
-        "-0",
-        "-01",
-        "01",
-        " ",
-        "1 ",
-        "1\r",
-        "\r",
-        "--1",
-        "1-",
-        "\u{664}",
-    ] {
+    for field in NO_NUMBERS {
         assert_eq!(read_number(field.as_bytes()), None, "{field:?}");
         // The reader of nets in these tests writes tabs for blanks, so this one does not.
         let file = format!("D\t1\t{field}\t1\n");

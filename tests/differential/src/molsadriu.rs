@@ -5,6 +5,9 @@ use crate::lent::Lent;
 /// The header's MOLSADRIU_LISTING: bytes that hold the listing of any network file.
 pub const LISTING: usize = 6_560;
 
+/// The header's MOLSADRIU_STATION_LISTING: bytes that hold the listing of any sighting book.
+pub const STATION_LISTING: usize = 1_136;
+
 /// The header's MOLSADRIU_REFUSED_LINE: bytes that hold any REFUSED line.
 pub const REFUSED_LINE: usize = 52;
 
@@ -104,6 +107,14 @@ extern "C" {
         length: *mut usize,
     ) -> Verdict;
 
+    fn molsadriu_station_book(
+        file: *const u8,
+        file_length: usize,
+        out: *mut u8,
+        out_room: usize,
+        length: *mut usize,
+    ) -> Verdict;
+
     fn molsadriu_refused_line(number: u64, place: u64, out: *mut u8, out_room: usize) -> usize;
 
     fn molsadriu_list_file(
@@ -121,7 +132,7 @@ extern "C" {
 // Each call below is sound for one reason: a `Lent` owns its cells, its pointer goes with
 // its own length (null only with length 0), and a `&mut` shares no place with another.
 
-type Numbers = Lent<i64>;
+pub type Numbers = Lent<i64>;
 
 /// Lists in the header's order: position, object, face, reading; direction, pairs.
 pub fn station_means([p, o, f, r, direction, pairs]: &mut [Numbers; 6]) -> Verdict {
@@ -234,12 +245,27 @@ pub fn adjust_table(
     }
 }
 
-/// The last list holds the listing's length, and has just one place, of 64 bits as a
-/// `usize` has.
+/// An operation on a file: the file, the buffer for its listing, and the listing's length,
+/// a list of just one place, of 64 bits as a `usize` has.
+pub type OnFile = fn(&mut Lent<u8>, &mut Lent<u8>, &mut Numbers) -> Verdict;
+
 pub fn adjust_file(file: &mut Lent<u8>, out: &mut Lent<u8>, length: &mut Numbers) -> Verdict {
     assert_eq!(length.length(), 1);
     unsafe {
         molsadriu_adjust_file(
+            file.pointer(),
+            file.length(),
+            out.pointer(),
+            out.length(),
+            length.pointer().cast(),
+        )
+    }
+}
+
+pub fn station_book(file: &mut Lent<u8>, out: &mut Lent<u8>, length: &mut Numbers) -> Verdict {
+    assert_eq!(length.length(), 1);
+    unsafe {
+        molsadriu_station_book(
             file.pointer(),
             file.length(),
             out.pointer(),

@@ -4,24 +4,27 @@
 use std::fmt;
 
 use reference::adjustment::{self, AnswerLengths};
+use reference::book;
 use reference::condition::{self, ConditionKind, LentCondition};
 use reference::generate::{
-    line_case, network_case, station_case, table_case, terms_case, LineCase, Rng, StationCase,
-    TableCase, TermsCase,
+    book_case, line_case, network_case, station_case, table_case, terms_case, LineCase, Rng,
+    StationCase, TableCase, TermsCase,
 };
-use reference::network::{self, LineStatus};
-use reference::refusal::Refusal;
+use reference::lines::{self, LineStatus};
+use reference::network;
+use reference::refusal::{refused_line, Refusal};
 use reference::station;
 
 use crate::compare::{Operation, Outcome, Reply};
 use crate::lent::{Lent, Mark};
-use crate::molsadriu::{self, Verdict, LISTING, REFUSED_LINE};
+use crate::molsadriu::{self, OnFile, Verdict, LISTING, REFUSED_LINE, STATION_LISTING};
 
 pub struct StationMeans;
 pub struct Coefficients;
 pub struct Misclosure;
 pub struct AdjustTable;
 pub struct AdjustFile;
+pub struct StationBook;
 pub struct RefusedLine;
 pub struct ListFile;
 pub struct Line;
@@ -328,7 +331,7 @@ impl Operation for AdjustTable {
     }
 }
 
-/// A network file, and the room lent for its listing.
+/// A network file or a sighting book, and the room lent for its listing.
 pub struct FileCase {
     pub file: Vec<u8>,
     pub room: usize,
@@ -348,14 +351,19 @@ fn file_lists(drawn: &Drawn<FileCase>) -> [Lent<u8>; 2] {
     ]
 }
 
-fn draw_file(rng: &mut Rng) -> Drawn<FileCase> {
-    let mut file = network_case(rng).file;
+/// A file of one kind, seldom one of any bytes, and room about the `least` that it asks.
+fn draw_file(rng: &mut Rng, draw: fn(&mut Rng) -> Vec<u8>, least: usize) -> Drawn<FileCase> {
+    let mut file = draw(rng);
     if is_wild(rng) {
         let length = rng.below(60);
         file = (0..length).map(|_| rng.range(0, 255) as u8).collect();
     }
-    let room = draw_room(rng, LISTING);
+    let room = draw_room(rng, least);
     Drawn::new(FileCase { file, room }, rng)
+}
+
+fn draw_net(rng: &mut Rng) -> Drawn<FileCase> {
+    draw_file(rng, |rng| network_case(rng).file, LISTING)
 }
 
 /// Room for an answer that asks `least`: seldom less, seldom more.
@@ -369,35 +377,68 @@ fn draw_room(rng: &mut Rng, least: usize) -> usize {
     }
 }
 
+/// What an operation of the library leaves behind of a file.
+fn of_file(drawn: &Drawn<FileCase>, operation: OnFile) -> Outcome {
+    let [mut file, mut out] = file_lists(drawn);
+    let mut length = Lent::blank(1);
+    let verdict = operation(&mut file, &mut out, &mut length);
+    Outcome {
+        bytes: vec![file, out],
+        ..of_verdict(verdict, [length])
+    }
+}
+
+/// The outcome by the reference: a listing in the first bytes of the buffer, and its
+/// length; refused, both as they were.
+fn expected_of_file(drawn: &Drawn<FileCase>, reply: Result<Vec<u8>, Refusal>) -> Outcome {
+    let [file, mut out] = file_lists(drawn);
+    let reply = reply.map(|listing| {
+        out.put(&listing);
+        [listing.len() as i64]
+    });
+    Outcome {
+        bytes: vec![file, out],
+        ..expected(reply, [Lent::blank(1)], |length| vec![length])
+    }
+}
+
 impl Operation for AdjustFile {
     type Case = Drawn<FileCase>;
     const NAME: &'static str = "adjust file";
 
     fn draw(rng: &mut Rng) -> Self::Case {
-        draw_file(rng)
+        draw_net(rng)
     }
 
     fn library(drawn: &Self::Case) -> Outcome {
-        let [mut file, mut out] = file_lists(drawn);
-        let mut length = Lent::blank(1);
-        let verdict = molsadriu::adjust_file(&mut file, &mut out, &mut length);
-        Outcome {
-            bytes: vec![file, out],
-            ..of_verdict(verdict, [length])
-        }
+        of_file(drawn, molsadriu::adjust_file)
     }
 
     fn reference(drawn: &Self::Case) -> Outcome {
-        let [file, mut out] = file_lists(drawn);
-        let reply = network::adjust_file(&drawn.case.file, drawn.case.room);
-        let reply = reply.map(|listing| {
-            out.put(&listing);
-            [listing.len() as i64]
-        });
-        Outcome {
-            bytes: vec![file, out],
-            ..expected(reply, [Lent::blank(1)], |length| vec![length])
-        }
+        let FileCase { file, room } = &drawn.case;
+        expected_of_file(drawn, network::adjust_file(file, *room))
+    }
+
+    fn reply(outcome: &Outcome) -> Reply {
+        verdict_reply(outcome)
+    }
+}
+
+impl Operation for StationBook {
+    type Case = Drawn<FileCase>;
+    const NAME: &'static str = "station book";
+
+    fn draw(rng: &mut Rng) -> Self::Case {
+        draw_file(rng, |rng| book_case(rng).file, STATION_LISTING)
+    }
+
+    fn library(drawn: &Self::Case) -> Outcome {
+        of_file(drawn, molsadriu::station_book)
+    }
+
+    fn reference(drawn: &Self::Case) -> Outcome {
+        let FileCase { file, room } = &drawn.case;
+        expected_of_file(drawn, book::station_book(file, *room))
     }
 
     fn reply(outcome: &Outcome) -> Reply {
@@ -464,7 +505,7 @@ impl Operation for RefusedLine {
 
     fn reference(drawn: &Self::Case) -> Outcome {
         let RefusedCase { verdict, room } = drawn.case;
-        let line = network::refused_line(verdict.number, verdict.place);
+        let line = refused_line(verdict.number, verdict.place);
         let out = Lent::blank(room).or_null(drawn.null);
         written(&line, REFUSED_LINE, vec![out])
     }
@@ -482,7 +523,7 @@ impl Operation for ListFile {
     const NAME: &'static str = "list file";
 
     fn draw(rng: &mut Rng) -> Self::Case {
-        draw_file(rng)
+        draw_net(rng)
     }
 
     fn library(drawn: &Self::Case) -> Outcome {
@@ -545,7 +586,7 @@ impl Operation for Line {
     }
 
     fn reference(drawn: &Self::Case) -> Outcome {
-        let line = network::line(&drawn.case.file, drawn.case.start);
+        let line = lines::line(&drawn.case.file, drawn.case.start);
         of_line(line.len() as u64, line_list(drawn))
     }
 
@@ -572,7 +613,7 @@ impl Operation for LineStatusAt {
     }
 
     fn reference(drawn: &Self::Case) -> Outcome {
-        let status = match network::line_status(&drawn.case.file, drawn.case.start) {
+        let status = match lines::line_status(&drawn.case.file, drawn.case.start) {
             LineStatus::Line => 0,
             LineStatus::NoneLeft => 1,
             LineStatus::LfMissing => 2,

@@ -1,6 +1,7 @@
-//! speed [CALLS [REPEATS]]: how long the library and `reference/` take for nets as large
-//! as the rules allow, in one process and in turn.
-//! speed net [NUMBER]: the file of one of these nets, 1 to 16, for timing the program.
+//! speed [CALLS [REPEATS]]: how long the library and `reference/` take for nets and
+//! sighting books as large as the rules allow, in one process and in turn.
+//! speed net [NUMBER], speed book [NUMBER]: the file of one of these nets or books, 1 to
+//! 16, for timing the programs.
 
 use std::env;
 use std::hint::black_box;
@@ -8,21 +9,23 @@ use std::io::{self, Write};
 use std::process::ExitCode;
 use std::time::Instant;
 
+use differential::book::fullest_book;
 use differential::lent::Lent;
-use differential::molsadriu::{self, Verdict, LISTING};
+use differential::molsadriu::{self, OnFile, Verdict, LISTING, STATION_LISTING};
 use differential::net::{self, Net};
-use reference::{adjustment, network};
+use reference::refusal::Refusal;
+use reference::{adjustment, book, network};
 
-/// Nets in rotation. One net over and over would flatter: the processor learns its
-/// branches.
-const NETS: usize = 16;
-/// Net 1 is drawn from this seed, and each of the others from the next.
+/// Nets, or books, in rotation. One net over and over would flatter: the processor learns
+/// its branches.
+const ROTATION: usize = 16;
+/// Net 1 and book 1 are drawn from this seed, and each of the others from the next.
 const SEED: u64 = 138;
 const CALLS: usize = 10_000;
 const REPEATS: usize = 5;
-/// Calls between two looks at the clock, some rounds of all nets; the two sides take
+/// Calls between two looks at the clock, some rounds of all nets or books; the two sides take
 /// turns in such blocks.
-const BLOCK: usize = 5 * NETS;
+const BLOCK: usize = 5 * ROTATION;
 
 const ACCEPTED: Verdict = Verdict {
     number: 0,
@@ -35,30 +38,44 @@ fn main() -> ExitCode {
         Some(word) => word.parse().unwrap_or(0),
         None => otherwise,
     };
-    let nets: Option<Vec<Net>> = (SEED..).take(NETS).map(net::accepted).collect();
+    let nets: Option<Vec<Net>> = (SEED..).take(ROTATION).map(net::accepted).collect();
     let Some(nets) = nets else {
         eprintln!("a seed has no net that is accepted");
         return ExitCode::FAILURE;
     };
-    if words.first().is_some_and(|word| word == "net") {
-        return write_net(nets.get(number(1, 1).wrapping_sub(1)));
+    let books: Vec<Vec<u8>> = (SEED..).take(ROTATION).map(fullest_book).collect();
+    let wanted = number(1, 1).wrapping_sub(1);
+    match words.first().map(String::as_str) {
+        Some("net") => return write_file(nets.get(wanted).map(|net| &net.file)),
+        Some("book") => return write_file(books.get(wanted)),
+        _ => {}
     }
     let (blocks, repeats) = (number(0, CALLS) / BLOCK, number(1, REPEATS));
     if blocks == 0 || repeats == 0 {
         return usage();
     }
     let mut tables: Vec<Table> = nets.iter().map(Table::of).collect();
-    let mut files: Vec<File> = nets.iter().map(File::of).collect();
+    let lent_net = |net: &Net| File::of(&net.file, LISTING, molsadriu::adjust_file);
+    let lent_book = |book: &Vec<u8>| File::of(book, STATION_LISTING, molsadriu::station_book);
+    let mut files: Vec<File> = nets.iter().map(lent_net).collect();
+    let mut lent_books: Vec<File> = books.iter().map(lent_book).collect();
 
     // Both sides are timed on the same work only if they agree on it.
     let mut lent = tables.iter_mut().zip(&mut files).zip(&nets);
-    if !lent.all(|((table, file), net)| table.agrees(net) && file.agrees(net)) {
+    if !lent.all(|((table, file), net)| {
+        table.agrees(net) && file.agrees(network::adjust_file(&net.file, LISTING))
+    }) {
         eprintln!("the two sides do not agree on a net");
+        return ExitCode::FAILURE;
+    }
+    let mut lent = lent_books.iter_mut().zip(&books);
+    if !lent.all(|(lent, book)| lent.agrees(book::station_book(book, STATION_LISTING))) {
+        eprintln!("the two sides do not agree on a book");
         return ExitCode::FAILURE;
     }
 
     println!(
-        "{NETS} nets of 64 directions and 24 conditions of 12 terms in rotation; times per call in microseconds"
+        "{ROTATION} nets of 64 directions and 24 conditions of 12 terms in rotation, and {ROTATION} books of 512 sightings; times per call in microseconds"
     );
     report(
         "condition table",
@@ -74,14 +91,26 @@ fn main() -> ExitCode {
     );
     let bytes: usize = nets.iter().map(|net| net.file.len()).sum();
     report(
-        &format!("network file of {} bytes in the mean", bytes / NETS),
+        &format!("network file of {} bytes in the mean", bytes / ROTATION),
         blocks,
         repeats,
         |net| {
-            black_box(black_box(&mut files[net]).adjust());
+            black_box(black_box(&mut files[net]).list());
         },
         |net| {
             let _ = black_box(network::adjust_file(black_box(&nets[net].file), LISTING));
+        },
+    );
+    let bytes: usize = books.iter().map(Vec::len).sum();
+    report(
+        &format!("sighting book of {} bytes in the mean", bytes / ROTATION),
+        blocks,
+        repeats,
+        |book| {
+            black_box(black_box(&mut lent_books[book]).list());
+        },
+        |book| {
+            let _ = black_box(book::station_book(black_box(&books[book]), STATION_LISTING));
         },
     );
     ExitCode::SUCCESS
@@ -89,13 +118,13 @@ fn main() -> ExitCode {
 
 fn usage() -> ExitCode {
     eprintln!(
-        "use: speed [CALLS [REPEATS]], at least {BLOCK} and 1; or speed net [NUMBER], 1 to {NETS}"
+        "use: speed [CALLS [REPEATS]], at least {BLOCK} and 1; or speed net [NUMBER] or speed book [NUMBER], 1 to {ROTATION}"
     );
     ExitCode::from(2)
 }
 
-fn write_net(net: Option<&Net>) -> ExitCode {
-    match net.map(|net| io::stdout().write_all(&net.file)) {
+fn write_file(file: Option<&Vec<u8>>) -> ExitCode {
+    match file.map(|file| io::stdout().write_all(file)) {
         Some(Ok(())) => ExitCode::SUCCESS,
         Some(Err(_)) => ExitCode::FAILURE,
         None => usage(),
@@ -142,29 +171,32 @@ impl Table {
     }
 }
 
-/// A net's file as it is lent to the library, with what its listing goes into.
+/// A file as it is lent to an operation of the library, with what its listing goes into.
 struct File {
     bytes: Lent<u8>,
     out: Lent<u8>,
     length: Lent<i64>,
+    operation: OnFile,
 }
 
 impl File {
-    fn of(net: &Net) -> Self {
+    fn of(file: &[u8], room: usize, operation: OnFile) -> Self {
         File {
-            bytes: Lent::holding(&net.file),
-            out: Lent::blank(LISTING),
+            bytes: Lent::holding(file),
+            out: Lent::blank(room),
             length: Lent::blank(1),
+            operation,
         }
     }
 
-    fn adjust(&mut self) -> Verdict {
-        molsadriu::adjust_file(&mut self.bytes, &mut self.out, &mut self.length)
+    fn list(&mut self) -> Verdict {
+        (self.operation)(&mut self.bytes, &mut self.out, &mut self.length)
     }
 
-    fn agrees(&mut self, net: &Net) -> bool {
-        let verdict = self.adjust();
-        network::adjust_file(&net.file, LISTING).is_ok_and(|listing| {
+    /// Whether both sides accept the file and give the same listing.
+    fn agrees(&mut self, reply: Result<Vec<u8>, Refusal>) -> bool {
+        let verdict = self.list();
+        reply.is_ok_and(|listing| {
             verdict == ACCEPTED
                 && self.length.list() == [listing.len() as i64]
                 && self.out.list().starts_with(&listing)
@@ -173,7 +205,7 @@ impl File {
 }
 
 /// Times both sides in turn, and writes totals, least and median, and their ratios. Each
-/// side is told the net of a call by its place.
+/// side is told the net or the book of a call by its place.
 fn report(
     name: &str,
     blocks: usize,
@@ -209,11 +241,11 @@ fn report(
     );
 }
 
-/// Microseconds of a block of calls, net after net.
+/// Microseconds of a block of calls, net after net or book after book.
 fn block(call: &mut impl FnMut(usize)) -> f64 {
     let start = Instant::now();
     for turn in 0..BLOCK {
-        call(turn % NETS);
+        call(turn % ROTATION);
     }
     start.elapsed().as_secs_f64() * 1e6
 }
