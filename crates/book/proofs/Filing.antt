@@ -1,5 +1,6 @@
 -- The promises of the operations on a sighting book. Assumes nothing.
 --   station-listed                           the listing of sightings that `station` has accepted
+--   book-passed, by-station                  what an accepted book has passed; the reply to one whose lines are sightings
 --   book-joined                              joined-rightly of every accepted book
 --   listing-small                            no book's listing has more than 1,136 bytes
 --   too-short, too-long, broken, too-many, listed-as   `means` keeps its promise: with a buffer that is too short, of a book that is too long, has a malformed
@@ -11,7 +12,7 @@ use mathlib.Core.Path.{_≡_, sym, _∙_, ap, ap₂}
 use mathlib.Core.List.{List}
 use Prim.Native.Nat.{ℕ, _<_, _≤_}
 use native.Mathlib.Omega.{arith}
-use borrow.Author.Tests.{lt-ltb, le-ltb, le-leb, lt-leb}
+use borrow.Author.Tests.{lt-ltb, le-ltb, ltb-false, le-leb, lt-leb}
 use lib.Dec.{ltb}
 use lib.IntN.{ℤ}
 use lib.ListN.{length, take}
@@ -22,7 +23,7 @@ use Rattle.reply.specs.declared.Reply.{Reply}
 use Rattle.reply.specs.declared.Reply.the-variants.{Accepted, Refused}
 use Rattle.reply.specs.Checks.{refuseIf, _andThen_, leaves}
 use Rattle.reply.specs.Verdicts.{verdictOf}
-use Rattle.reply.proofs.Checking.{both-accepted}
+use Rattle.reply.proofs.Checking.{both-accepted, if-accepted}
 use Rattle.text.specs.Written.{Wrote}
 use Rattle.text.proofs.Putting.{one-wrote}
 use Rattle.page.specs.declared.Listed.{Listed}
@@ -51,14 +52,15 @@ station-listed {b} {d} {p} a e =
 
 module _ (file : List ℕ) where
   -- what an accepted book has passed
-  accepted-station : bookReply file ≡ Accepted → replyOf (bookOf file) 16 16 ≡ Accepted
+  pub book-passed : bookReply file ≡ Accepted → (length file ≤ 65535) × (linesReply file ≡ Accepted) × (replyOf (bookOf file) 16 16 ≡ Accepted)
   unfolding bookReply
-  accepted-station e =
-      both-accepted (linesReply file) (replyOf (bookOf file) 16 16)
-      (both-accepted (refuseIf (ltb 65535 (length file)) (Count 0)) (linesReply file andThen replyOf (bookOf file) 16 16) e .1) .1
+  book-passed e =
+      let a = both-accepted (refuseIf (ltb 65535 (length file)) (Count 0)) (linesReply file andThen replyOf (bookOf file) 16 16) e in
+      let b = both-accepted (linesReply file) (replyOf (bookOf file) 16 16) (a .1) in
+      (ltb-false 65535 (length file) (if-accepted (ltb 65535 (length file)) (Count 0) (a .0)), b .0, b .1)
 
   pub book-joined : bookReply file ≡ Accepted → JoinedRightly (bookOf file)
-  book-joined e = joined-rightly (bookOf file) 16 16 (accepted-station e)
+  book-joined e = joined-rightly (bookOf file) 16 16 (book-passed e .2)
 
   pub listing-small : length (bookListing file) ≤ 1136
   unfolding stationListing
@@ -72,7 +74,7 @@ module _ (file : List ℕ) where
     unfolding bookReply
     by-lines = rw (le-ltb 65535 (length file) l)
 
-    by-station : linesReply file ≡ Accepted → bookReply file ≡ replyOf (bookOf file) 16 16
+    pub by-station : linesReply file ≡ Accepted → bookReply file ≡ replyOf (bookOf file) 16 16
     by-station e = by-lines ∙ rw e
 
   over : 512 < linesIn file → replyOf (bookOf file) 16 16 ≡ Refused Sightings

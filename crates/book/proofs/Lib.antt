@@ -1,3 +1,5 @@
 pub mod Entering
 pub mod Composing
 pub mod Filing
+pub mod Ordering
+pub mod Figures

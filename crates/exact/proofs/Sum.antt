@@ -1,5 +1,6 @@
 -- Finite sums of whole numbers, over the numbers below n. Assumes nothing.
 --   sum-none, sum-next, sum-more      no term; one more term, at `suc n` and at `n + 1`
+--   sum-first                         the first term and the others
 --   sum-ext                           equal terms, equal sums
 --   sum-add, sum-mul, sum-swap        a sum of sums; a factor taken out; two sums exchanged
 --   sum-zero, sum-only                terms that are all 0; all but one
@@ -31,6 +32,14 @@ sum-next n f = refl
 pub sum-more : (n : ℕ) (f : ℕ → ℤ) → sum (n + 1) f ≡ sum n f +ℤ f n
 unfolding sum
 sum-more n f = rw add-one
+
+onto : (a b c : ℤ) → (a +ℤ b) +ℤ c ≡ a +ℤ (b +ℤ c)
+onto a b c = simp ring
+
+pub sum-first : (n : ℕ) (f : ℕ → ℤ) → sum (suc n) f ≡ f 0 +ℤ sum n (λ i. f (suc i))
+unfolding sum
+sum-first zero f = +ℤ-idl (f 0) ∙ sym (+ℤ-idr (f 0))
+sum-first (suc n) f = ap (λ (z : ℤ). z +ℤ f (suc n)) (sum-first n f) ∙ onto (f 0) (sum n (λ i. f (suc i))) (f (suc n))
 
 pub sum-ext : (n : ℕ) (f g : ℕ → ℤ) → ((i : ℕ) → i < n → f i ≡ g i) → sum n f ≡ sum n g
 unfolding sum
