@@ -1,48 +1,36 @@
-// Runs `station::means` on chosen books and prints what it answers: figures 9 and 10, the zero of the circle, 512 sightings in two shuffled
-// orders, every refusal at its first and last place, the limits and one past them, and the order of the checks. What it must print was worked
-// out apart from it.
-mod books;
-
-use books::Book;
+// Lends `station::means` what no sighting book can say: lists of unequal length, answer lists of another length than 16, and fields past a file's
+// eleven digits. It prints the reply and the answer lists as they are left, which held 7 everywhere: a refusal changes neither, and an answer fills
+// the 16 places of both, with 0 and 0 for an object never seen. What it must print was worked out apart from it. What a book can say is run by `books`.
 use reply::Reply;
 ghost use Prim.Native.Nat.{_≤_};
 
-// Direction and pairs of one object.
-fn show_object(direction: i64, pairs: i64) {
-    vectors::signed(direction);
-    vectors::text(b"/");
-    vectors::number(pairs);
-}
+const LEAST: i64 = -9_223_372_036_854_775_808;
 
-// And of all.
-fn show_answer(direction: &[i64; 17], pairs: &[i64; 17]) {
-    for j in 0..16 {
-        show_object(direction[j], pairs[j]);
-    }
-}
+const MOST: i64 = 9_223_372_036_854_775_807;
 
-fn show(r: Reply, direction: &[i64; 17], pairs: &[i64; 17]) {
-    match r {
-        Reply::Accepted => {
-            vectors::text(b"accepted");
-            show_answer(direction, pairs);
-        }
+fn tell(reply: Reply) {
+    match reply {
+        Reply::Accepted => vectors::text(b"accepted"),
         Reply::Refused(why) => {
             vectors::text(b"refused");
             vectors::number_and_place(why);
-            vectors::text(b", lists ");
-            vectors::number(direction[0]);
-            vectors::number(direction[15]);
-            vectors::number(pairs[0]);
-            vectors::number(pairs[15]);
         }
     }
-    vectors::text(b"\n");
 }
 
-// One run on lists of the given lengths. The answer lists hold 7s before; of a refusal the ends of both are printed.
+// An answer list, with the places behind what was lent of it.
+fn numbers(xs: &[i64; 17]) {
+    vectors::text(b";");
+    vectors::list(xs);
+}
+
+// Two sightings, the left face of the first object in position 1 at 0 and one that is given, in lists of these lengths.
 fn lend(
-    b: Book,
+    first: i64,
+    position: i64,
+    object: i64,
+    face: i64,
+    reading: i64,
     positions: usize,
     objects: usize,
     faces: usize,
@@ -50,149 +38,56 @@ fn lend(
     directions: usize,
     counts: usize,
 )
-    requires { ⌜ (positions ≤ 513) × ((objects ≤ 513) × ((faces ≤ 513) × ((readings ≤ 513) × ((directions ≤ 17) × (counts ≤ 17))))) ⌝ }
+    requires { ⌜ (positions ≤ 2) × ((objects ≤ 2) × ((faces ≤ 2) × ((readings ≤ 2) × ((directions ≤ 17) × (counts ≤ 17))))) ⌝ }
 {
-    let position = b.position;
-    let object = b.object;
-    let face = b.face;
-    let reading = b.reading;
+    let position_list = [1, position];
+    let object_list = [first, object];
+    let face_list = [0, face];
+    let reading_list = [0, reading];
     let mut direction = [7i64; 17];
     let mut pairs = [7i64; 17];
-    let r = station::means(
-        &position[..positions],
-        &object[..objects],
-        &face[..faces],
-        &reading[..readings],
+    let reply = station::means(
+        &position_list[..positions],
+        &object_list[..objects],
+        &face_list[..faces],
+        &reading_list[..readings],
         &mut direction[..directions],
         &mut pairs[..counts],
     );
-    show(r, &direction, &pairs);
-}
-
-// One run on the first n sightings of a book.
-fn run(b: Book, n: usize)
-    requires { ⌜ n ≤ 513 ⌝ }
-{
-    lend(b, n, n, n, n, 16, 16);
-}
-
-// Figures 9 and 10, the mean across the zero of the circle, negative sums, halves.
-fn small_books() {
-    run(books::four(0, 648004000, 144010000, 792016000), 4);
-    run(books::four(0, 648000000, 1295999999, 648000000), 4);
-    run(books::four(0, 648000000, 1, 648000002), 4);
-    run(books::eight(500, 648000500, 1295999500, 647999500), 8);
-    run(books::eight(0, 648000000, 1295999998, 647999999), 8);
-    run(books::eight(0, 648000000, 1, 648000001), 8);
-    run(books::eight(0, 648000000, 0, 648000001), 8);
-    run(
-        books::eight(1295999999, 648000000, 1295999999, 647999999),
-        8,
-    );
-}
-
-// 512 sightings, in two orders.
-fn whole_books() {
-    run(books::whole(true, 37, 11), 512);
-    run(books::whole(true, 101, 300), 512);
-}
-
-// 21, in each of its ways; a bad field with it does not come first.
-fn lengths() {
-    let b = books::whole(false, 1, 0);
-    run(b, 0);
-    run(b, 513);
-    lend(b, 511, 512, 512, 512, 16, 16);
-    lend(b, 512, 511, 512, 512, 16, 16);
-    lend(b, 512, 512, 513, 512, 16, 16);
-    lend(b, 512, 512, 512, 0, 16, 16);
-    lend(b, 512, 512, 512, 512, 15, 16);
-    lend(b, 512, 512, 512, 512, 16, 17);
-}
-
-// 22, at the first and the last sighting.
-fn fields() {
-    let b = books::whole(true, 37, 11);
-    run(books::with_position(b, 0, 0), 512);
-    run(books::with_position(b, 511, 17), 512);
-    run(books::with_object(b, 0, 17), 512);
-    run(books::with_object(b, 511, 0), 512);
-    run(books::with_face(b, 0, -1), 512);
-    run(books::with_face(b, 511, 2), 512);
-    run(books::with_reading(b, 0, -1), 512);
-    run(books::with_reading(b, 511, 1296000000), 512);
-    run(books::with_reading(b, 511, -9223372036854775808), 512);
-    run(books::with_position(b, 0, 9223372036854775807), 512);
-}
-
-// 23 and 24: a face doubled and so another missing, a face missing at the end, a position without object 1.
-fn pairs() {
-    let b = books::whole(true, 37, 11);
-    run(books::with_face(b, books::ordinal(0, 0, 0), 1), 512);
-    run(books::with_face(b, books::ordinal(1, 15, 15), 0), 512);
-    run(books::whole(false, 1, 0), 511);
-    run(books::two(1, 2), 2);
-    run(books::two(16, 2), 2);
-    run(books::with_object(books::two(16, 2), 1, 1), 2);
-}
-
-// 25: at most 60,000 either way, at the first and the last place.
-fn faces() {
-    let b = books::whole(false, 37, 11);
-    run(books::turned(b, 0, 0, 0, 60000), 512);
-    run(books::turned(b, 0, 0, 0, 60001), 512);
-    run(books::turned(b, 0, 0, 0, -60000), 512);
-    run(books::turned(b, 0, 0, 0, -60001), 512);
-    run(books::turned(b, 15, 15, 0, 60000), 512);
-    run(books::turned(b, 15, 15, 0, 60001), 512);
-    run(books::turned(b, 15, 15, 0, -60001), 512);
-}
-
-// 26: at most 120,000 either way, at the first and the last place; the base is of the lowest position; by object, then by position.
-fn spreads() {
-    let b = books::whole(false, 37, 11);
-    run(books::turned(b, 1, 1, 60000, 60000), 512);
-    run(books::turned(b, 1, 1, 60000, 60001), 512);
-    run(books::turned(b, 1, 1, -60000, -60000), 512);
-    run(books::turned(b, 1, 1, -60000, -60001), 512);
-    run(books::turned(b, 15, 15, 60000, 60001), 512);
-    run(books::turned(b, 15, 15, -60000, -60001), 512);
-    run(books::turned(b, 0, 1, 60001, 60001), 512);
-    run(
-        books::turned(books::turned(b, 1, 2, 60001, 60001), 4, 1, 60001, 60001),
-        512,
-    );
-}
-
-// Each check covers the whole list before the next.
-fn order() {
-    let b = books::whole(false, 37, 11);
-    run(
-        books::with_face(books::with_reading(b, 511, -1), books::ordinal(0, 0, 0), 1),
-        512,
-    );
-    run(
-        books::with_face(
-            books::turned(b, 0, 0, 0, 60001),
-            books::ordinal(1, 15, 15),
-            0,
-        ),
-        512,
-    );
-    run(
-        books::turned(books::turned(b, 1, 1, 60001, 60001), 15, 15, 0, 60001),
-        512,
-    );
-    run(books::with_face(books::two(1, 2), 1, 0), 2);
+    tell(reply);
+    numbers(&direction);
+    numbers(&pairs);
+    vectors::text(b"\n");
 }
 
 fn main() {
-    small_books();
-    whole_books();
-    lengths();
-    fields();
-    pairs();
-    faces();
-    spreads();
-    order();
+    // Accepted, in lists of one length; then 21, lists of unequal length.
+    lend(1, 1, 1, 1, 648000000, 2, 2, 2, 2, 16, 16);
+    lend(1, 1, 1, 1, 648000000, 1, 2, 2, 2, 16, 16);
+    lend(1, 1, 1, 1, 648000000, 2, 1, 2, 2, 16, 16);
+    lend(1, 1, 1, 1, 648000000, 2, 2, 1, 2, 16, 16);
+    lend(1, 1, 1, 1, 648000000, 2, 2, 2, 1, 16, 16);
+    lend(1, 1, 1, 1, 648000000, 2, 1, 1, 1, 16, 16);
+    lend(1, 1, 1, 1, 648000000, 1, 1, 1, 2, 16, 16);
+    lend(1, 1, 1, 1, 648000000, 0, 2, 2, 2, 16, 16);
+    // 21: answer lists of other lengths than 16.
+    lend(1, 1, 1, 1, 648000000, 2, 2, 2, 2, 15, 16);
+    lend(1, 1, 1, 1, 648000000, 2, 2, 2, 2, 17, 16);
+    lend(1, 1, 1, 1, 648000000, 2, 2, 2, 2, 16, 15);
+    lend(1, 1, 1, 1, 648000000, 2, 2, 2, 2, 16, 17);
+    lend(1, 1, 1, 1, 648000000, 2, 2, 2, 2, 17, 17);
+    lend(1, 1, 1, 1, 648000000, 2, 2, 2, 2, 0, 0);
+    // 22: the least and the greatest number, in each field.
+    lend(1, LEAST, 1, 1, 648000000, 2, 2, 2, 2, 16, 16);
+    lend(1, MOST, 1, 1, 648000000, 2, 2, 2, 2, 16, 16);
+    lend(LEAST, 1, 1, 1, 648000000, 2, 2, 2, 2, 16, 16);
+    lend(1, 1, MOST, 1, 648000000, 2, 2, 2, 2, 16, 16);
+    lend(1, 1, 1, LEAST, 648000000, 2, 2, 2, 2, 16, 16);
+    lend(1, 1, 1, MOST, 648000000, 2, 2, 2, 2, 16, 16);
+    lend(1, 1, 1, 1, LEAST, 2, 2, 2, 2, 16, 16);
+    lend(1, 1, 1, 1, MOST, 2, 2, 2, 2, 16, 16);
+    // 23, 24 and 25 leave the answer lists alone too.
+    lend(1, 1, 1, 0, 648000000, 2, 2, 2, 2, 16, 16);
+    lend(2, 1, 2, 1, 648000000, 2, 2, 2, 2, 16, 16);
+    lend(1, 1, 1, 1, 648060001, 2, 2, 2, 2, 16, 16);
 }
