@@ -39,15 +39,16 @@ extern "C" {
 /* The archive is made for computers whose lengths have 64 bits; a compiler for another one stops here. */
 typedef char molsadriu_lengths_have_64_bits[sizeof(size_t) == 8 ? 1 : -1];
 
-#define MOLSADRIU_CIRCLE 1296000000 /* C: the circle, in 0.001 second */
-#define MOLSADRIU_SIGHTINGS 512     /* most sightings at a station */
-#define MOLSADRIU_OBJECTS 16        /* objects of a station: the length of its two answer lists */
-#define MOLSADRIU_DIRECTIONS 64     /* most directions, m */
-#define MOLSADRIU_CONDITIONS 24     /* most conditions, n; also not above m */
-#define MOLSADRIU_TERMS 12          /* most terms of a condition */
-#define MOLSADRIU_FILE 65535        /* most bytes of a network file */
-#define MOLSADRIU_LISTING 6560      /* bytes that hold the listing of any network file */
-#define MOLSADRIU_REFUSED_LINE 52   /* bytes that hold any REFUSED line */
+#define MOLSADRIU_CIRCLE 1296000000    /* C: the circle, in 0.001 second */
+#define MOLSADRIU_SIGHTINGS 512        /* most sightings at a station */
+#define MOLSADRIU_OBJECTS 16           /* objects of a station: the length of its two answer lists */
+#define MOLSADRIU_DIRECTIONS 64        /* most directions, m */
+#define MOLSADRIU_CONDITIONS 24        /* most conditions, n; also not above m */
+#define MOLSADRIU_TERMS 12             /* most terms of a condition */
+#define MOLSADRIU_FILE 65535           /* most bytes of a file, network file or sighting book */
+#define MOLSADRIU_LISTING 6560         /* bytes that hold the listing of any network file */
+#define MOLSADRIU_STATION_LISTING 1136 /* bytes that hold the listing of any sighting book */
+#define MOLSADRIU_REFUSED_LINE 52      /* bytes that hold any REFUSED line */
 
 /* What a caller is told: number 0 and place 0 where the input is accepted, else the number and the place of the refusal.
  *
@@ -63,8 +64,9 @@ typedef char molsadriu_lengths_have_64_bits[sizeof(size_t) == 8 ? 1 : -1];
  *   6   weak row                                                            row
  *   7   correlate too large                                                 row
  *   8   remainder R too large                                               condition
- *  21   no sightings, over 512, or lists of unequal length                  0
- *  22   sighting field out of range                                         its ordinal
+ *  21   no sightings, over 512, or lists of unequal length;                 0
+ *       a wrong room for their means
+ *  22   sighting field out of range                                         its ordinal, in a sighting book its line
  *  23   a face missing or given more than once                              100 * position + object
  *  24   position without object 1                                           100 * position + 1
  *  25   faces over 60,000 apart                                             as 23
@@ -75,6 +77,22 @@ typedef struct molsadriu_verdict {
     uint64_t number;
     uint64_t place;
 } molsadriu_verdict;
+
+/* THE LISTING of a file that is accepted is lines of text, in this order. Tabs part the fields, and each line is ended by LF.
+ * Of a network file:
+ *   ADJ  m  n                  one line: how many directions, how many conditions
+ *   V    number  u  adjusted   for each direction, 1 to m: its number, its printed correction u and its adjusted direction (0 to C - 1),
+ *                              both in 0.001 second
+ *   K    condition  K  R  Q    for each condition, 1 to n: its number, its correlate K in millionths, and what is left of it, by the
+ *                              unrounded corrections (R) and by the printed ones (Q), both in 10^-10 of the condition's unit: of a
+ *                              second under A, of the sixth decimal of a logarithm under S
+ * Of a sighting book:
+ *   STA  sightings  objects    one line: how many sightings, how many objects were seen
+ *   O    object  direction  P  for each object that was seen, in their order: its number, its direction from the initial (0 to C - 1), in
+ *                              0.001 second, and the number of pairs that this comes from
+ * The listing of a file that is refused is one line:
+ *   REFUSED  number  place     as in the verdict
+ * Numbers are decimal, with no plus and no leading zero, and a minus in front where they are below 0. */
 
 /* Station means. In: one list for each field of the sightings, all of one length, 1 to 512, in any order of arrival: position (1 to
  * 16), object (1 to 16; 1 is the initial), face (0 left, 1 right) and reading (0 to C - 1). Out, in two lists of exactly 16: the
@@ -87,6 +105,17 @@ molsadriu_verdict molsadriu_station_means(
     const int64_t *reading, size_t reading_length,
     int64_t *direction, size_t direction_room,
     int64_t *pairs, size_t pairs_room);
+
+/* Station means of a sighting book. In: the bytes of the book, a line for each sighting: S, position, object, face and reading, parted by
+ * tabs and ended by LF. Out, where it is accepted: its listing in the first bytes of `out`, of which those after it stay as they were, and
+ * how many bytes it has, in the one number at `length`, which must not be null.
+ * Comes back: the verdict, 1, 2 or 21 to 26 where it refuses, and then `out` and the number at `length` stay as they were. A room below
+ * MOLSADRIU_STATION_LISTING is 21 at 0 before all else. A book of more than 65,535 bytes is 2 at 0, and is not read. A line that is no
+ * sighting is 1, wherever it stands, before all that the sightings themselves are refused for; no lines at all, or over 512, is 21 at 0. */
+molsadriu_verdict molsadriu_station_book(
+    const uint8_t *file, size_t file_length,
+    uint8_t *out, size_t out_room,
+    size_t *length);
 
 /* One condition's coefficients. In: the directions 1 to m (m from 1 to 64; each 0 to C - 1), their inverse weights q (1 to 10; m of
  * them), the letter of the condition, 'A' for angles or 'S' for sides, the target of an angle condition (0 to 12 C; not read under S),
@@ -139,17 +168,6 @@ molsadriu_verdict molsadriu_adjust_table(
     int64_t *correlates, size_t correlates_room,
     int64_t *remainders, size_t remainders_room,
     int64_t *misses, size_t misses_room);
-
-/* THE LISTING of a network file that is accepted is lines of text, in this order. Tabs part the fields, and each line is ended by LF.
- *   ADJ  m  n                  one line: how many directions, how many conditions
- *   V    number  u  adjusted   for each direction, 1 to m: its number, its printed correction u and its adjusted direction (0 to C - 1),
- *                              both in 0.001 second
- *   K    condition  K  R  Q    for each condition, 1 to n: its number, its correlate K in millionths, and what is left of it, by the
- *                              unrounded corrections (R) and by the printed ones (Q), both in 10^-10 of the condition's unit: of a
- *                              second under A, of the sixth decimal of a logarithm under S
- * The listing of a file that is refused is one line:
- *   REFUSED  number  place     as in the verdict
- * Numbers are decimal, with no plus and no leading zero, and a minus in front where they are below 0. */
 
 /* Adjusts a network file. In: the bytes of the file. Out, where it is accepted: its listing in the first bytes of `out`, of which those
  * after it stay as they were, and how many bytes it has, in the one number at `length`, which must not be null.

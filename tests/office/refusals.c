@@ -252,11 +252,7 @@ static void lines(void)
     free(file);
 }
 
-/* ---- a network file: figure 3 */
-static const char net[] = "D\t1\t216000000\t1\nD\t2\t216003000\t1\nD\t3\t215997000\t1\nC\tA\t648000000\nP\t0\t1\nP\t0\t2\nF\t216000000\n"
-                          "C\tA\t648000000\nP\t0\t2\nP\t0\t3\nF\t216000000\n";
-static const char listing[] = "ADJ\t3\t2\nV\t1\t-2000\t215998000\nV\t2\t-1000\t216002000\nV\t3\t1000\t215998000\n"
-                              "K\t1\t-2000000\t0\t0\nK\t2\t1000000\t0\t0\n";
+/* ---- buffers and lines */
 /* A buffer in a block of exactly its room, or of one byte where it has none; full of a byte that no listing has. */
 static uint8_t *buffer(size_t room)
 {
@@ -304,27 +300,78 @@ static void refused_lines(void)
     CHECK(molsadriu_refused_line(2, 0, NULL, 0) == 0);
 }
 
+/* ---- whole files, network files and sighting books alike */
+typedef struct {
+    molsadriu_verdict (*call)(const uint8_t *, size_t, uint8_t *, size_t, size_t *);
+    size_t room;       /* that a listing may need */
+    uint64_t disagree; /* the number for a smaller room, and for an empty file */
+} operation;
+
+static const operation adjusting = {molsadriu_adjust_file, MOLSADRIU_LISTING, 2},
+                       averaging = {molsadriu_station_book, MOLSADRIU_STATION_LISTING, 21};
+
+/* A file in a block of exactly its length. */
+static uint8_t *copy(const char *text)
+{
+    uint8_t *file = buffer(strlen(text));
+    memcpy(file, text, strlen(text));
+    return file;
+}
+
 /* An accepted file leaves its listing and the listing's length, and nothing else is changed. */
-static int adjusts(const uint8_t *file, size_t length, size_t room, const char *expected)
+static int accepts(const operation *o, const uint8_t *file, size_t length, size_t room, const char *expected)
 {
     uint8_t *out = buffer(room);
     size_t n = 4711;
-    int right = is(molsadriu_adjust_file(file, length, out, room, &n), 0, 0) && n == strlen(expected) && holds(out, room, expected, n);
+    int right = is(o->call(file, length, out, room, &n), 0, 0) && n == strlen(expected) && holds(out, room, expected, n);
     free(out);
     return right;
 }
 
 /* A refused one leaves the buffer and the length as they were. */
-static int refuses(const uint8_t *file, size_t length, size_t room, uint64_t number, uint64_t place)
+static int refuses(const operation *o, const uint8_t *file, size_t length, size_t room, uint64_t number, uint64_t place)
 {
     uint8_t *out = buffer(room);
     size_t n = 4711;
-    int right = is(molsadriu_adjust_file(file, length, out, room, &n), number, place) && n == 4711 && holds(out, room, "", 0);
+    int right = is(o->call(file, length, out, room, &n), number, place) && n == 4711 && holds(out, room, "", 0);
     free(out);
     return right;
 }
 
-/* The listing of either, and nothing else is changed. */
+/* An accepted file, with rooms that are too small, just enough and larger, and with lengths that the rules do not allow. */
+static void accepted_file(const operation *o, const char *text, const char *expected)
+{
+    const size_t length = strlen(text), small[4] = {0, 1, 100, o->room - 1}, too_long[2] = {MOLSADRIU_FILE + 1, SIZE_MAX};
+    uint8_t *file = copy(text);
+    for (size_t j = 0; j < 4; j++) CHECK(refuses(o, file, length, small[j], o->disagree, 0));
+    size_t n = 4711;
+    CHECK(is(o->call(file, length, NULL, 0, &n), o->disagree, 0) && n == 4711);
+    CHECK(accepts(o, file, length, o->room, expected));
+    CHECK(accepts(o, file, length, 4 * o->room, expected));
+    CHECK(refuses(o, NULL, 0, o->room, o->disagree, 0));
+    /* too long is seen before the file is read, and a small room before that */
+    for (size_t j = 0; j < 2; j++) {
+        CHECK(refuses(o, file, too_long[j], o->room, 2, 0));
+        CHECK(refuses(o, file, too_long[j], o->room - 1, o->disagree, 0));
+    }
+    free(file);
+}
+
+static void refused_file(const operation *o, const char *text, uint64_t number, uint64_t place)
+{
+    uint8_t *file = copy(text);
+    CHECK(refuses(o, file, strlen(text), o->room, number, place));
+    CHECK(refuses(o, file, strlen(text), o->room - 1, o->disagree, 0));
+    free(file);
+}
+
+/* ---- a network file: figure 3 */
+static const char net[] = "D\t1\t216000000\t1\nD\t2\t216003000\t1\nD\t3\t215997000\t1\nC\tA\t648000000\nP\t0\t1\nP\t0\t2\nF\t216000000\n"
+                          "C\tA\t648000000\nP\t0\t2\nP\t0\t3\nF\t216000000\n";
+static const char listing[] = "ADJ\t3\t2\nV\t1\t-2000\t215998000\nV\t2\t-1000\t216002000\nV\t3\t1000\t215998000\n"
+                              "K\t1\t-2000000\t0\t0\nK\t2\t1000000\t0\t0\n";
+
+/* The listing of an accepted file and of a refused one, and nothing else is changed. */
 static int lists(const uint8_t *file, size_t length, size_t room, const char *expected)
 {
     uint8_t *out = buffer(room);
@@ -334,58 +381,71 @@ static int lists(const uint8_t *file, size_t length, size_t room, const char *ex
     return right;
 }
 
-/* A refused file, in a block of exactly its length, by both operations. */
-static void refused_file(const char *text, uint64_t number, uint64_t place)
+/* A refused network file, by both operations. */
+static void refused_net(const char *text, uint64_t number, uint64_t place)
 {
-    const size_t length = strlen(text);
     char line[64];
-    uint8_t *file = buffer(length);
-    memcpy(file, text, length);
+    uint8_t *file = copy(text);
     refusal(line, number, place);
-    CHECK(refuses(file, length, MOLSADRIU_LISTING, number, place));
-    CHECK(refuses(file, length, MOLSADRIU_LISTING - 1, 2, 0));
-    CHECK(lists(file, length, MOLSADRIU_LISTING, line));
-    CHECK(lists(file, length, MOLSADRIU_LISTING - 1, ""));
+    refused_file(&adjusting, text, number, place);
+    CHECK(lists(file, strlen(text), MOLSADRIU_LISTING, line));
+    CHECK(lists(file, strlen(text), MOLSADRIU_LISTING - 1, ""));
     free(file);
 }
 
 static void network(void)
 {
     static const char too_long[] = "REFUSED\t2\t0\n";
-    const size_t length = sizeof net - 1;
-    uint8_t *file = buffer(length);
-    memcpy(file, net, length);
+    const size_t length = strlen(net);
+    uint8_t *file = copy(net);
+    accepted_file(&adjusting, net, listing);
     const size_t small[4] = {0, 1, 100, MOLSADRIU_LISTING - 1};
-    for (size_t j = 0; j < 4; j++) {
-        CHECK(refuses(file, length, small[j], 2, 0));
-        CHECK(lists(file, length, small[j], ""));
-    }
-    size_t n = 4711;
-    CHECK(is(molsadriu_adjust_file(file, length, NULL, 0, &n), 2, 0) && n == 4711);
+    for (size_t j = 0; j < 4; j++) CHECK(lists(file, length, small[j], ""));
     CHECK(molsadriu_list_file(file, length, NULL, 0) == 0);
-    const size_t enough[2] = {MOLSADRIU_LISTING, 4 * MOLSADRIU_LISTING};
-    for (size_t j = 0; j < 2; j++) {
-        CHECK(adjusts(file, length, enough[j], listing));
-        CHECK(lists(file, length, enough[j], listing));
-    }
-    /* a length that the rules do not allow is seen before the file is read */
-    const size_t amiss[3] = {0, MOLSADRIU_FILE + 1, SIZE_MAX};
-    for (size_t j = 0; j < 3; j++) {
-        CHECK(refuses(j == 0 ? NULL : file, amiss[j], MOLSADRIU_LISTING, 2, 0));
-        CHECK(lists(j == 0 ? NULL : file, amiss[j], MOLSADRIU_LISTING, too_long));
-    }
+    CHECK(lists(file, length, MOLSADRIU_LISTING, listing));
+    CHECK(lists(file, length, 4 * MOLSADRIU_LISTING, listing));
+    CHECK(lists(NULL, 0, MOLSADRIU_LISTING, too_long));
+    CHECK(lists(file, MOLSADRIU_FILE + 1, MOLSADRIU_LISTING, too_long));
+    CHECK(lists(file, SIZE_MAX, MOLSADRIU_LISTING, too_long));
     free(file);
-    /* every number of the table that a file can have */
-    refused_file("D\t1\t0\t1\nX\n", 1, 2);
-    refused_file("D\t1\t0\t1\nD\t3\t0\t1\n", 2, 2);
-    refused_file("D\t1\t0\t1\n", 2, 0);
-    refused_file("D\t1\t0\t1\nD\t2\t0\t11\n", 3, 2);
-    refused_file("D\t1\t0\t1\nC\tS\nL\t0\t2000\t0\t1\nL\t0\t1\t0\t1\n", 4, 1);
-    refused_file("D\t1\t0\t1\nC\tA\t1000001\nP\t1\t0\n", 5, 1);
-    refused_file("D\t1\t0\t1\nC\tS\nL\t0\t9\t0\t1\n", 6, 1);
-    refused_file("D\t1\t0\t1\nC\tS\nL\t11\t10\t0\t1\n", 7, 1);
-    refused_file("D\t1\t0\t10\nD\t2\t0\t10\nD\t3\t0\t10\nD\t4\t0\t10\nC\tS\n"
-                 "L\t2\t2000\t0\t1\nL\t0\t2000\t0\t2\nL\t0\t2000\t0\t3\nL\t0\t2000\t0\t4\n", 8, 1);
+    /* every number of the table that a network file can have */
+    refused_net("D\t1\t0\t1\nX\n", 1, 2);
+    refused_net("D\t1\t0\t1\nD\t3\t0\t1\n", 2, 2);
+    refused_net("D\t1\t0\t1\n", 2, 0);
+    refused_net("D\t1\t0\t1\nD\t2\t0\t11\n", 3, 2);
+    refused_net("D\t1\t0\t1\nC\tS\nL\t0\t2000\t0\t1\nL\t0\t1\t0\t1\n", 4, 1);
+    refused_net("D\t1\t0\t1\nC\tA\t1000001\nP\t1\t0\n", 5, 1);
+    refused_net("D\t1\t0\t1\nC\tS\nL\t0\t9\t0\t1\n", 6, 1);
+    refused_net("D\t1\t0\t1\nC\tS\nL\t11\t10\t0\t1\n", 7, 1);
+    refused_net("D\t1\t0\t10\nD\t2\t0\t10\nD\t3\t0\t10\nD\t4\t0\t10\nC\tS\n"
+                "L\t2\t2000\t0\t1\nL\t0\t2000\t0\t2\nL\t0\t2000\t0\t3\nL\t0\t2000\t0\t4\n", 8, 1);
+}
+
+/* ---- a sighting book: figure 9 */
+static void book(void)
+{
+    static const char sighting[] = "S\t1\t1\t0\t0\n";
+    static char many[(MOLSADRIU_SIGHTINGS + 1) * (sizeof sighting - 1) + 3];
+    accepted_file(&averaging, "S\t1\t1\t0\t0\nS\t1\t1\t1\t648004000\nS\t1\t2\t0\t144010000\nS\t1\t2\t1\t792016000\n",
+                  "STA\t4\t2\nO\t1\t0\t1\nO\t2\t144011000\t1\n");
+    /* every number of the table that a book can have */
+    refused_file(&averaging, "S\t1\t1\t0\t0\nX\n", 1, 2);
+    refused_file(&averaging, "S\t1\t1\t0\t0\n\n", 1, 2);
+    refused_file(&averaging, "S\t17\t1\t0\t0\nS\t1\t1\t0\t0", 1, 2);
+    refused_file(&averaging, "S\t1\t1\t0\t0\nS\t1\t1\t1\t1296000000\n", 22, 2);
+    refused_file(&averaging, "S\t1\t1\t0\t0\n", 23, 101);
+    refused_file(&averaging, "S\t1\t2\t0\t0\nS\t1\t2\t1\t648000000\n", 24, 101);
+    refused_file(&averaging, "S\t1\t1\t0\t0\nS\t1\t1\t1\t648060001\n", 25, 101);
+    refused_file(&averaging, "S\t1\t1\t0\t0\nS\t1\t1\t1\t648000000\nS\t1\t2\t0\t0\nS\t1\t2\t1\t648000000\n"
+                           "S\t2\t1\t0\t0\nS\t2\t1\t1\t648000000\nS\t2\t2\t0\t60001\nS\t2\t2\t1\t648060001\n", 26, 202);
+    /* one sighting 512 times, and once more; a line behind these that is none */
+    for (size_t n = 0; n <= MOLSADRIU_SIGHTINGS; n++) {
+        if (n == MOLSADRIU_SIGHTINGS) refused_file(&averaging, many, 23, 101);
+        strcat(many, sighting);
+    }
+    refused_file(&averaging, many, 21, 0);
+    strcat(many, "X\n");
+    refused_file(&averaging, many, 1, MOLSADRIU_SIGHTINGS + 2);
 }
 
 int main(void)
@@ -396,6 +456,7 @@ int main(void)
     lines();
     refused_lines();
     network();
+    book();
     printf("%u checks, %u failed\n", checks, failures);
     return failures != 0;
 }

@@ -5,6 +5,7 @@
  * reserved and never written are not seen. Each call is made once before, so that the work of the dynamic loader is not counted, and with
  * two colours of paint, so that a byte written in the one of them shows in the other. */
 #define _POSIX_C_SOURCE 200809L
+#include <inttypes.h>
 #include <pthread.h>
 #include <stdio.h>
 #include <stdlib.h>
@@ -100,6 +101,16 @@ static void station_means(void)
     answered = molsadriu_station_means(position, n, object, n, face, n, reading, n, direction, MOLSADRIU_OBJECTS, pairs, MOLSADRIU_OBJECTS).number;
 }
 
+/* and as a book */
+static uint8_t book[MOLSADRIU_FILE];
+static size_t book_length;
+
+static void station_book(void)
+{
+    HERE;
+    answered = molsadriu_station_book(book, book_length, out, sizeof out, &length).number;
+}
+
 /* ---- their input */
 static void fill(const char *name)
 {
@@ -123,6 +134,8 @@ static void fill(const char *name)
         object[n] = n / 2 % 16 + 1;
         face[n] = n % 2;
         reading[n] = (80000000 * object[n] + 5000000 * position[n] + MOLSADRIU_CIRCLE / 2 * face[n]) % MOLSADRIU_CIRCLE;
+        book_length += (size_t)sprintf((char *)book + book_length, "S\t%" PRId64 "\t%" PRId64 "\t%" PRId64 "\t%" PRId64 "\n",
+                                       position[n], object[n], face[n], reading[n]);
     }
     FILE *in = fopen(name, "rb");
     if (in == NULL) stop("the network file cannot be opened");
@@ -176,6 +189,7 @@ int main(int count, char **words)
     fill(words[1]);
     printf("bytes of stack, from the caller's frame down\n");
     measure("molsadriu_station_means", station_means, stack);
+    measure("molsadriu_station_book", station_book, stack);
     measure("molsadriu_coefficients", coefficients, stack);
     measure("molsadriu_misclosure", misclosure, stack);
     measure("molsadriu_adjust_table", adjust_table, stack);

@@ -6,6 +6,7 @@
 --   misclosure-shuts-out         of `condition::misclosure`: the same two
 --   table-shuts-out              of `adjustment::adjust`: figure 1 is accepted, figure 7 refused
 --   file-shuts-out               of `listing::adjust`: figure 3's file is accepted, one with a malformed line refused
+--   book-shuts-out               of `book::means`: figure 9 as a book is accepted, one with an unknown line refused
 use mathlib.Core.Path.{_≡_, refl, sym, _∙_, ap}
 use mathlib.Core.List.{List, [], _∷_}
 use Prim.Native.Nat.{ℕ, _≤_, _<_}
@@ -17,7 +18,7 @@ use Rattle.exact.proofs.Sum.{sum-ext, sum-zero}
 use Rattle.exact.proofs.Identity.{letters, polynomials, ring-by}
 use Rattle.exact.proofs.Bound.{abs-mul}
 use Rattle.reply.specs.declared.Refusal.{Refusal}
-use Rattle.reply.specs.declared.Refusal.the-variants.{Malformed, OutOfRange, Remainder, Sightings}
+use Rattle.reply.specs.declared.Refusal.the-variants.{Malformed, Count, OutOfRange, Remainder, Sightings}
 use Rattle.reply.specs.declared.Reply.{Reply}
 use Rattle.reply.specs.declared.Reply.the-variants.{Accepted, Refused}
 use Rattle.reply.specs.declared.Figure.{Figure}
@@ -35,10 +36,14 @@ use Rattle.adjustment.specs.Promise.{Answers as Lists, lists, Adjusts}
 use Rattle.adjustment.proofs.Figures.{Figure as Lent-table, figure1, figure7, figure-1, figure-7}
 use Rattle.page.specs.declared.Listed.{Listed}
 use Rattle.page.specs.Page.{inRoom}
+use Rattle.page.proofs.Printing.{roomy}
 use Rattle.listing.specs.File.{adjustFileReply, AdjustsFile}
 use Rattle.listing.specs.File.{fileReply}
 use Rattle.listing.proofs.Figure3.{file, figure-3}
 use Rattle.network.proofs.Figures.{broken, figures}
+use Rattle.book.specs.Lines.{bookReply}
+use Rattle.book.specs.File.{MeansOf}
+use Rattle.book.proofs.Figures.{book9, unknown, figure-9 as book-9, refusals}
 
 -- ---- all corrections zero
 zero-term : (a v : ℤ) → v ≡ pos 0 → a *ℤ v ≡ pos 0
@@ -116,16 +121,23 @@ pub table-shuts-out : ShutsOut {Input = Lent-table} {Left = Lists} Adjusted
 table-shuts-out = shut-out Adjusted figure1 figure7 (Remainder 1) accepts-figure-1 refuses-figure-7
 
 -- ---- the file
-abbrev buffer : List ℕ
-buffer = replicate 6560 0
+-- a buffer of n bytes
+abbrev blank : ℕ → List ℕ
+blank n = replicate n 0
 
--- it has room for any listing
-roomy : (f : List ℕ) → adjustFileReply f (length buffer) ≡ fileReply f
-unfolding adjustFileReply inRoom
-roomy f = ap (adjustFileReply f) (length-replicate {A = ℕ} 6560 0)
+abbrev buffer : List ℕ
+buffer = blank 6560
+
+-- one of as many bytes as the longest listing has room for any
+in-room : (why : Refusal) (most : ℕ) (reply : Reply) → inRoom why most (length (blank most)) reply ≡ reply
+in-room why most reply = roomy why most (length (blank most)) reply (omega (arith, length-replicate {A = ℕ} most 0))
+
+roomy-file : (f : List ℕ) → adjustFileReply f (length buffer) ≡ fileReply f
+unfolding adjustFileReply
+roomy-file f = in-room (Count 0) 6560 (fileReply f)
 
 pub accepts-figure-3 : (listed : Listed) (after : List ℕ) → AdjustsFile file buffer listed after → listed .reply ≡ Accepted
-accepts-figure-3 listed after a = a .lists .answer ∙ roomy file ∙ figure-3 .0
+accepts-figure-3 listed after a = a .lists .answer ∙ roomy-file file ∙ figure-3 .0
 
 malformed : fileReply broken ≡ Refused (Malformed 1)
 unfolding fileReply
@@ -135,4 +147,17 @@ pub file-shuts-out : ShutsOut {Input = List ℕ × List ℕ} {Left = ℕ × List
 file-shuts-out =
     shut-out _ (file, buffer) (broken, buffer) (Malformed 1)
     (λ reply left a. accepts-figure-3 (record { reply = reply; length = left .0 }) (left .1) a)
-    (λ reply left a. a .lists .answer ∙ roomy broken ∙ malformed)
+    (λ reply left a. a .lists .answer ∙ roomy-file broken ∙ malformed)
+
+-- ---- the sighting book
+abbrev small-buffer : List ℕ
+small-buffer = blank 1136
+
+pub accepts-book-9 : (listed : Listed) (after : List ℕ) → MeansOf book9 small-buffer listed after → listed .reply ≡ Accepted
+accepts-book-9 listed after a = a .lists .answer ∙ in-room Sightings 1136 (bookReply book9) ∙ book-9 .0
+
+pub book-shuts-out : ShutsOut {Input = List ℕ × List ℕ} {Left = ℕ × List ℕ} (λ x reply left. MeansOf (x .0) (x .1) (record { reply = reply; length = left .0 }) (left .1))
+book-shuts-out =
+    shut-out _ (book9, small-buffer) (unknown, small-buffer) (Malformed 1)
+    (λ reply left a. accepts-book-9 (record { reply = reply; length = left .0 }) (left .1) a)
+    (λ reply left a. a .lists .answer ∙ in-room Sightings 1136 (bookReply unknown) ∙ refusals .0)

@@ -1,5 +1,5 @@
-// Reads a network file whole, has `listing` make its listing, and writes that: what the adjusting program does, and the
-// program that runs the figures.
+// Reads a file whole, has its listing made, of a network file by `listing` and of a sighting book by `book`, and writes that: what
+// `adjust` and `means` do, and the programs that run the files kept as data.
 //
 // What cannot be done is said on standard error, a line for each file that opens with the program's name, and nothing else
 // is. A program has no exit status of its own, so the command that runs it goes by these lines.
@@ -12,6 +12,12 @@ ghost use Rattle.lister.specs.Input.{Within};
 
 // One byte more than the longest file has, so that a longer one is seen by its length, however long it is.
 const ROOM: usize = 65536;
+
+// What the files of a call are, all of them alike: nothing in a file says it.
+pub enum Files {
+    Networks,
+    Books,
+}
 
 // How many bytes came, or that a read failed.
 enum Input {
@@ -63,20 +69,30 @@ fn read_whole(fd: i32, buf: &mut [u8]) -> Input
     Input::Bytes(done)
 }
 
-// Writes the listing of a file. Answers whether all of it was written.
-fn write_listing(file: &[u8]) -> bool {
+// The listing of a file, into a lent buffer; how many bytes it has.
+fn list(files: Files, file: &[u8], out: &mut [u8]) -> usize
+    ensures { λ r. ⌜ r ≤ length (now (out .exit)) ⌝ }
+{
+    match files {
+        Files::Networks => listing::list(file, out),
+        Files::Books => book::list(file, out),
+    }
+}
+
+// Writes the listing of a file. Answers whether all of it was written. The buffer is for the longest listing of all, that of a net.
+fn write_listing(files: Files, file: &[u8]) -> bool {
     let mut out = [0u8; listing::LISTING];
-    let n = listing::list(file, &mut out);
+    let n = list(files, file, &mut out);
     io::write_all(STDOUT_FILENO, &out[..n])
 }
 
 // A file that is open. One that was read in part has no listing.
-pub fn list_open(fd: i32) -> Outcome {
+pub fn list_open(fd: i32, files: Files) -> Outcome {
     let mut file = [0u8; ROOM];
     let Input::Bytes(n) = read_whole(fd, &mut file) else {
         return Outcome::Unread;
     };
-    if write_listing(&file[..n]) {
+    if write_listing(files, &file[..n]) {
         Outcome::Listed
     } else {
         Outcome::Unwritten
@@ -113,7 +129,7 @@ fn write_heading(name: &[u8]) {
 }
 
 // The file of that name, under a line with the name where it is headed. Answers whether to go on.
-fn list_named(program: &[u8], headed: bool, name: &[u8]) -> bool {
+fn list_named(program: &[u8], headed: bool, files: Files, name: &[u8]) -> bool {
     if headed {
         write_heading(name);
     }
@@ -122,27 +138,27 @@ fn list_named(program: &[u8], headed: bool, name: &[u8]) -> bool {
         say(program, b"open ", name);
         return true;
     }
-    let outcome = list_open(fd);
+    let outcome = list_open(fd, files);
     libc::close(fd);
     report(program, outcome, name)
 }
 
 // The file that argument i names. A name that the buffer cannot hold is longer than any file's: its first bytes fill the
 // buffer, and they do not open either.
-fn list_argument(program: &[u8], headed: bool, i: usize) -> bool {
+fn list_argument(program: &[u8], headed: bool, files: Files, i: usize) -> bool {
     let mut name = io::buffer();
     let n = os::arg(i, &mut name);
     if os::errno() == libc::ENAMETOOLONG {
-        return list_named(program, headed, &name);
+        return list_named(program, headed, files, &name);
     }
-    list_named(program, headed, &name[..n])
+    list_named(program, headed, files, &name[..n])
 }
 
 // The files that the arguments name, in turn. Argument 0 is the program's own name.
-pub fn list_arguments(program: &[u8], headed: bool) {
+pub fn list_arguments(program: &[u8], headed: bool, files: Files) {
     let count = os::arg_count();
     let mut i: usize = 1;
-    while i < count && list_argument(program, headed, i) {
+    while i < count && list_argument(program, headed, files, i) {
         i += 1;
     }
 }

@@ -2,7 +2,8 @@
 --   Refuses, reply-refuses                 the number is not 0; the reply is then a refusal
 --   means-left, table-left                 the answer lists of station means and of a table
 --   coefficients-left, misclosure-left     the list, and the number, of one condition
---   file-left                              the buffer of a file, and the number lent for its length
+--   told-left                              the buffer of any file that has been listed, and the number lent for its length
+--   book-left, file-left                   those of a sighting book, and of a network file
 use mathlib.Core.Path.{_≡_, refl, _∙_, ap, subst}
 use mathlib.Core.List.{List}
 use Prim.Native.Nat.{ℕ}
@@ -24,10 +25,9 @@ use Rattle.condition.specs.Rules.{Lent, coefficientsReply}
 use Rattle.condition.proofs.Answering.{kept}
 use Rattle.adjustment.specs.Promise.{Answers as Lists, adjustReply, Adjusts}
 use Rattle.adjustment.proofs.Promising.{refusal-leaves-lists as table-kept}
-use Rattle.listing.specs.File.{adjustFileReply}
 use Rattle.office.specs.declared.Heading.{Heading}
 use Rattle.office.specs.declared.Heading.the-variants.{Named, Unknown}
-use Rattle.office.specs.Promises.{Means, Coefficients, Misclosed, Table, File}
+use Rattle.office.specs.Promises.{Means, Coefficients, Misclosed, Table, ToldBy, SightingBook, File}
 use Rattle.office.specs.Terms.{coefficientsReplyUnder, coefficientsListUnder, misclosureUnder}
 
 abbrev pub Refuses : Verdict → Type 0
@@ -63,6 +63,12 @@ misclosure-left h l before after v c refuses = c .number ∙ under (misclosureUn
     under (Value w) told = absurd (refuses (ap (λ (v : Verdict). v .number) told))
     under (NoFigure why) told = refl
 
+told-left : (rule : Reply) (listing before after : List ℕ) (n m : ℕ) (v : Verdict) → ToldBy rule listing before n v after m → Refuses v → (after ≡ before) × (m ≡ n)
+told-left rule listing before after n m v t refuses =
+    let r = reply-refuses rule (t .verdict) refuses in (rw (r .is) at (t .buffer), rw (r .is) at (t .number))
+
+pub book-left : (file before after : List ℕ) (n m : ℕ) (v : Verdict) → SightingBook file before n v after m → Refuses v → (after ≡ before) × (m ≡ n)
+book-left file before after n m v b refuses = told-left _ _ before after n m v (b .told) refuses
+
 pub file-left : (file before after : List ℕ) (n m : ℕ) (v : Verdict) → File file before n v after m → Refuses v → (after ≡ before) × (m ≡ n)
-file-left file before after n m v f refuses =
-    let r = reply-refuses (adjustFileReply file (length before)) (f .verdict) refuses in (rw (r .is) at (f .buffer), rw (r .is) at (f .number))
+file-left file before after n m v f refuses = told-left _ _ before after n m v (f .told) refuses

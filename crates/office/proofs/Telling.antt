@@ -1,7 +1,8 @@
 -- What the library promises of a reply is what C is promised of the verdict on it. Assumes nothing.
 --   means-told           of station means
 --   table-told           of the adjustment of a table
---   file-told            of the adjustment of a file, and the length that was lent
+--   listed-told          of any file that has been listed, and the length that was lent
+--   book-told, file-told of a sighting book, and of a network file
 use mathlib.Core.Path.{_≡_, refl, _∙_, ap, subst}
 use mathlib.Core.List.{List}
 use Prim.Native.Nat.{ℕ}
@@ -17,8 +18,10 @@ use Rattle.station.specs.Sightings.{Book}
 use Rattle.station.specs.Replies.{Answers}
 use Rattle.adjustment.specs.Promise.{Answers as Lists, Adjusts}
 use Rattle.page.specs.declared.Listed.{Listed}
-use Rattle.listing.specs.File.{fileListing, AdjustsFile}
-use Rattle.office.specs.Promises.{Means, Table, File}
+use Rattle.page.specs.Page.{ListedBy}
+use Rattle.listing.specs.File.{AdjustsFile}
+use Rattle.book.specs.File.{MeansOf}
+use Rattle.office.specs.Promises.{Means, Table, ToldBy, SightingBook, File}
 
 module _ (v : Verdict) (r : Reply) (told : v ≡ verdictOf r) where
   pub means-told : (b : Book) (d p D P : List ℤ) → Answers b d p r D P → Means b d p v D P
@@ -29,16 +32,21 @@ module _ (v : Verdict) (r : Reply) (told : v ≡ verdictOf r) where
   table-told ds qs cs ws lent left a =
       record { verdict = told ∙ ap verdictOf (a .answer); lists = subst (λ (r : Reply). Adjusts ds qs cs ws lent r left) (a .answer) a }
 
-pub file-told : {v : Verdict} {listed : Listed} (file before after : List ℕ) (lengthBefore lengthAfter : ℕ) → v ≡ verdictOf (listed .reply) → lengthAfter ≡ leaves (listed .reply) (listed .length) lengthBefore
-    → AdjustsFile file before listed after → File file before lengthBefore v after lengthAfter
-file-told {v} {listed} file before after lengthBefore lengthAfter told left a =
-    let e = a .lists .answer in record {
-      verdict = told ∙ ap verdictOf e;
-      buffer = a .lists .buffer ∙ ap (λ (r : Reply). leaves r (sets before 0 (fileListing file)) before) e;
-      number = left ∙ by-reply (listed .reply) (a .lists .length-is) ∙ ap (λ (r : Reply). leaves r (length (fileListing file)) lengthBefore) e;
-      demand3 = λ f. a .demand3 (e ∙ f);
-    }
-  where
-    by-reply : (r : Reply) → listed .length ≡ leaves r (length (fileListing file)) 0 → leaves r (listed .length) lengthBefore ≡ leaves r (length (fileListing file)) lengthBefore
-    by-reply Accepted f = f
-    by-reply (Refused why) f = refl
+module _ {v : Verdict} {listed : Listed} {before after : List ℕ} {n m : ℕ} (told : v ≡ verdictOf (listed .reply)) (left : m ≡ leaves (listed .reply) (listed .length) n) where
+  listed-told : {rule : Reply} {listing : List ℕ} → ListedBy rule listing before listed after → ToldBy rule listing before n v after m
+  listed-told {rule} {listing} a =
+      let e = a .answer in record {
+        verdict = told ∙ ap verdictOf e;
+        buffer = a .buffer ∙ ap (λ (r : Reply). leaves r (sets before 0 listing) before) e;
+        number = left ∙ by-reply (listed .reply) (a .length-is) ∙ ap (λ (r : Reply). leaves r (length listing) n) e;
+      }
+    where
+      by-reply : (r : Reply) → listed .length ≡ leaves r (length listing) 0 → leaves r (listed .length) n ≡ leaves r (length listing) n
+      by-reply Accepted f = f
+      by-reply (Refused why) f = refl
+
+  pub book-told : (file : List ℕ) → MeansOf file before listed after → SightingBook file before n v after m
+  book-told file a = record { told = listed-told (a .lists); joined = λ f. a .joined (a .lists .answer ∙ f) }
+
+  pub file-told : (file : List ℕ) → AdjustsFile file before listed after → File file before n v after m
+  file-told file a = record { told = listed-told (a .lists); demand3 = λ f. a .demand3 (a .lists .answer ∙ f) }

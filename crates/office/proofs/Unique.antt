@@ -1,5 +1,6 @@
 -- The promises leave nothing open: two answers, with what was lent afterwards, that keep one promise are equal. Assumes nothing.
---   one-means, one-coefficients, one-misclosure, one-table, one-file, one-length, one-status      of the function of that name
+--   one-means, one-coefficients, one-misclosure, one-table, one-book, one-file, one-length, one-status      of the function of that name
+--   one-told                                     of any file that has been listed
 --   (of `molsadriu_refused_line` and `molsadriu_list_file`: page's one-refused-line and listing's one-listing)
 use mathlib.Core.Path.{_≡_}
 use mathlib.Core.List.{List}
@@ -7,6 +8,7 @@ use Prim.Native.Nat.{ℕ}
 use lib.IntN.{ℤ}
 use lib.ListN.{length}
 use Rattle.exact.proofs.Unique.{only}
+use Rattle.reply.specs.declared.Reply.{Reply}
 use Rattle.reply.specs.declared.Verdict.{Verdict}
 use Rattle.station.specs.Sightings.{Book}
 use Rattle.station.proofs.Uniqueness.{same-answers}
@@ -16,7 +18,7 @@ use Rattle.adjustment.specs.Promise.{Answers as Lists}
 use Rattle.adjustment.proofs.Promising.{only-reply}
 use Rattle.text.specs.Lines.{lineAt, statusAt}
 use Rattle.office.specs.declared.Heading.{Heading}
-use Rattle.office.specs.Promises.{Means, Coefficients, Misclosed, Table, File}
+use Rattle.office.specs.Promises.{Means, Coefficients, Misclosed, Table, ToldBy, SightingBook, File}
 use Rattle.office.specs.Statuses.{statusNumber}
 
 pub one-means : (b : Book) (d p : List ℤ) (v v′ : Verdict) (D D′ P P′ : List ℤ) → Means b d p v D P → Means b d p v′ D′ P′ → (v ≡ v′) × ((D ≡ D′) × (P ≡ P′))
@@ -37,5 +39,11 @@ one-length file start n n′ x y = only x y
 pub one-status : (file : List ℕ) (start s s′ : ℕ) → s ≡ statusNumber (statusAt file start) → s′ ≡ statusNumber (statusAt file start) → s ≡ s′
 one-status file start s s′ x y = only x y
 
+one-told : (rule : Reply) (listing before : List ℕ) (n : ℕ) (v v′ : Verdict) (after after′ : List ℕ) (m m′ : ℕ) → ToldBy rule listing before n v after m → ToldBy rule listing before n v′ after′ m′ → (v ≡ v′) × ((after ≡ after′) × (m ≡ m′))
+one-told rule listing before n v v′ after after′ m m′ x y = (only (x .verdict) (y .verdict), (only (x .buffer) (y .buffer), only (x .number) (y .number)))
+
+pub one-book : (file before : List ℕ) (n : ℕ) (v v′ : Verdict) (after after′ : List ℕ) (m m′ : ℕ) → SightingBook file before n v after m → SightingBook file before n v′ after′ m′ → (v ≡ v′) × ((after ≡ after′) × (m ≡ m′))
+one-book file before n v v′ after after′ m m′ x y = one-told _ _ before n v v′ after after′ m m′ (x .told) (y .told)
+
 pub one-file : (file before : List ℕ) (n : ℕ) (v v′ : Verdict) (after after′ : List ℕ) (m m′ : ℕ) → File file before n v after m → File file before n v′ after′ m′ → (v ≡ v′) × ((after ≡ after′) × (m ≡ m′))
-one-file file before n v v′ after after′ m m′ x y = (only (x .verdict) (y .verdict), (only (x .buffer) (y .buffer), only (x .number) (y .number)))
+one-file file before n v v′ after after′ m m′ x y = one-told _ _ before n v v′ after after′ m m′ (x .told) (y .told)

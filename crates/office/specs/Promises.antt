@@ -6,16 +6,20 @@ use Prim.Native.Nat.{ℕ}
 use lib.IntN.{ℤ}
 use lib.ListN.{length}
 use lib.Seq.{sets}
+use Rattle.reply.specs.declared.Reply.{Reply}
 use Rattle.reply.specs.declared.Reply.the-variants.{Accepted}
 use Rattle.reply.specs.declared.Verdict.{Verdict}
 use Rattle.reply.specs.Checks.{leaves, figureReply, figureLeaves}
 use Rattle.reply.specs.Verdicts.{verdictOf}
 use Rattle.station.specs.Sightings.{Book}
 use Rattle.station.specs.Replies.{replyOf, Answers}
+use Rattle.station.specs.Pairs.{JoinedRightly}
 use Rattle.condition.specs.declared.Kind.{Kind}
 use Rattle.condition.specs.Rules.{Lent}
 use Rattle.adjustment.specs.Promise.{Answers as Lists, adjustReply, Adjusts}
 use Rattle.listing.specs.File.{fileListing, FileDemand3, adjustFileReply}
+use Rattle.book.specs.Lines.{bookOf}
+use Rattle.book.specs.File.{bookListing, meansReply}
 use Rattle.office.specs.declared.Heading.{Heading}
 use Rattle.office.specs.Terms.{coefficientsReplyUnder, coefficientsListUnder, misclosureUnder}
 
@@ -35,8 +39,16 @@ pub record Table (ds qs cs ws : List ℤ) (lent : Lists) (v : Verdict) (left : L
   pub verdict : v ≡ verdictOf (adjustReply ds qs cs ws lent)
   pub lists : Adjusts ds qs cs ws lent (adjustReply ds qs cs ws lent) left
 
+-- ---- of a whole file, by the rules' reply to it and its listing: that stands at the start of the lent buffer, and its length in the lent number
+pub record ToldBy (rule : Reply) (listing before : List ℕ) (lengthBefore : ℕ) (v : Verdict) (after : List ℕ) (lengthAfter : ℕ) : Type 0 where
+  pub verdict : v ≡ verdictOf rule
+  pub buffer : after ≡ leaves rule (sets before 0 listing) before
+  pub number : lengthAfter ≡ leaves rule (length listing) lengthBefore
+
+pub record SightingBook (file before : List ℕ) (lengthBefore : ℕ) (v : Verdict) (after : List ℕ) (lengthAfter : ℕ) : Type 0 where
+  pub told : ToldBy (meansReply file (length before)) (bookListing file) before lengthBefore v after lengthAfter
+  pub joined : meansReply file (length before) ≡ Accepted → JoinedRightly (bookOf file)
+
 pub record File (file before : List ℕ) (lengthBefore : ℕ) (v : Verdict) (after : List ℕ) (lengthAfter : ℕ) : Type 0 where
-  pub verdict : v ≡ verdictOf (adjustFileReply file (length before))
-  pub buffer : after ≡ leaves (adjustFileReply file (length before)) (sets before 0 (fileListing file)) before
-  pub number : lengthAfter ≡ leaves (adjustFileReply file (length before)) (length (fileListing file)) lengthBefore
+  pub told : ToldBy (adjustFileReply file (length before)) (fileListing file) before lengthBefore v after lengthAfter
   pub demand3 : adjustFileReply file (length before) ≡ Accepted → FileDemand3 file

@@ -3,16 +3,19 @@
 ghost use mathlib.Core.Path.{_≡_};
 ghost use Prim.Native.Nat.{_≤_};
 ghost use lib.ListN.{length, take, drop};
+ghost use Rattle.reply.specs.Checks.{leaves};
+ghost use Rattle.reply.specs.Verdicts.{verdictOf};
 ghost use Rattle.station.specs.Sightings.{book};
 ghost use Rattle.adjustment.specs.Promise.{lists};
 ghost use Rattle.text.specs.Lines.{lineAt, statusAt};
 ghost use Rattle.text.specs.Written.{Wrote};
 ghost use Rattle.page.specs.Page.{refusedLineIn};
 ghost use Rattle.listing.specs.File.{listingIn};
-ghost use Rattle.office.specs.Promises.{Means, Coefficients, Misclosed, Table, File};
+ghost use Rattle.office.specs.Promises.{Means, SightingBook, Coefficients, Misclosed, Table, File};
 ghost use Rattle.office.specs.Terms.{headingOf, termsOf};
 ghost use Rattle.office.specs.Statuses.{statusNumber};
 use condition::Kind;
+use page::Listed;
 use reply::Figure;
 use reply::Refusal;
 use reply::Reply;
@@ -38,6 +41,19 @@ fn kind_named(letter: u8) -> Heading
     }
 }
 
+// What C is told of a file that has been listed. The listing's length goes into the lent number where the file was accepted.
+fn tell_listed(listed: Listed, length: &mut usize) -> Verdict
+    ensures verdict { λ v. ⌜ v ≡ verdictOf (listed .reply) ⌝ }
+    ensures number { λ _. ⌜ now (length .exit) ≡ leaves (listed .reply) (listed .length) (now (length .entry)) ⌝ }
+{
+    let reply = listed.reply;
+    if let Reply::Refused(why) = reply {
+        return reply::refuse(why);
+    }
+    *length = listed.length;
+    reply::tell(Reply::Accepted)
+}
+
 // Station means: the direction and the number of pairs of each object, into two lent lists of 16.
 #[no_mangle]
 pub extern "C" fn molsadriu_station_means(
@@ -53,6 +69,15 @@ pub extern "C" fn molsadriu_station_means(
 {
     let reply = station::means(position, object, face, reading, direction, pairs);
     reply::tell(reply)
+}
+
+// Station means of a sighting book: the listing of an accepted one, into a lent buffer of at least 1,136 bytes, and its length, into one lent number.
+#[no_mangle]
+pub extern "C" fn molsadriu_station_book(file: &[u8], out: &mut [u8], length: &mut usize) -> Verdict
+    ensures { λ v. ⌜ SightingBook (now (file .entry)) (now (out .entry)) (now (length .entry)) v (now (out .exit)) (now (length .exit)) ⌝ }
+{
+    let listed = book::means(file, out);
+    tell_listed(listed, length)
 }
 
 // The coefficients of one condition, into a lent list of as many numbers as there are directions.
@@ -155,12 +180,7 @@ pub extern "C" fn molsadriu_adjust_file(file: &[u8], out: &mut [u8], length: &mu
     ensures { λ v. ⌜ File (now (file .entry)) (now (out .entry)) (now (length .entry)) v (now (out .exit)) (now (length .exit)) ⌝ }
 {
     let listed = listing::adjust(file, out);
-    let reply = listed.reply;
-    if let Reply::Refused(why) = reply {
-        return reply::refuse(why);
-    }
-    *length = listed.length;
-    reply::tell(Reply::Accepted)
+    tell_listed(listed, length)
 }
 
 // The REFUSED line of a refusal's number and place, into a lent buffer of at least 52 bytes, and how many bytes it has.

@@ -6,11 +6,11 @@
 --   two-bytes, two-on, short-line               in a file: two bytes and the rest, the LF behind them, fewer than two
 --   behind-short, behind-other, behind-no-tab   no numbers behind the letter, by the first two bytes
 --   behind-place, behind-row, behind-end        the letter and a tab: a row stands behind them
---   no-answer                                   the answer where there are no such numbers
+--   no-answer, behind-told, no-behind-told      the answer where there are no such numbers; the numbers, by the answer
 use mathlib.Core.Path.{_≡_, refl, _∙_, ap}
 use mathlib.Core.Bool.{Bool, true, false, cond}
 use mathlib.Core.List.{List, [], _∷_}
-use mathlib.Core.Option.{Option, none}
+use mathlib.Core.Option.{none, some}
 use Prim.Native.Nat.{ℕ, zero, suc, _+_, _-_, _<_, _≤_}
 use native.Mathlib.Omega.{arith}
 use borrow.Author.Tests.{ltb-true, eq-eqb, ne-eqb, eqb-true}
@@ -22,9 +22,10 @@ use Rattle.text.specs.Parts.{bytesBefore, placeFrom, onFirst, parted}
 use Rattle.text.specs.Lines.{LF, lineAt}
 use Rattle.text.specs.Fields.{TAB, fieldsOf, fieldAt, letterOf}
 use Rattle.text.specs.Numbers.{upTo}
-use Rattle.text.specs.Rows.{numbersIn, behindLetter, rowAt, behindAt, endOf, rowEnd, rowValues}
-use Rattle.text.specs.declared.row.RowEnd.the-variants.{NoRow}
+use Rattle.text.specs.Rows.{numbersIn, behindLetter, rowAt, behindAt, endOf, rowEnd, behindEnd, rowValues}
+use Rattle.text.specs.declared.row.RowEnd.the-variants.{Next, NoRow}
 use Rattle.text.proofs.Parting.{place-next}
+use Rattle.text.proofs.Rowing.{told-some, told-none}
 
 abbrev pub firstLetter : List ℕ → ℕ
 firstLetter line = letterOf (getD (fieldsOf line) 0 [])
@@ -203,10 +204,21 @@ module _ (file : List ℕ) (start letter count : ℕ) (plain : 10 < letter) wher
         unfolding behindAt rowAt lineAt
         behind-row = rw (← behind-place) (row-by found)
 
-        pub behind-end : rowEnd file (start + 2) count ≡ endOf (behindAt file start letter count) (placeFrom LF file start + 1)
-        unfolding rowEnd
+        pub behind-end : rowEnd file (start + 2) count ≡ behindEnd file start letter count
+        unfolding rowEnd behindEnd
         behind-end = rw (behind-row, behind-place)
 
-pub no-answer : {o : Option (List ℤ)} → o ≡ none → (next : ℕ) (xs : List ℤ) → (NoRow ≡ endOf o next) × (xs ≡ rowValues o xs)
-unfolding endOf rowValues
-no-answer e next xs = (rw e, rw e)
+-- ---- the answer
+module _ (file : List ℕ) (start letter count : ℕ) where
+  pub no-answer : behindAt file start letter count ≡ none → (xs : List ℤ) → (NoRow ≡ behindEnd file start letter count) × (xs ≡ rowValues (behindAt file start letter count) xs)
+  unfolding behindEnd endOf rowValues
+  no-answer e xs = (rw e, rw e)
+
+  pub behind-told : (next : ℕ) (xs : List ℤ) → behindEnd file start letter count ≡ Next next → xs ≡ rowValues (behindAt file start letter count) xs
+      → (behindAt file start letter count ≡ some xs) × (next ≡ placeFrom LF file start + 1)
+  unfolding behindEnd
+  behind-told next xs e v = told-some (behindAt file start letter count) (placeFrom LF file start + 1) next xs e v
+
+  pub no-behind-told : behindEnd file start letter count ≡ NoRow → behindAt file start letter count ≡ none
+  unfolding behindEnd
+  no-behind-told e = told-none (behindAt file start letter count) (placeFrom LF file start + 1) e

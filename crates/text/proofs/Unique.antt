@@ -1,7 +1,7 @@
 -- The promises leave nothing open: two answers that meet one promise are equal. Assumes nothing.
 --   one-line, one-status      of `line` and of `line_status`, for every file and every start
 --   one-number, one-place     of `read_to`, for every text and start
---   one-row                   of `row::read`, for every file and start
+--   one-row, one-behind       of `row::read` and of `row::read_behind`, for every file and start
 use mathlib.Core.Path.{_≡_}
 use mathlib.Core.List.{List}
 use Prim.Native.Nat.{ℕ, _+_}
@@ -9,7 +9,7 @@ use Rattle.exact.proofs.Unique.{only}
 use Rattle.text.specs.Parts.{placeFrom}
 use Rattle.text.specs.Lines.{lineAt, statusAt}
 use Rattle.text.specs.Numbers.{numberTo}
-use Rattle.text.specs.Rows.{rowEnd}
+use Rattle.text.specs.Rows.{rowEnd, behindEnd}
 use Rattle.text.specs.declared.line.LineStatus.{LineStatus}
 use Rattle.text.specs.declared.number.Number.{Number}
 use Rattle.text.specs.declared.row.RowEnd.{RowEnd}
@@ -29,3 +29,6 @@ one-place ending text start n k = only
 
 pub one-row : (file : List ℕ) (start count : ℕ) (a b : RowEnd) → a ≡ rowEnd file start count → b ≡ rowEnd file start count → a ≡ b
 one-row file start count a b = only
+
+pub one-behind : (file : List ℕ) (start letter count : ℕ) (a b : RowEnd) → a ≡ behindEnd file start letter count → b ≡ behindEnd file start letter count → a ≡ b
+one-behind file start letter count a b = only

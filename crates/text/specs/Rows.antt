@@ -32,6 +32,11 @@ numbersIn (suc k) (field ∷ fields) = before (numeral field) (numbersIn k field
 unfoldable pub behindLetter : (letter count : ℕ) (line : List ℕ) → Option (List ℤ)
 behindLetter letter count line = cond (eqb (letterOf (fieldAt line 0)) letter) (numbersIn count (drop 1 (fieldsOf line))) none
 
+-- the numbers of a row; where there is none, whatever else
+unfoldable pub rowValues : Option (List ℤ) → List ℤ → List ℤ
+rowValues (some zs) other = zs
+rowValues none other = other
+
 -- ---- what inner functions hand each other
 -- the numbers of the line at a start; none, where no LF follows
 unfoldable pub rowAt : (file : List ℕ) (start count : ℕ) → Option (List ℤ)
@@ -48,7 +53,5 @@ endOf none next = NoRow
 unfoldable pub rowEnd : (file : List ℕ) (start count : ℕ) → RowEnd
 rowEnd file start count = endOf (rowAt file start count) (placeFrom LF file start + 1)
 
--- the numbers of a row; where there is none, whatever else
-unfoldable pub rowValues : Option (List ℤ) → List ℤ → List ℤ
-rowValues (some zs) other = zs
-rowValues none other = other
+unfoldable pub behindEnd : (file : List ℕ) (start letter count : ℕ) → RowEnd
+behindEnd file start letter count = endOf (behindAt file start letter count) (placeFrom LF file start + 1)

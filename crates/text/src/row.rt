@@ -1,10 +1,8 @@
 // The numbers of a line, one to a field, from left to right: each field is read from where the last one ended.
 ghost use mathlib.Core.Path.{_≡_};
-ghost use Prim.Native.Nat.{_+_, _<_, _≤_};
+ghost use Prim.Native.Nat.{_<_, _≤_};
 ghost use lib.ListN.{length, take};
-ghost use Rattle.text.specs.Parts.{placeFrom};
-ghost use Rattle.text.specs.Lines.{LF};
-ghost use Rattle.text.specs.Rows.{rowAt, rowEnd, rowValues, behindAt, endOf};
+ghost use Rattle.text.specs.Rows.{rowAt, rowEnd, rowValues, behindAt, behindEnd};
 use crate::LF;
 use crate::TAB;
 use crate::number;
@@ -48,7 +46,7 @@ pub fn read(file: &[u8], start: usize, count: usize, x: &mut [i64]) -> RowEnd
 // The numbers of the line at `start` behind its letter, `count` of them and no other field, into the first places of x.
 pub fn read_behind(file: &[u8], start: usize, letter: u8, count: usize, x: &mut [i64]) -> RowEnd
     requires { ⌜ (start ≤ length (now file)) × (10 < letter) × (1 ≤ count) × (count ≤ length (now x)) ⌝ }
-    ensures end { λ r. ⌜ r ≡ endOf (behindAt (now (file .entry)) start letter count) (placeFrom LF (now (file .entry)) start + 1) ⌝ }
+    ensures end { λ r. ⌜ r ≡ behindEnd (now (file .entry)) start letter count ⌝ }
     ensures values { λ r. ⌜ take count (now (x .exit)) ≡ rowValues (behindAt (now (file .entry)) start letter count) (take count (now (x .exit))) ⌝ }
     ensures long { λ r. ⌜ length (now (x .exit)) ≡ length (now (x .entry)) ⌝ }
 {

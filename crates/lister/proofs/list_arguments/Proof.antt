@@ -5,10 +5,10 @@ use Rattle.lister.proofs.list_arguments.Statement.{statement}
 use Rattle.lister.proofs.list_arguments.Tie as tie
 
 abbrev Inv-loop : tie.InvT-loop
-Inv-loop program headed count i₀ i = Unit {0}
+Inv-loop program headed files count i₀ i = Unit {0}
 
 abbrev μ-loop : tie.MeasureT-loop
-μ-loop program headed count i₀ i = count - i
+μ-loop program headed files count i₀ i = count - i
 
 arg-count-requires : tie.Need-arg-count-requires Inv-loop μ-loop
 arg-count-requires c κs = search needs

@@ -12,7 +12,7 @@ use Rattle.text.specs.Parts.{placeFrom}
 use Rattle.text.specs.Lines.{LF}
 use Rattle.text.specs.Rows.{behindAt}
 use Rattle.text.proofs.Parting.{place-after}
-use Rattle.text.proofs.Rowing.{told-some, told-none}
+use Rattle.text.proofs.Lettering.{behind-told, no-behind-told}
 use Rattle.book.specs.Lines.{letter-S, sightingOf, lineNo}
 use Rattle.book.proofs.Entering.{Begun, begun-none, no-sighting, sighting, all-begun, Column, column-none, column-more, column-all}
 use Rattle.book.proofs.entries.read.Statement.{statement}
@@ -65,7 +65,7 @@ same-length-4 c = let l = broken c in l .loop .inv .1 .1 .1 .1 .1 .room ∙ sym 
 returns : tie.Need-returns Inv-loop μ-loop
 returns c =
     let l = broken c in
-    no-sighting (now (l .before .before .args .file)) (l .loop .inv .1 .0) (omega arith) (told-none _ _ (sym (c .before .before .before .read-behind .ensures .0) ∙ c .enum-told .given .1))
+    no-sighting (now (l .before .before .args .file)) (l .loop .inv .1 .0) (omega arith) (no-behind-told _ _ _ _ (sym (c .before .before .before .read-behind .ensures .0) ∙ c .enum-told .given .1))
 
 -- ---- a sighting
 slice-aggregate-enter : tie.Need-slice-aggregate-enter Inv-loop μ-loop
@@ -94,7 +94,7 @@ module _ (c : tie.After-reading Inv-loop μ-loop) where
 
   told : (behindAt file (turn .loop .start) letter-S 4 ≡ some (take 4 fields)) × (next ≡ placeFrom LF file (turn .loop .start) + 1)
   told =
-      told-some _ _ next (take 4 fields)
+      behind-told file (turn .loop .start) letter-S 4 next (take 4 fields)
       (sym (answered .read-behind .ensures .0) ∙ c .before .before .before .before .before .before .before .before .before .before .before .end .given .1) (answered .read-behind .ensures .1 .0)
 
   on : (sightingOf (lineNo file (turn .loop .n)) ≡ some (take 4 fields)) × Begun file (placeFrom LF file (turn .loop .start) + 1) (turn .loop .n + 1)

@@ -19,7 +19,7 @@ sub-if1 c = search needs
 returns : tie.Need-returns
 returns c =
     let s = c .before .before in let a = s .args in
-    let none = no-answer (behind-short (now (a .file)) (a .start) (a .letter) (a .count) (s .pre .1) (c .if1 .taken)) _ _ in
+    let none = no-answer (now (a .file)) (a .start) (a .letter) (a .count) (behind-short (now (a .file)) (a .start) (a .letter) (a .count) (s .pre .1) (c .if1 .taken)) _ in
     (none .0, (none .1, refl))
 
 shared-slice-read-if2 : tie.Need-shared-slice-read-if2
@@ -28,7 +28,7 @@ shared-slice-read-if2 c = search needs
 returns-2 : tie.Need-returns-2
 returns-2 c =
     let s = c .before .before .before .before in let a = s .args in
-    let none = no-answer (behind-other (now (a .file)) (a .start) (a .letter) (a .count) (s .pre .1) (omega (arith, c .before .before .if1 .left)) (c .if2 .taken)) _ _ in
+    let none = no-answer (now (a .file)) (a .start) (a .letter) (a .count) (behind-other (now (a .file)) (a .start) (a .letter) (a .count) (s .pre .1) (omega (arith, c .before .before .if1 .left)) (c .if2 .taken)) _ in
     (none .0, (none .1, refl))
 
 add-if3 : tie.Need-add-if3
@@ -41,7 +41,7 @@ returns-3 : tie.Need-returns-3
 returns-3 c =
     let e = c .before .before in let s = e .before .before .before .before in let a = s .args in
     let none =
-    no-answer (behind-no-tab (now (a .file)) (a .start) (a .letter) (a .count) (s .pre .1) (omega (arith, e .before .before .if1 .left)) (e .if2 .left) (s .pre .2) (c .if3 .taken)) _ _ in
+    no-answer (now (a .file)) (a .start) (a .letter) (a .count) (behind-no-tab (now (a .file)) (a .start) (a .letter) (a .count) (s .pre .1) (omega (arith, e .before .before .if1 .left)) (e .if2 .left) (s .pre .2) (c .if3 .taken)) _ in
     (none .0, (none .1, refl))
 
 add-read : tie.Need-add-read
