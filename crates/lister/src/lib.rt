@@ -8,7 +8,9 @@ use libc::STDOUT_FILENO;
 ghost use Prim.Native.Nat.{_-_, _≤_};
 ghost use mathlib.Core.Path.{_≡_};
 ghost use lib.ListN.{length, take};
+ghost use Rattle.text.specs.Written.{Wrote};
 ghost use Rattle.lister.specs.Input.{Within};
+ghost use Rattle.lister.specs.Listings.{listingFor};
 
 // One byte more than the longest file has, so that a longer one is seen by its length, however long it is.
 const ROOM: usize = 65536;
@@ -71,7 +73,8 @@ fn read_whole(fd: i32, buf: &mut [u8]) -> Input
 
 // The listing of a file, into a lent buffer; how many bytes it has.
 fn list(files: Files, file: &[u8], out: &mut [u8]) -> usize
-    ensures { λ r. ⌜ r ≤ length (now (out .exit)) ⌝ }
+    ensures listing { λ r. ⌜ Wrote (now (out .entry)) 0 (listingFor files (now (file .entry)) (length (now (out .entry)))) (now (out .exit)) r ⌝ }
+    ensures within { λ r. ⌜ r ≤ length (now (out .exit)) ⌝ }
 {
     match files {
         Files::Networks => listing::list(file, out),
