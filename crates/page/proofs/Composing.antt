@@ -1,5 +1,6 @@
 -- How many bytes the lines of a listing take at most. Assumes nothing.
---   heading-most                a heading takes at most 48 bytes
+--   counts-most                 two counts and the end of the line take at most 45 bytes
+--   heading-most                a heading 48
 --   head-most, numbered-most    the head of a numbered line 67, and the line 68
 --   refused-most                a REFUSED line 52
 use mathlib.Core.List.{_++_}
@@ -10,10 +11,9 @@ use lib.IntN.{ℤ}
 use Rattle.text.specs.Decimal.{digitsOf, written}
 use Rattle.text.specs.Written.{signedField, countField, lineEnd}
 use Rattle.text.proofs.Putting.{count-most, written-most}
-use Rattle.page.specs.Lines.{headingLine, lineHead, numberedLine, refusedLine}
+use Rattle.page.specs.Lines.{countsEnd, headingLine, lineHead, numberedLine, refusedLine}
 
--- two counts and the end of a line
-counts-most : (first second : ℕ) → length (countField first ++ (countField second ++ lineEnd)) ≤ 45
+pub counts-most : (first second : ℕ) → length (countsEnd first second) ≤ 45
 counts-most first second =
     omega
     (arith, count-most first, count-most second, length-append (digitsOf first) (countField second ++ lineEnd), length-append (digitsOf second) lineEnd)

@@ -4,9 +4,13 @@ use Prim.Native.Nat.{ℕ}
 use lib.IntN.{ℤ}
 use Rattle.text.specs.Written.{signedField, countField, lineEnd}
 
+-- two counts, and the end of the line
+abbrev pub countsEnd : (first second : ℕ) → List ℕ
+countsEnd first second = countField first ++ (countField second ++ lineEnd)
+
 -- the first line of a listing: a word of three letters and two counts
 abbrev pub headingLine : (a b c first second : ℕ) → List ℕ
-headingLine a b c first second = (a ∷ b ∷ c ∷ []) ++ (countField first ++ (countField second ++ lineEnd))
+headingLine a b c first second = (a ∷ b ∷ c ∷ []) ++ countsEnd first second
 
 -- the head of a numbered line: its letter, a number and two signed numbers
 abbrev pub lineHead : ℕ → ℕ → ℤ → ℤ → List ℕ
@@ -18,4 +22,4 @@ numberedLine letter number first second = lineHead letter number first second ++
 
 -- REFUSED, number, place
 abbrev pub refusedLine : ℕ → ℕ → List ℕ
-refusedLine number place = (82 ∷ 69 ∷ 70 ∷ []) ++ ((85 ∷ 83 ∷ 69 ∷ []) ++ ((68 ∷ []) ++ (countField number ++ (countField place ++ lineEnd))))
+refusedLine number place = (82 ∷ 69 ∷ 70 ∷ []) ++ ((85 ∷ 83 ∷ 69 ∷ []) ++ ((68 ∷ []) ++ countsEnd number place))

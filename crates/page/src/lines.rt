@@ -2,9 +2,19 @@
 ghost use Prim.Native.Nat.{_+_, _≤_};
 ghost use lib.ListN.{length};
 ghost use Rattle.text.specs.Written.{Wrote};
-ghost use Rattle.page.specs.Lines.{headingLine, lineHead, numberedLine, refusedLine};
+ghost use Rattle.page.specs.Lines.{countsEnd, headingLine, lineHead, numberedLine, refusedLine};
 use text::LF;
 use text::writer;
+
+// Two counts, and the end of the line.
+fn put_counts(out: &mut [u8], at: usize, first: u64, second: u64) -> usize
+    requires { ⌜ at + 45 ≤ length (now out) ⌝ }
+    ensures { λ r. ⌜ Wrote (now (out .entry)) at (countsEnd first second) (now (out .exit)) r ⌝ }
+{
+    let one = writer::put_count(out, at, first);
+    let two = writer::put_count(out, one, second);
+    writer::put_byte(out, two, LF)
+}
 
 // The first line of a listing: a word of three letters and two counts.
 pub fn put_heading(out: &mut [u8], at: usize, a: u8, b: u8, c: u8, first: u64, second: u64) -> usize
@@ -12,9 +22,7 @@ pub fn put_heading(out: &mut [u8], at: usize, a: u8, b: u8, c: u8, first: u64, s
     ensures { λ r. ⌜ Wrote (now (out .entry)) at (headingLine a b c first second) (now (out .exit)) r ⌝ }
 {
     let head = writer::put_three(out, at, a, b, c);
-    let one = writer::put_count(out, head, first);
-    let two = writer::put_count(out, one, second);
-    writer::put_byte(out, two, LF)
+    put_counts(out, head, first, second)
 }
 
 // The head of a numbered line: its letter, a number and two signed numbers.
@@ -59,7 +67,5 @@ pub fn put_refused(out: &mut [u8], at: usize, number: u64, place: u64) -> usize
     let refu = writer::put_three(out, at, b'R', b'E', b'F');
     let used = writer::put_three(out, refu, b'U', b'S', b'E');
     let head = writer::put_byte(out, used, b'D');
-    let first = writer::put_count(out, head, number);
-    let second = writer::put_count(out, first, place);
-    writer::put_byte(out, second, LF)
+    put_counts(out, head, number, place)
 }

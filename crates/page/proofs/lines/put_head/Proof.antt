@@ -1,4 +1,4 @@
--- `page::put_head` meets its contract. Assumes nothing.
+-- `page::lines::put_head` meets its contract. Assumes nothing.
 use mathlib.Core.Path.{_∙_}
 use native.Mathlib.Omega.{arith}
 use borrow.Author.Needs.{needs}

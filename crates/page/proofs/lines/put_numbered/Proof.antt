@@ -1,4 +1,4 @@
--- `page::put_numbered` meets its contract. Assumes nothing.
+-- `page::lines::put_numbered` meets its contract. Assumes nothing.
 use mathlib.Core.Path.{_∙_, ap₂}
 use native.Mathlib.Omega.{arith}
 use borrow.Author.Needs.{needs}

@@ -1,9 +1,9 @@
--- `page::put_refused` meets its contract. Assumes nothing.
+-- `page::lines::put_refused` meets its contract. Assumes nothing.
 use mathlib.Core.Path.{_∙_}
 use native.Mathlib.Omega.{arith}
 use borrow.Author.Needs.{needs}
 use denote.Ref.{now}
-use Rattle.text.proofs.Putting.{Come, then, wrote-length, come, come-on, count-on}
+use Rattle.text.proofs.Putting.{Come, then, wrote-length, come, come-on}
 use Rattle.page.proofs.lines.put_refused.Statement.{statement}
 use Rattle.page.proofs.lines.put_refused.Tie as tie
 
@@ -35,45 +35,16 @@ start3 c = start2 (c .before .before .before .before)
 come3 : (c : tie.After-put-byte) → Come (now (start3 c .args .out)) (start3 c .args .at) 7 (c .put-byte .last .0) (c .put-byte .result)
 come3 c = come-on 1 (come2 (c .before .before .before .before)) (omega arith) (c .put-byte .ensures)
 
-put-count-requires : tie.Need-put-count-requires
-put-count-requires c κs = let b = c .before .before .before in omega (arith, start3 b .pre, come3 b .far, come3 b .kept)
-
-abbrev start4 : tie.After-put-count → tie.Start
-start4 c = start3 (c .before .before .before .before)
-
-come4 : (c : tie.After-put-count) → Come (now (start4 c .args .out)) (start4 c .args .at) 29 (c .put-count .last .0) (c .put-count .result)
-come4 c = count-on _ (come3 (c .before .before .before .before)) (c .put-count .ensures)
-
-put-count-requires-2 : tie.Need-put-count-requires-2
-put-count-requires-2 c κs = let b = c .before .before .before in omega (arith, start4 b .pre, come4 b .far, come4 b .kept)
-
-abbrev start5 : tie.After-put-count2 → tie.Start
-start5 c = start4 (c .before .before .before .before)
-
-come5 : (c : tie.After-put-count2) → Come (now (start5 c .args .out)) (start5 c .args .at) 51 (c .put-count2 .last .0) (c .put-count2 .result)
-come5 c = count-on _ (come4 (c .before .before .before .before)) (c .put-count2 .ensures)
-
-put-byte-requires-2 : tie.Need-put-byte-requires-2
-put-byte-requires-2 c κs = let b = c .before .before .before in omega (arith, start5 b .pre, come5 b .far, come5 b .kept)
+put-counts-requires : tie.Need-put-counts-requires
+put-counts-requires c κs = let b = c .before .before .before in omega (arith, start3 b .pre, come3 b .far, come3 b .kept)
 
 same-length : tie.Need-same-length
-same-length c = let b = c .before .before in wrote-length (b .put-byte2 .ensures) ∙ come5 (b .before .before .before .before) .kept
+same-length c = let b = c .before .before in wrote-length (b .put-counts .ensures) ∙ come3 (b .before .before .before .before) .kept
 
 returns : tie.Need-returns
 returns c =
-    let e6 = c .before .before in
-    let e5 = e6 .before .before .before .before in
-    let e4 = e5 .before .before .before .before in
-    let e3 = e4 .before .before .before .before in
-    let e2 = e3 .before .before .before .before in
-    let e1 = e2 .before .before .before .before in
-    let s = e1 .before .before .before in
-    (then (e1 .put-three .ensures)
-    (then (e2 .put-three2 .ensures)
-    (then (e3 .put-byte .ensures)
-    (then (e4 .put-count .ensures)
-    (then (e5 .put-count2 .ensures)
-    (e6 .put-byte2 .ensures))))))
+    let e4 = c .before .before in let e3 = e4 .before .before .before .before in let e2 = e3 .before .before .before .before in let e1 = e2 .before .before .before .before in
+    then (e1 .put-three .ensures) (then (e2 .put-three2 .ensures) (then (e3 .put-byte .ensures) (e4 .put-counts .ensures)))
 
 pub put-refused-spec : {M : Type 1} → statement M
 put-refused-spec =
@@ -82,8 +53,6 @@ put-refused-spec =
     put-three-requires
     put-three-requires-2
     put-byte-requires
-    put-count-requires
-    put-count-requires-2
-    put-byte-requires-2
+    put-counts-requires
     same-length
     returns)
