@@ -9,7 +9,7 @@ use Prim.Native.Nat.{ℕ}
 use native.Mathlib.Omega.{arith}
 use Rattle.exact.proofs.Unique.{only}
 use Rattle.reply.specs.declared.Refusal.{Refusal}
-use Rattle.reply.specs.declared.Refusal.the-variants.{Malformed, Count, OutOfRange, Coefficient, Misclosure, WeakRow, Correlate, Remainder, Sightings, Field, Faces, Initial, FacesApart, Spread}
+use Rattle.reply.specs.declared.Refusal.the-variants.{Malformed, Count, OutOfRange, Coefficient, Misclosure, WeakRow, Correlate, Remainder, Correction, Sightings, Field, Faces, Initial, FacesApart, Spread}
 use Rattle.reply.specs.declared.Reply.{Reply}
 use Rattle.reply.specs.declared.Reply.the-variants.{Accepted, Refused}
 use Rattle.reply.specs.declared.Verdict.{Verdict}
@@ -43,6 +43,7 @@ no-refusal-is-0 (Misclosure condition) e = omega (arith, e)
 no-refusal-is-0 (WeakRow row) e = omega (arith, e)
 no-refusal-is-0 (Correlate row) e = omega (arith, e)
 no-refusal-is-0 (Remainder condition) e = omega (arith, e)
+no-refusal-is-0 (Correction direction) e = omega (arith, e)
 no-refusal-is-0 Sightings e = omega (arith, e)
 no-refusal-is-0 (Field ordinal) e = omega (arith, e)
 no-refusal-is-0 (Faces position object) e = omega (arith, e)

@@ -1,7 +1,7 @@
 -- "Numbers of the refusals": the rules' table, one line for each case.
 use Prim.Native.Nat.{ℕ, _+_, _*_}
 use Rattle.reply.specs.declared.Refusal.{Refusal}
-use Rattle.reply.specs.declared.Refusal.the-variants.{Malformed, Count, OutOfRange, Coefficient, Misclosure, WeakRow, Correlate, Remainder, Sightings, Field, Faces, Initial, FacesApart, Spread}
+use Rattle.reply.specs.declared.Refusal.the-variants.{Malformed, Count, OutOfRange, Coefficient, Misclosure, WeakRow, Correlate, Remainder, Correction, Sightings, Field, Faces, Initial, FacesApart, Spread}
 
 abbrev pub numberOf : Refusal → ℕ
 numberOf (Malformed line) = 1
@@ -12,6 +12,7 @@ numberOf (Misclosure condition) = 5
 numberOf (WeakRow row) = 6
 numberOf (Correlate row) = 7
 numberOf (Remainder condition) = 8
+numberOf (Correction direction) = 9
 numberOf Sightings = 21
 numberOf (Field ordinal) = 22
 numberOf (Faces position object) = 23
@@ -28,6 +29,7 @@ placeOf (Misclosure condition) = condition
 placeOf (WeakRow row) = row
 placeOf (Correlate row) = row
 placeOf (Remainder condition) = condition
+placeOf (Correction direction) = direction
 placeOf Sightings = 0
 placeOf (Field ordinal) = ordinal
 placeOf (Faces position object) = 100 * position + object

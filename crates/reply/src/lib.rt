@@ -22,6 +22,8 @@ pub enum Refusal {
     Correlate(u64),
     // A remainder that is too large: its condition.
     Remainder(u64),
+    // A printed correction past one minute: its direction.
+    Correction(u64),
     // No sightings, too many, or field lists of unequal length.
     Sightings,
     // A sighting's field out of range: its ordinal.
@@ -68,6 +70,7 @@ pub fn number(r: Refusal) -> u64
         Refusal::WeakRow(_) => 6,
         Refusal::Correlate(_) => 7,
         Refusal::Remainder(_) => 8,
+        Refusal::Correction(_) => 9,
         Refusal::Sightings => 21,
         Refusal::Field(_) => 22,
         Refusal::Faces {
@@ -99,6 +102,7 @@ pub fn place(r: Refusal) -> u64
         Refusal::WeakRow(row) => row,
         Refusal::Correlate(row) => row,
         Refusal::Remainder(condition) => condition,
+        Refusal::Correction(direction) => direction,
         Refusal::Sightings => 0,
         Refusal::Field(ordinal) => ordinal,
         Refusal::Faces { position, object } => 100 * (position as u64) + object as u64,
