@@ -17,7 +17,7 @@ use Rattle.direction.specs.Ranges.{directionsReply}
 use Rattle.doolittle.specs.Table.{Table, tableOf}
 use Rattle.doolittle.specs.Solution.{N, reduced, D, L, M, weakRow, weak, back, K}
 use Rattle.adjustment.specs.Corrections.{V-of, R-of, u-of, Q-of}
-use Rattle.adjustment.specs.Refusals.{countsAmiss, differs, lengthsAmiss, coefficientFault, misclosureFault, conditionsReply, rowsReply, correlatesReply, remaindersReply, solutionReply, inputReply}
+use Rattle.adjustment.specs.Refusals.{countsAmiss, differs, lengthsAmiss, coefficientFault, misclosureFault, conditionsReply, rowsReply, correlatesReply, remaindersReply, correctionsReply, solutionReply, inputReply}
 use Rattle.adjustment.specs.Promise.{lists, adjustReply}
 
 -- a whole number below 0
@@ -62,7 +62,7 @@ pub figure-1 :
     × (R-in figure1 ≡ minus 2948 ∷ [])
     × (u-in figure1 ≡ minus 1430 ∷ pos 3243 ∷ minus 4945 ∷ [])
     × (Q-in figure1 ≡ pos 3200000 ∷ [])
-unfolding sum nearest first tabulate directionsReply N reduced D L M weakRow weak back K V-of R-of u-of Q-of countsAmiss differs lengthsAmiss coefficientFault misclosureFault conditionsReply rowsReply correlatesReply remaindersReply solutionReply inputReply adjustReply
+unfolding sum nearest first tabulate directionsReply N reduced D L M weakRow weak back K V-of R-of u-of Q-of countsAmiss differs lengthsAmiss coefficientFault misclosureFault conditionsReply rowsReply correlatesReply remaindersReply correctionsReply solutionReply inputReply adjustReply
 figure-1 = (refl, refl, refl, refl, refl, refl)
 
 abbrev pub figure2 : Figure
@@ -73,7 +73,7 @@ pub figure-2 :
     × (K-in figure2 ≡ minus 2325000 ∷ [])
     × (u-in figure2 ≡ pos 2325 ∷ minus 2325 ∷ pos 2325 ∷ minus 2325 ∷ [])
     × (R-in figure2 ≡ pos 0 ∷ [])
-unfolding sum nearest first tabulate directionsReply N reduced D L M weakRow weak back K V-of R-of u-of Q-of countsAmiss differs lengthsAmiss coefficientFault misclosureFault conditionsReply rowsReply correlatesReply remaindersReply solutionReply inputReply adjustReply
+unfolding sum nearest first tabulate directionsReply N reduced D L M weakRow weak back K V-of R-of u-of Q-of countsAmiss differs lengthsAmiss coefficientFault misclosureFault conditionsReply rowsReply correlatesReply remaindersReply correctionsReply solutionReply inputReply adjustReply
 figure-2 = (refl, refl, refl, refl)
 
 -- two conditions 100, 100, with the misclosures w and w'
@@ -81,7 +81,7 @@ abbrev pub figure4 : ℤ → ℤ → Figure
 figure4 w w' = record { m = 2; q = 1; coefficients = replicate 4 (pos 100); misclosures = w ∷ w' ∷ [] }
 
 pub figure-4 : (replyTo (figure4 (pos 500) (pos 500)) ≡ Refused (WeakRow 2)) × (replyTo (figure4 (pos 500) (minus 500)) ≡ Refused (WeakRow 2))
-unfolding sum nearest first tabulate directionsReply N reduced D L M weakRow weak back K V-of R-of u-of Q-of countsAmiss differs lengthsAmiss coefficientFault misclosureFault conditionsReply rowsReply correlatesReply remaindersReply solutionReply inputReply adjustReply
+unfolding sum nearest first tabulate directionsReply N reduced D L M weakRow weak back K V-of R-of u-of Q-of countsAmiss differs lengthsAmiss coefficientFault misclosureFault conditionsReply rowsReply correlatesReply remaindersReply correctionsReply solutionReply inputReply adjustReply
 figure-4 = (refl, refl)
 
 -- one direction and one condition
@@ -92,23 +92,23 @@ pub figure-5 :
     (replyTo (single (pos 10) (pos 1000)) ≡ Accepted)
     × (K-in (single (pos 10) (pos 1000)) ≡ minus 100000000 ∷ [])
     × (replyTo (single (pos 10) (pos 1001)) ≡ Refused (Correlate 1))
-unfolding sum nearest first tabulate directionsReply N reduced D L M weakRow weak back K V-of R-of u-of Q-of countsAmiss differs lengthsAmiss coefficientFault misclosureFault conditionsReply rowsReply correlatesReply remaindersReply solutionReply inputReply adjustReply
+unfolding sum nearest first tabulate directionsReply N reduced D L M weakRow weak back K V-of R-of u-of Q-of countsAmiss differs lengthsAmiss coefficientFault misclosureFault conditionsReply rowsReply correlatesReply remaindersReply correctionsReply solutionReply inputReply adjustReply
 figure-5 = (refl, refl, refl)
 
 pub figure-6 : replyTo (single (pos 9) (pos 0)) ≡ Refused (WeakRow 1)
-unfolding sum nearest first tabulate directionsReply N reduced D L M weakRow weak back K V-of R-of u-of Q-of countsAmiss differs lengthsAmiss coefficientFault misclosureFault conditionsReply rowsReply correlatesReply remaindersReply solutionReply inputReply adjustReply
+unfolding sum nearest first tabulate directionsReply N reduced D L M weakRow weak back K V-of R-of u-of Q-of countsAmiss differs lengthsAmiss coefficientFault misclosureFault conditionsReply rowsReply correlatesReply remaindersReply correctionsReply solutionReply inputReply adjustReply
 figure-6 = refl
 
 abbrev pub figure7 : Figure
 figure7 = record { m = 4; q = 10; coefficients = replicate 4 (pos 2000); misclosures = pos 200 ∷ [] }
 
 pub figure-7 : (replyTo figure7 ≡ Refused (Remainder 1)) × (K-in figure7 ≡ minus 13 ∷ []) × (R-in figure7 ≡ minus 80000000 ∷ [])
-unfolding sum nearest first tabulate directionsReply N reduced D L M weakRow weak back K V-of R-of u-of Q-of countsAmiss differs lengthsAmiss coefficientFault misclosureFault conditionsReply rowsReply correlatesReply remaindersReply solutionReply inputReply adjustReply
+unfolding sum nearest first tabulate directionsReply N reduced D L M weakRow weak back K V-of R-of u-of Q-of countsAmiss differs lengthsAmiss coefficientFault misclosureFault conditionsReply rowsReply correlatesReply remaindersReply correctionsReply solutionReply inputReply adjustReply
 figure-7 = (refl, refl, refl)
 
 abbrev pub figure8 : Figure
 figure8 = record { m = 10; q = 10; coefficients = replicate 10 (pos 1000); misclosures = pos 5 ∷ [] }
 
 pub figure-8 : (replyTo figure8 ≡ Accepted) × (K-in figure8 ≡ minus 1 ∷ []) × (R-in figure8 ≡ minus 50000000 ∷ [])
-unfolding sum nearest first tabulate directionsReply N reduced D L M weakRow weak back K V-of R-of u-of Q-of countsAmiss differs lengthsAmiss coefficientFault misclosureFault conditionsReply rowsReply correlatesReply remaindersReply solutionReply inputReply adjustReply
+unfolding sum nearest first tabulate directionsReply N reduced D L M weakRow weak back K V-of R-of u-of Q-of countsAmiss differs lengthsAmiss coefficientFault misclosureFault conditionsReply rowsReply correlatesReply remaindersReply correctionsReply solutionReply inputReply adjustReply
 figure-8 = (refl, refl, refl)

@@ -1,12 +1,12 @@
 -- The promise of `adjust`, from what its checks have said. Assumes nothing.
 --   by-counts, by-lengths, by-directions, by-conditions, by-solution      the reply, where the checks before have accepted
 --   refused-adjusts          a refusal that is the rule's reply, with the lists as they were lent, keeps the promise
---   accepted-adjusts         so does an accepted table whose lists are the rules' answers: demand 3 holds of them
---   accepted-demand3         demand 3 of every table that the rules accept
+--   accepted-adjusts         so does an accepted table whose lists are the rules' answers: what the promise says of accepted tables holds of them
+--   accepted-demand3, accepted-within-minute      of every table that the rules accept: demand 3, and no printed correction is past one minute
 --   refusal-leaves-lists     a refusal that keeps the promise leaves the six lent lists as they were
 --   only-reply               two replies that keep the promise are equal, and leave equal lists
 use mathlib.Core.Path.{_≡_, refl, sym, _∙_, ap}
-use mathlib.Core.Bool.{true, false}
+use mathlib.Core.Bool.{Bool, true, false}
 use mathlib.Core.List.{List}
 use Prim.Native.Nat.{ℕ, _+_, _≤_, _<_}
 use native.Mathlib.Omega.{arith}
@@ -16,19 +16,19 @@ use lib.ListN.{length}
 use lib.IntN.{ℤ, pos, natAbs}
 use Rattle.exact.proofs.Filling.{tabulate-at}
 use Rattle.reply.specs.declared.Refusal.{Refusal}
-use Rattle.reply.specs.declared.Refusal.the-variants.{Count, Remainder}
+use Rattle.reply.specs.declared.Refusal.the-variants.{Count, Remainder, Correction}
 use Rattle.reply.specs.declared.Reply.{Reply}
 use Rattle.reply.specs.declared.Reply.the-variants.{Accepted, Refused}
 use Rattle.reply.specs.Checks.{refuseIf, _andThen_, leaves}
 use Rattle.reply.specs.Verdicts.{verdictOf}
-use Rattle.reply.proofs.Checking.{none-refused, both-accepted, if-accepted}
+use Rattle.reply.proofs.Checking.{never, none-refused, both-accepted, if-accepted}
 use Rattle.direction.specs.Ranges.{directionsReply}
 use Rattle.doolittle.specs.Table.{Table, at, tableOf}
 use Rattle.doolittle.specs.Solution.{K}
 use Rattle.adjustment.specs.Corrections.{V-of, R-of, u-of, Q-of}
-use Rattle.adjustment.specs.Refusals.{countsAmiss, lengthsAmiss, conditionsReply, rowsReply, correlatesReply, remaindersReply, solutionReply, inputReply}
+use Rattle.adjustment.specs.Refusals.{countsAmiss, lengthsAmiss, conditionsReply, rowsReply, correlatesReply, remaindersReply, correctionsReply, solutionReply, inputReply}
 use Rattle.adjustment.specs.Demand.{Demand3}
-use Rattle.adjustment.specs.Promise.{Answers, adjustReply, answersOf, Adjusts}
+use Rattle.adjustment.specs.Promise.{Answers, adjustReply, answersOf, WithinMinute, Adjusts}
 use Rattle.doolittle.specs.Inner.{Sound}
 use Rattle.adjustment.proofs.Admitting.{counts-known, lengths-known, sound-table}
 use Rattle.adjustment.proofs.Demands.{demand-3, demand-ext}
@@ -37,15 +37,18 @@ module _ (ds qs cs ws : List ℤ) (lent : Answers) where
   abbrev t : Table
   t = tableOf qs cs ws
 
+  abbrev lengths-amiss : Bool
+  lengths-amiss = lengthsAmiss (length ds) (length ws) (length qs) (length cs) (length (lent .corrections)) (length (lent .printed)) (length (lent .adjusted)) (length (lent .correlates)) (length (lent .remainders)) (length (lent .misses))
+
+  abbrev input : Reply
+  input = inputReply ds qs cs ws (length (lent .corrections)) (length (lent .printed)) (length (lent .adjusted)) (length (lent .correlates)) (length (lent .remainders)) (length (lent .misses))
+
   -- ---- the reply
   pub by-counts : countsAmiss (length ds) (length ws) ≡ true → adjustReply ds qs cs ws lent ≡ Refused (Count 0)
   unfolding adjustReply inputReply
   by-counts e = rw e
 
   module _ (a : countsAmiss (length ds) (length ws) ≡ false) where
-    abbrev lengths-amiss : mathlib.Core.Bool.Bool
-    lengths-amiss = lengthsAmiss (length ds) (length ws) (length qs) (length cs) (length (lent .corrections)) (length (lent .printed)) (length (lent .adjusted)) (length (lent .correlates)) (length (lent .remainders)) (length (lent .misses))
-
     pub by-lengths : lengths-amiss ≡ true → adjustReply ds qs cs ws lent ≡ Refused (Count 0)
     unfolding adjustReply inputReply
     by-lengths e = rw (a, e)
@@ -66,40 +69,59 @@ module _ (ds qs cs ws : List ℤ) (lent : Answers) where
 
   -- ---- the promise
   pub refused-adjusts : (why : Refusal) → adjustReply ds qs cs ws lent ≡ Refused why → Adjusts ds qs cs ws lent (Refused why) lent
-  refused-adjusts why e = record { answer = sym e; verdict = ap verdictOf (sym e); lists = refl; demand3 = λ f. let z : _≡_ {A = ℕ} 0 1 = cc in absurd (omega arith) }
+  refused-adjusts why e = record { answer = sym e; verdict = ap verdictOf (sym e); lists = refl; demand3 = never why; within-minute = never why }
 
-  module _ (s : Sound qs cs ws) (e : solutionReply t ≡ Accepted) where
+  module _ (e : solutionReply t ≡ Accepted) where
+    -- 8 and 9 have found nothing
+    last : (remaindersReply t (K t) ≡ Accepted) × (correctionsReply t (K t) ≡ Accepted)
+    unfolding solutionReply
+    last =
+        let after-8 = remaindersReply t (K t) andThen correctionsReply t (K t) in
+        let rows = both-accepted (rowsReply t) (correlatesReply t andThen after-8) e in
+        let correlates = both-accepted (correlatesReply t) after-8 (rows .1) in
+        both-accepted (remaindersReply t (K t)) (correctionsReply t (K t)) (correlates .1)
+
     close : (j : ℕ) → j < t .n → natAbs (R-of t (K t) j) ≤ 50000000
-    unfolding solutionReply remaindersReply
-    close j l =
-        let after = both-accepted (rowsReply t) (correlatesReply t andThen remaindersReply t (K t)) e in
-        let last = both-accepted (correlatesReply t) (remaindersReply t (K t)) (after .1) in
-        ltb-false 50000000 (natAbs (R-of t (K t) j)) (none-refused (t .n) (λ j. ltb 50000000 (natAbs (R-of t (K t) j))) (λ j. Remainder (j + 1)) (last .1) j l)
+    unfolding remaindersReply
+    close j l = ltb-false 50000000 (natAbs (R-of t (K t) j)) (none-refused (t .n) (λ j. ltb 50000000 (natAbs (R-of t (K t) j))) (λ j. Remainder (j + 1)) (last .0) j l)
 
-    pub accepted-adjusts : adjustReply ds qs cs ws lent ≡ solutionReply t → (left : Answers) → left ≡ answersOf t (K t) (at ds) → Adjusts ds qs cs ws lent Accepted left
-    accepted-adjusts f left g = record { answer = sym (f ∙ e); verdict = ap verdictOf (sym (f ∙ e)); lists = g; demand3 = λ h. demand }
+    small : WithinMinute t (u-of t (K t))
+    unfolding correctionsReply
+    small i l = ltb-false 60000 (natAbs (u-of t (K t) i)) (none-refused (t .m) (λ i. ltb 60000 (natAbs (u-of t (K t) i))) (λ i. Correction (i + 1)) (last .1) i l)
+
+    pub accepted-adjusts : Sound qs cs ws → adjustReply ds qs cs ws lent ≡ solutionReply t → (left : Answers) → left ≡ answersOf t (K t) (at ds) → Adjusts ds qs cs ws lent Accepted left
+    accepted-adjusts s f left g = record { answer = sym (f ∙ e); verdict = ap verdictOf (sym (f ∙ e)); lists = g; demand3 = λ h. demand; within-minute = λ h i l. rw (u-left i l) (small i l) }
       where
+        u-left : (i : ℕ) → i < t .m → at (left .printed) i ≡ u-of t (K t) i
+        u-left i l = ap (λ (x : Answers). at (x .printed) i) g ∙ tabulate-at (t .m) (u-of t (K t)) i (pos 0) l
+
         demand : Demand3 t (at (left .corrections)) (at (left .printed)) (at (left .remainders)) (at (left .misses))
         demand =
             demand-ext t (V-of t (K t)) (at (left .corrections)) (u-of t (K t)) (at (left .printed)) (R-of t (K t)) (at (left .remainders)) (Q-of t (K t)) (at (left .misses))
             (λ i l. sym (ap (λ (x : Answers). at (x .corrections) i) g ∙ tabulate-at (t .m) (V-of t (K t)) i (pos 0) l))
-            (λ i l. sym (ap (λ (x : Answers). at (x .printed) i) g ∙ tabulate-at (t .m) (u-of t (K t)) i (pos 0) l))
+            (λ i l. sym (u-left i l))
             (λ j l. sym (ap (λ (x : Answers). at (x .remainders) j) g ∙ tabulate-at (t .n) (R-of t (K t)) j (pos 0) l))
             (λ j l. sym (ap (λ (x : Answers). at (x .misses) j) g ∙ tabulate-at (t .n) (Q-of t (K t)) j (pos 0) l))
             (demand-3 t (K t) (s .q-least) (s .q-most) close)
 
-  -- ---- demand 3, from the rules alone
-  pub accepted-demand3 : adjustReply ds qs cs ws lent ≡ Accepted → Demand3 t (V-of t (K t)) (u-of t (K t)) (R-of t (K t)) (Q-of t (K t))
-  unfolding adjustReply inputReply
-  accepted-demand3 e =
-      let amiss = lengthsAmiss (length ds) (length ws) (length qs) (length cs) (length (lent .corrections)) (length (lent .printed)) (length (lent .adjusted)) (length (lent .correlates)) (length (lent .remainders)) (length (lent .misses)) in
-      let input = both-accepted (inputReply ds qs cs ws (length (lent .corrections)) (length (lent .printed)) (length (lent .adjusted)) (length (lent .correlates)) (length (lent .remainders)) (length (lent .misses))) (solutionReply t) e in
-      let counts = both-accepted (refuseIf (countsAmiss (length ds) (length ws)) (Count 0)) (refuseIf amiss (Count 0) andThen (directionsReply ds qs andThen conditionsReply t)) (input .0) in
-      let lengths = both-accepted (refuseIf amiss (Count 0)) (directionsReply ds qs andThen conditionsReply t) (counts .1) in
-      let table = both-accepted (directionsReply ds qs) (conditionsReply t) (lengths .1) in
-      let l = lengths-known (length ds) (length ws) (length qs) (length cs) _ _ _ _ _ _ (if-accepted amiss (Count 0) (lengths .0)) in
-      let s = sound-table ds qs cs ws (counts-known (length ds) (length ws) (if-accepted (countsAmiss (length ds) (length ws)) (Count 0) (counts .0))) (l .of-q) (l .of-a) (table .0) (table .1) in
-      demand-3 t (K t) (s .q-least) (s .q-most) (close s (input .1))
+  -- ---- of every table that the rules accept
+  module _ (e : adjustReply ds qs cs ws lent ≡ Accepted) where
+    both : (input ≡ Accepted) × (solutionReply t ≡ Accepted)
+    unfolding adjustReply
+    both = both-accepted input (solutionReply t) e
+
+    pub accepted-demand3 : Demand3 t (V-of t (K t)) (u-of t (K t)) (R-of t (K t)) (Q-of t (K t))
+    unfolding inputReply
+    accepted-demand3 =
+        let counts = both-accepted (refuseIf (countsAmiss (length ds) (length ws)) (Count 0)) (refuseIf lengths-amiss (Count 0) andThen (directionsReply ds qs andThen conditionsReply t)) (both .0) in
+        let lengths = both-accepted (refuseIf lengths-amiss (Count 0)) (directionsReply ds qs andThen conditionsReply t) (counts .1) in
+        let table = both-accepted (directionsReply ds qs) (conditionsReply t) (lengths .1) in
+        let l = lengths-known (length ds) (length ws) (length qs) (length cs) _ _ _ _ _ _ (if-accepted lengths-amiss (Count 0) (lengths .0)) in
+        let s = sound-table ds qs cs ws (counts-known (length ds) (length ws) (if-accepted (countsAmiss (length ds) (length ws)) (Count 0) (counts .0))) (l .of-q) (l .of-a) (table .0) (table .1) in
+        demand-3 t (K t) (s .q-least) (s .q-most) (close (both .1))
+
+    pub accepted-within-minute : WithinMinute t (u-of t (K t))
+    accepted-within-minute = small (both .1)
 
   -- ---- a refusal leaves the lists alone
   pub refusal-leaves-lists : (why : Refusal) (left : Answers) → Adjusts ds qs cs ws lent (Refused why) left → left ≡ lent

@@ -1,8 +1,8 @@
 -- The refusals of the solution, from what the code has found. Assumes nothing.
 --   V-size, V-ext                    the corrections of correlates within 10^8, and of equal correlates
 --   closing-is                       the remainders of a list that holds the corrections are R
---   weak-refused, large-refused, open-refused      6, 7 and 8 at their places
---   none-weak, none-too-large, none-open           where nothing is found, the checks accept
+--   weak-refused, large-refused, open-refused, past-refused      6, 7, 8 and 9 at their places
+--   none-weak, none-too-large, none-open, none-past              where nothing is found, the checks accept
 use mathlib.Core.Path.{_≡_, sym, _∙_, ap, subst}
 use mathlib.Core.Bool.{Bool}
 use mathlib.Core.List.{List}
@@ -14,19 +14,20 @@ use lib.ListN.{length}
 use lib.IntN.{ℤ, pos, natAbs, _+ℤ_, _*ℤ_}
 use Rattle.exact.specs.Sum.{sum}
 use Rattle.exact.specs.First.{first}
+use Rattle.exact.specs.Nearest.{nearest}
 use Rattle.exact.proofs.Bound.{abs-mul, mul-le}
 use Rattle.exact.proofs.Sum.{sum-ext}
 use Rattle.exact.proofs.Searching.{Failed, first-before, first-ext}
-use Rattle.reply.specs.declared.Refusal.the-variants.{WeakRow, Correlate, Remainder}
+use Rattle.reply.specs.declared.Refusal.the-variants.{WeakRow, Correlate, Remainder, Correction}
 use Rattle.reply.specs.declared.Reply.the-variants.{Accepted, Refused}
 use Rattle.reply.proofs.Checking.{refuse-first, accept-first}
 use Rattle.doolittle.specs.Table.{Table, at, tableOf}
 use Rattle.doolittle.specs.Solution.{weak, K}
-use Rattle.adjustment.specs.Corrections.{V-of, R-of}
-use Rattle.adjustment.specs.Refusals.{rowsReply, correlatesReply, remaindersReply, solutionReply}
+use Rattle.adjustment.specs.Corrections.{V-of, R-of, u-of}
+use Rattle.adjustment.specs.Refusals.{rowsReply, correlatesReply, remaindersReply, correctionsReply, solutionReply}
 use Rattle.doolittle.specs.Inner.{Sound}
-use Rattle.adjustment.specs.Inner.{closing}
-use Rattle.doolittle.proofs.Sizes.{sum-within, combination-size}
+use Rattle.adjustment.specs.Inner.{closing, rounding}
+use Rattle.doolittle.proofs.Sizes.{sum-within, product-size}
 use Rattle.adjustment.proofs.Demands.{remainder-forms}
 
 pub V-size : (qs cs ws : List ℤ) → Sound qs cs ws → (k : ℕ → ℤ) → ((j : ℕ) → j < length ws → natAbs (k j) ≤ 100000000) → (i : ℕ) → i < length qs → natAbs (V-of (tableOf qs cs ws) k i) ≤ 48000000000000
@@ -35,7 +36,7 @@ V-size qs cs ws s k h i l =
     let t = tableOf qs cs ws in
     rw (abs-mul (t .q i) (sum (t .n) (λ j. t .a j i *ℤ k j)))
     (mul-le (s .q-most i l)
-    (sum-within (t .n) 24 200000000000 (λ j. t .a j i *ℤ k j) (s .n-most) (λ j e. combination-size (t .a j i) (k j) (s .a-most j e i l) (h j e))))
+    (sum-within (t .n) 24 200000000000 (λ j. t .a j i *ℤ k j) (s .n-most) (λ j e. product-size (t .a j i) (k j) (s .a-most j e i l) (h j e))))
 
 -- V reads the correlates of the n conditions alone
 pub V-ext : (t : Table) (k k' : ℕ → ℤ) → ((j : ℕ) → j < t .n → k j ≡ k' j) → (i : ℕ) → V-of t k i ≡ V-of t k' i
@@ -91,6 +92,30 @@ module _ (t : Table) where
       unfolding solutionReply remaindersReply
       open-refused a b l = rw (a, b, refuse-first (t .n) (λ j. ltb 50000000 (natAbs (R-of t (K t) j))) (λ j. Remainder (j + 1)) close same-first l)
 
-      pub none-open : rowsReply t ≡ Accepted → correlatesReply t ≡ Accepted → t .n ≤ close → Accepted ≡ solutionReply t
-      unfolding solutionReply remaindersReply
-      none-open a b l = rw (a, b, accept-first (t .n) (λ j. ltb 50000000 (natAbs (R-of t (K t) j))) (λ j. Remainder (j + 1)) (omega (arith, same-first)))
+      pub none-open : t .n ≤ close → remaindersReply t (K t) ≡ Accepted
+      unfolding remaindersReply
+      none-open l = accept-first (t .n) (λ j. ltb 50000000 (natAbs (R-of t (K t) j))) (λ j. Remainder (j + 1)) (omega (arith, same-first))
+
+    -- ---- 9
+    pub rounding-is : (i : ℕ) → i < t .m → rounding (at vs) i ≡ u-of t (K t) i
+    unfolding u-of
+    rounding-is i l = ap (λ (z : ℤ). nearest z (pos 100000)) (v i l)
+
+    abbrev past : ℕ → Bool
+    past i = ltb 60000 (natAbs (u-of t (K t) i))
+
+    module _ (within : ℕ) (e : within ≡ first (t .m) (λ i. ltb 60000 (natAbs (rounding (at vs) i))))
+        (a : rowsReply t ≡ Accepted) (b : correlatesReply t ≡ Accepted) (c : remaindersReply t (K t) ≡ Accepted) where
+      first-past : within ≡ first (t .m) past
+      first-past = e ∙ first-ext (t .m) (λ i. ltb 60000 (natAbs (rounding (at vs) i))) past (λ i l. ap (λ (z : ℤ). ltb 60000 (natAbs z)) (rounding-is i l))
+
+      pub past-refused : within < t .m → Refused (Correction (within + 1)) ≡ solutionReply t
+      unfolding solutionReply correctionsReply
+      past-refused l = rw (a, b, c, refuse-first (t .m) past (λ i. Correction (i + 1)) within first-past l)
+
+      pub none-past : t .m ≤ within → (Accepted ≡ solutionReply t) × ((i : ℕ) → i < t .m → natAbs (u-of t (K t) i) ≤ 60000)
+      unfolding solutionReply correctionsReply
+      none-past l = (
+        rw (a, b, c, accept-first (t .m) past (λ i. Correction (i + 1)) (omega (arith, first-past))),
+        λ i h. ltb-false 60000 (natAbs (u-of t (K t) i)) (first-before (t .m) past i (omega (arith, first-past))),
+      )

@@ -2,15 +2,22 @@
 --   inverse-weights          the larger q has the larger correction; with weights for inverse weights it would be the other way round
 --   unrounded-remainder      R comes from the unrounded corrections; those that are printed leave Q, which is another number
 --   each-product-rounded     each product of a correlate is rounded; one rounding of their sum would give K(1) = -8,250
+--   at-one-minute            a printed correction of 60,000 passes, of either sign, and one of 60,001 is a blunder
+--   lowest-direction         of two blunders the one with the lower direction number is named, though the other is larger
+--   remainder-first          a table with a remainder that is too large and a blunder is refused for its remainder
 use mathlib.Core.Path.{_≡_, refl}
 use mathlib.Core.List.{List, [], _∷_}
 use lib.IntN.{ℤ, pos, negℤ}
 use Rattle.exact.specs.Sum.{sum}
 use Rattle.exact.specs.Nearest.{nearest}
 use Rattle.exact.specs.Tabulate.{tabulate}
+use Rattle.exact.specs.First.{first}
+use Rattle.reply.specs.declared.Refusal.the-variants.{Remainder, Correction}
+use Rattle.reply.specs.declared.Reply.the-variants.{Accepted, Refused}
 use Rattle.doolittle.specs.Table.{Table, tableOf}
-use Rattle.doolittle.specs.Solution.{N, reduced, D, L, M, back, K}
+use Rattle.doolittle.specs.Solution.{N, reduced, D, L, M, weakRow, weak, back, K}
 use Rattle.adjustment.specs.Corrections.{V-of, R-of, u-of, Q-of}
+use Rattle.adjustment.specs.Refusals.{rowsReply, correlatesReply, remaindersReply, correctionsReply, solutionReply}
 
 -- two directions with q = 1 and q = 4, one condition 100, 100 with w = 1,000
 abbrev unequal : Table
@@ -38,3 +45,38 @@ three =
 pub each-product-rounded : tabulate 3 (K three) ≡ negℤ (pos 8249) ∷ pos 35750 ∷ negℤ (pos 20251) ∷ []
 unfolding sum nearest tabulate N reduced D L M back K
 each-product-rounded = refl
+
+-- one direction with coefficient 100, so that u is -w
+abbrev alone : ℤ → Table
+alone w = tableOf (pos 1 ∷ []) (pos 100 ∷ []) (w ∷ [])
+
+pub at-one-minute :
+    (solutionReply (alone (pos 60000)) ≡ Accepted)
+    × (solutionReply (alone (negℤ (pos 60000))) ≡ Accepted)
+    × (solutionReply (alone (pos 60001)) ≡ Refused (Correction 1))
+    × (solutionReply (alone (negℤ (pos 60001))) ≡ Refused (Correction 1))
+unfolding sum nearest first N reduced D L M weakRow weak back K V-of R-of u-of rowsReply correlatesReply remaindersReply correctionsReply solutionReply
+at-one-minute = (refl, refl, refl, refl)
+
+-- three directions, each alone in its condition: u is -w of each
+abbrev two-blunders : Table
+two-blunders =
+    tableOf (pos 1 ∷ pos 1 ∷ pos 1 ∷ [])
+    (pos 100 ∷ pos 0 ∷ pos 0 ∷ pos 0 ∷ pos 100 ∷ pos 0 ∷ pos 0 ∷ pos 0 ∷ pos 100 ∷ [])
+    (pos 500 ∷ pos 61000 ∷ negℤ (pos 90000) ∷ [])
+
+pub lowest-direction :
+    (solutionReply two-blunders ≡ Refused (Correction 2)) × (tabulate 3 (u-of two-blunders (K two-blunders)) ≡ negℤ (pos 500) ∷ negℤ (pos 61000) ∷ pos 90000 ∷ [])
+unfolding sum nearest first tabulate N reduced D L M weakRow weak back K V-of R-of u-of rowsReply correlatesReply remaindersReply correctionsReply solutionReply
+lowest-direction = (refl, refl)
+
+-- figure 7's condition, and a fifth direction alone in another
+abbrev open-and-blunder : Table
+open-and-blunder =
+    tableOf (pos 10 ∷ pos 10 ∷ pos 10 ∷ pos 10 ∷ pos 1 ∷ [])
+    (pos 2000 ∷ pos 2000 ∷ pos 2000 ∷ pos 2000 ∷ pos 0 ∷ pos 0 ∷ pos 0 ∷ pos 0 ∷ pos 0 ∷ pos 100 ∷ [])
+    (pos 200 ∷ pos 70000 ∷ [])
+
+pub remainder-first : (solutionReply open-and-blunder ≡ Refused (Remainder 1)) × (u-of open-and-blunder (K open-and-blunder) 4 ≡ negℤ (pos 70000))
+unfolding sum nearest first N reduced D L M weakRow weak back K V-of R-of u-of rowsReply correlatesReply remaindersReply correctionsReply solutionReply
+remainder-first = (refl, refl)

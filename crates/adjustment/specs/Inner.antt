@@ -4,18 +4,24 @@ use mathlib.Core.List.{List}
 use Prim.Native.Nat.{ℕ, _≤_, _<_}
 use lib.ListN.{getD}
 use lib.IntN.{ℤ, pos, natAbs, _+ℤ_, _*ℤ_}
+use Rattle.exact.specs.Nearest.{nearest}
 use Rattle.doolittle.specs.Table.{Table}
 use Rattle.doolittle.specs.Solution.{K}
-use Rattle.adjustment.specs.Corrections.{V-of, R-of}
+use Rattle.adjustment.specs.Corrections.{V-of, R-of, u-of}
 use Rattle.adjustment.specs.Demand.{seen}
 
 -- R(j) by a and V: sum of a*V + 10^7*w(j)
 abbrev pub closing : Table → (ℕ → ℤ) → ℕ → ℤ
 closing t v j = seen t j v +ℤ pos 10000000 *ℤ t .w j
 
--- the correlates, corrections and remainders of a table
-pub record Solved (t : Table) (ks vs rs : List ℤ) : Type 0 where
+-- u(i) by V: V to the nearest 10^5
+abbrev pub rounding : (ℕ → ℤ) → ℕ → ℤ
+rounding v i = nearest (v i) (pos 100000)
+
+-- the correlates, corrections, printed corrections and remainders of a table that is accepted
+pub record Solved (t : Table) (ks vs us rs : List ℤ) : Type 0 where
   pub k : (j : ℕ) → j < t .n → getD ks j (pos 0) ≡ K t j
   pub v : (i : ℕ) → i < t .m → getD vs i (pos 0) ≡ V-of t (K t) i
+  pub u : (i : ℕ) → i < t .m → getD us i (pos 0) ≡ u-of t (K t) i
   pub r : (j : ℕ) → j < t .n → getD rs j (pos 0) ≡ R-of t (K t) j
-  pub k-most : (j : ℕ) → j < t .n → natAbs (K t j) ≤ 100000000
+  pub u-most : (i : ℕ) → i < t .m → natAbs (u-of t (K t) i) ≤ 60000

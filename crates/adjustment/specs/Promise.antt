@@ -1,9 +1,10 @@
--- What the operation promises for every input: its reply, what each lent answer list then holds, and demand 3 of every accepted table.
+-- What the operation promises for every input: its reply, what each lent answer list then holds, and of every accepted table demand 3 and that no
+-- printed correction is past one minute.
 use mathlib.Core.Path.{_≡_}
 use mathlib.Core.List.{List}
-use Prim.Native.Nat.{ℕ}
+use Prim.Native.Nat.{ℕ, _≤_, _<_}
 use lib.ListN.{length}
-use lib.IntN.{ℤ}
+use lib.IntN.{ℤ, natAbs}
 use Rattle.exact.specs.Tabulate.{tabulate}
 use Rattle.reply.specs.declared.Reply.{Reply}
 use Rattle.reply.specs.declared.Reply.the-variants.{Accepted}
@@ -44,9 +45,14 @@ answersOf t k direction = record {
   misses = tabulate (t .n) (Q-of t k);
 }
 
+-- "A correction past one minute is a blunder": none of these printed corrections is one
+abbrev pub WithinMinute : Table → (ℕ → ℤ) → Type 0
+WithinMinute t u = (i : ℕ) → i < t .m → natAbs (u i) ≤ 60000
+
 pub record Adjusts (ds qs cs ws : List ℤ) (lent : Answers) (reply : Reply) (left : Answers) : Type 0 where
   pub answer : reply ≡ adjustReply ds qs cs ws lent
   -- in the rules' numbers: number and place
   pub verdict : verdictOf reply ≡ verdictOf (adjustReply ds qs cs ws lent)
   pub lists : left ≡ leaves reply (answersOf (tableOf qs cs ws) (K (tableOf qs cs ws)) (at ds)) lent
   pub demand3 : reply ≡ Accepted → Demand3 (tableOf qs cs ws) (at (left .corrections)) (at (left .printed)) (at (left .remainders)) (at (left .misses))
+  pub within-minute : reply ≡ Accepted → WithinMinute (tableOf qs cs ws) (at (left .printed))

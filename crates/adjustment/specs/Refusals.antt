@@ -6,13 +6,13 @@ use lib.Dec.{ltb, eqb}
 use lib.ListN.{length}
 use lib.IntN.{ℤ, natAbs}
 use Rattle.exact.specs.First.{some-below}
-use Rattle.reply.specs.declared.Refusal.the-variants.{Count, Coefficient, Misclosure, WeakRow, Correlate, Remainder}
+use Rattle.reply.specs.declared.Refusal.the-variants.{Count, Coefficient, Misclosure, WeakRow, Correlate, Remainder, Correction}
 use Rattle.reply.specs.declared.Reply.{Reply}
 use Rattle.reply.specs.Checks.{refuseIf, refuseFirst, _andThen_}
 use Rattle.direction.specs.Ranges.{directionsReply}
 use Rattle.doolittle.specs.Table.{Table, tableOf}
 use Rattle.doolittle.specs.Solution.{weak, K}
-use Rattle.adjustment.specs.Corrections.{R-of}
+use Rattle.adjustment.specs.Corrections.{R-of, u-of}
 
 -- Directions m: 1 to 64. Conditions n: 1 to 24, and n not above m.
 unfoldable pub countsAmiss : ℕ → ℕ → Bool
@@ -49,9 +49,13 @@ correlatesReply t = refuseFirst (t .n) (λ b. ltb 100000000 (natAbs (K t (t .n -
 unfoldable pub remaindersReply : Table → (ℕ → ℤ) → Reply
 remaindersReply t k = refuseFirst (t .n) (λ j. ltb 50000000 (natAbs (R-of t k j))) (λ j. Remainder (j + 1))
 
+-- 9 by direction: "Any printed correction above 60,000 in size refuses the whole adjustment"
+unfoldable pub correctionsReply : Table → (ℕ → ℤ) → Reply
+correctionsReply t k = refuseFirst (t .m) (λ i. ltb 60000 (natAbs (u-of t k i))) (λ i. Correction (i + 1))
+
 -- the refusals of a table that has passed its input checks
 unfoldable pub solutionReply : Table → Reply
-solutionReply t = rowsReply t andThen (correlatesReply t andThen remaindersReply t (K t))
+solutionReply t = rowsReply t andThen (correlatesReply t andThen (remaindersReply t (K t) andThen correctionsReply t (K t)))
 
 -- the input checks of a lent table; the last six numbers are the lengths of the lent answer lists V, u, adjusted, K, R and Q
 unfoldable pub inputReply : (directions qs cs ws : List ℤ) (v u adjusted k r Q : ℕ) → Reply

@@ -6,7 +6,6 @@ ghost use lib.Dec.{ltb};
 ghost use lib.ListN.{length, getD};
 ghost use lib.IntN.{pos, natAbs, _+ℤ_, _*ℤ_};
 ghost use Rattle.exact.specs.Sum.{sum};
-ghost use Rattle.exact.specs.Nearest.{nearest};
 ghost use Rattle.exact.specs.Circle.{C, modulo};
 ghost use Rattle.exact.specs.First.{first};
 ghost use Rattle.exact.specs.Tabulate.{tabulate};
@@ -14,13 +13,19 @@ ghost use Rattle.doolittle.specs.Table.{at, tableOf};
 ghost use Rattle.adjustment.specs.Corrections.{V-of};
 ghost use Rattle.adjustment.specs.Demand.{seen};
 ghost use Rattle.doolittle.specs.Inner.{Small, Within, Sound};
-ghost use Rattle.adjustment.specs.Inner.{closing};
+ghost use Rattle.adjustment.specs.Inner.{closing, rounding};
 use direction::CIRCLE;
 
 // The remainders up to the first that is too large.
 pub struct Remaining {
     pub r: [i64; 24],
     pub close: usize,
+}
+
+// The printed corrections up to the first past one minute.
+pub struct Printed {
+    pub u: [i64; 64],
+    pub within: usize,
 }
 
 // s + x*y.
@@ -132,6 +137,26 @@ pub fn remainders(q: &[i64], a: &[i64], w: &[i64], v: &[i64]) -> Remaining
     Remaining { r, close: j }
 }
 
+// u = nearest(V / 10^5) of m directions, up to the first beyond 60,000.
+pub fn print_corrections(v: &[i64], m: usize) -> Printed
+    requires { ⌜ (m ≤ 64) × (m ≤ length (now v)) ⌝ }
+    ensures { λ r. ⌜ r .within ≡ first m (λ i. ltb 60000 (natAbs (rounding (at (now (v .entry))) i))) ⌝ }
+    ensures { λ r. ⌜ ((i : ℕ) → i < r .within → getD (r .u) i (pos 0) ≡ rounding (at (now (v .entry))) i) ⌝ }
+{
+    let mut u = [0i64; 64];
+    let mut i = 0;
+    while i < m {
+        let x = v[i];
+        let y = exact::nearest(x, 100000);
+        if 60000 < exact::magnitude(y) {
+            return Printed { u, within: i };
+        }
+        u[i] = y;
+        i += 1;
+    }
+    Printed { u, within: i }
+}
+
 // The first numbers of one list, into a lent one.
 pub fn store(from: &[i64], to: &mut [i64])
     requires { ⌜ length (now to) ≤ length (now from) ⌝ }
@@ -145,23 +170,9 @@ pub fn store(from: &[i64], to: &mut [i64])
     }
 }
 
-// u = nearest(V / 10^5), into a lent list.
-pub fn print_corrections(v: &[i64], u: &mut [i64])
-    requires { ⌜ length (now u) ≤ length (now v) ⌝ }
-    ensures { λ _. ⌜ now (u .exit) ≡ tabulate (length (now (u .entry)))
-        (λ i. nearest (getD (now (v .entry)) i (pos 0)) (pos 100000)) ⌝ }
-{
-    let mut i = 0;
-    while i < u.len() {
-        let x = v[i];
-        u[i] = exact::nearest(x, 100000);
-        i += 1;
-    }
-}
-
 // (direction + u) modulo C.
 fn turned(direction: i64, u: i64) -> i64
-    requires { ⌜ (natAbs direction ≤ 1296000000) × (natAbs u ≤ 480000001) ⌝ }
+    requires { ⌜ (natAbs direction ≤ 1296000000) × (natAbs u ≤ 60000) ⌝ }
     ensures { λ r. ⌜ r ≡ modulo (direction +ℤ u) C ⌝ }
 {
     exact::modulo(direction + u, CIRCLE)
@@ -170,7 +181,7 @@ fn turned(direction: i64, u: i64) -> i64
 // The adjusted directions, into a lent list.
 pub fn adjust_directions(directions: &[i64], u: &[i64], adjusted: &mut [i64])
     requires { ⌜ (length (now adjusted) ≤ length (now directions)) × (length (now adjusted) ≤ length (now u)) ⌝ }
-    requires { ⌜ Small 1296000000 (now directions) (length (now adjusted)) × Small 480000001 (now u) (length (now adjusted)) ⌝ }
+    requires { ⌜ Small 1296000000 (now directions) (length (now adjusted)) × Small 60000 (now u) (length (now adjusted)) ⌝ }
     ensures { λ _. ⌜ now (adjusted .exit) ≡ tabulate (length (now (adjusted .entry)))
         (λ i. modulo (getD (now (directions .entry)) i (pos 0) +ℤ getD (now (u .entry)) i (pos 0)) C) ⌝ }
 {
@@ -185,7 +196,7 @@ pub fn adjust_directions(directions: &[i64], u: &[i64], adjusted: &mut [i64])
 
 // Q(j) from the sum of a*u.
 fn printed_remainder(s: i64, w: i64) -> i64
-    requires { ⌜ (natAbs s ≤ 61440000128000) × (natAbs w ≤ 1000000) ⌝ }
+    requires { ⌜ (natAbs s ≤ 7680000000) × (natAbs w ≤ 1000000) ⌝ }
     ensures { λ r. ⌜ r ≡ pos 100000 *ℤ s +ℤ pos 10000000 *ℤ w ⌝ }
 {
     100000 * s + 10000000 * w
@@ -195,7 +206,7 @@ fn printed_remainder(s: i64, w: i64) -> i64
 pub fn print_remainders(q: &[i64], a: &[i64], w: &[i64], u: &[i64], printed: &mut [i64])
     requires { ⌜ Sound (now q) (now a) (now w) ⌝ }
     requires { ⌜ (length (now q) ≤ length (now u)) × (length (now printed) ≡ length (now w)) ⌝ }
-    requires { ⌜ Small 480000001 (now u) (length (now q)) ⌝ }
+    requires { ⌜ Small 60000 (now u) (length (now q)) ⌝ }
     ensures { λ _. ⌜ now (printed .exit) ≡ tabulate (length (now (w .entry)))
         (λ j. pos 100000 *ℤ seen (tableOf (now (q .entry)) (now (a .entry)) (now (w .entry))) j (at (now (u .entry))) +ℤ pos 10000000 *ℤ getD (now (w .entry)) j (pos 0)) ⌝ }
 {

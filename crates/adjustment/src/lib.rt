@@ -14,11 +14,12 @@ ghost use Rattle.adjustment.specs.Inner.{Solved};
 use reply::Refusal;
 use reply::Reply;
 
-// The correlates, corrections and remainders of a table that is accepted.
+// The correlates, corrections, printed corrections and remainders of a table that is accepted.
 struct Solution {
     pub reply: Reply,
     pub k: [i64; 24],
     pub v: [i64; 64],
+    pub u: [i64; 64],
     pub r: [i64; 24],
 }
 
@@ -29,17 +30,19 @@ fn refused(why: Refusal) -> Solution
         reply: Reply::Refused(why),
         k: [0i64; 24],
         v: [0i64; 64],
+        u: [0i64; 64],
         r: [0i64; 24],
     }
 }
 
-// 6 by row, 7 in back order, 8 by condition; else the solution.
+// 6 by row, 7 in back order, 8 by condition, 9 by direction; else the solution.
 fn solve(q: &[i64], a: &[i64], w: &[i64]) -> Solution
     requires { ⌜ Sound (now q) (now a) (now w) ⌝ }
     ensures { λ s. ⌜ s .reply ≡ solutionReply (tableOf (now (q .entry)) (now (a .entry)) (now (w .entry))) ⌝ }
     ensures { λ s. ⌜ (s .reply ≡ Accepted →
-        Solved (tableOf (now (q .entry)) (now (a .entry)) (now (w .entry))) (s .k) (s .v) (s .r)) ⌝ }
+        Solved (tableOf (now (q .entry)) (now (a .entry)) (now (w .entry))) (s .k) (s .v) (s .u) (s .r)) ⌝ }
 {
+    let m = q.len();
     let n = w.len();
     let mut rows = [[0i64; 25]; 24];
     let mut multipliers = [[0i64; 24]; 24];
@@ -60,10 +63,17 @@ fn solve(q: &[i64], a: &[i64], w: &[i64]) -> Solution
         return refused(Refusal::Remainder((close + 1) as u64));
     }
     let r = remaining.r;
+    let printed = correct::print_corrections(&v, m);
+    let within = printed.within;
+    if within < m {
+        return refused(Refusal::Correction((within + 1) as u64));
+    }
+    let u = printed.u;
     Solution {
         reply: Reply::Accepted,
         k,
         v,
+        u,
         r,
     }
 }
@@ -76,6 +86,7 @@ fn answer(
     w: &[i64],
     k: [i64; 24],
     v: [i64; 64],
+    u: [i64; 64],
     r: [i64; 24],
     corrections: &mut [i64],
     printed: &mut [i64],
@@ -85,7 +96,7 @@ fn answer(
     misses: &mut [i64],
 )
     requires { ⌜ Sound (now q) (now a) (now w) ⌝ }
-    requires { ⌜ Solved (tableOf (now q) (now a) (now w)) k v r ⌝ }
+    requires { ⌜ Solved (tableOf (now q) (now a) (now w)) k v u r ⌝ }
     requires { ⌜ (length (now directions) ≡ length (now q)) × Small 1296000000 (now directions) (length (now q)) ⌝ }
     requires { ⌜ (length (now corrections) ≡ length (now q)) × (length (now printed) ≡ length (now q)) × (length (now adjusted) ≡ length (now q)) ⌝ }
     requires { ⌜ (length (now correlates) ≡ length (now w)) × (length (now remainders) ≡ length (now w)) × (length (now misses) ≡ length (now w)) ⌝ }
@@ -94,11 +105,11 @@ fn answer(
         (K (tableOf (now (q .entry)) (now (a .entry)) (now (w .entry)))) (at (now (directions .entry))) ⌝ }
 {
     correct::store(&v, corrections);
+    correct::store(&u, printed);
     correct::store(&k, correlates);
     correct::store(&r, remainders);
-    correct::print_corrections(&v, printed);
-    correct::adjust_directions(directions, printed, adjusted);
-    correct::print_remainders(q, a, w, printed, misses);
+    correct::adjust_directions(directions, &u, adjusted);
+    correct::print_remainders(q, a, w, &u, misses);
 }
 
 // Adjusts a lent condition table: m directions with their inverse weights q, n rows of m coefficients, n misclosures. The answers V, u, adjusted
@@ -154,6 +165,7 @@ pub fn adjust(
     }
     let k = solution.k;
     let v = solution.v;
+    let u = solution.u;
     let r = solution.r;
     answer(
         directions,
@@ -162,6 +174,7 @@ pub fn adjust(
         w,
         k,
         v,
+        u,
         r,
         corrections,
         printed,

@@ -148,10 +148,10 @@ enum-told-3 c = search needs
 
 answer-requires : tie.Need-answer-requires
 answer-requires c κs =
-    let k = c .before .before .before .before .before .before .before .before .before .before .before in let d = k .before in let s = begin d in let l = lengths (else2 (told d)) in (
+    let k = c .before .before .before .before .before .before .before .before .before .before .before .before in let d = k .before in let s = begin d in let l = lengths (else2 (told d)) in (
       sound d,
       (
-        k .solve .ensures .1 (c .before .before .before .before .before .before .before .before .before .enum-told3 .given .1),
+        k .solve .ensures .1 (c .before .before .before .before .before .before .before .before .before .before .enum-told3 .given .1),
         (
           (sym (l .of-q), λ i h. directions-known (ds s) (q s) (directions-right (told d)) i (omega (arith, l .of-q)) .size),
           (
@@ -182,8 +182,8 @@ same-length-6 c = search needs
 
 returns-6 : tie.Need-returns-6
 returns-6 c =
-    let k = c .before .before .before .before .before .before .before .before .before .before .before .before .before .before .before .before .before .before in let d = k .before in let s = begin d in
-    accepted-adjusts (ds s) (q s) (a s) (w s) (lent s) (sound d) (sym (k .solve .ensures .0) ∙ c .before .before .before .before .before .before .before .before .before .before .before .before .before .before .before .before .enum-told3 .given .1) (reply-is d) _ (c .before .before .before .before .before .before .answer .ensures)
+    let k = c .before .before .before .before .before .before .before .before .before .before .before .before .before .before .before .before .before .before .before in let d = k .before in let s = begin d in
+    accepted-adjusts (ds s) (q s) (a s) (w s) (lent s) (sym (k .solve .ensures .0) ∙ c .before .before .before .before .before .before .before .before .before .before .before .before .before .before .before .before .before .enum-told3 .given .1) (sound d) (reply-is d) _ (c .before .before .before .before .before .before .answer .ensures)
 
 pub adjust-spec : {M : Type 1} → statement M
 adjust-spec =

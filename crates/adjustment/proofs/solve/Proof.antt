@@ -14,10 +14,10 @@ use Rattle.reply.specs.declared.Reply.the-variants.{Accepted, Refused}
 use Rattle.doolittle.specs.Table.{Table, at, tableOf}
 use Rattle.doolittle.specs.Solution.{weak, K}
 use Rattle.adjustment.specs.Corrections.{V-of}
-use Rattle.adjustment.specs.Refusals.{rowsReply, correlatesReply}
+use Rattle.adjustment.specs.Refusals.{rowsReply, correlatesReply, remaindersReply}
 use Rattle.doolittle.specs.Inner.{Triangle, Solves, Small}
 use Rattle.doolittle.proofs.Correlating.{triangle-within}
-use Rattle.adjustment.proofs.Solving.{V-size, V-ext, closing-is, weak-refused, none-weak, large-refused, none-too-large, open-refused, none-open}
+use Rattle.adjustment.proofs.Solving.{V-size, V-ext, closing-is, rounding-is, weak-refused, none-weak, large-refused, none-too-large, open-refused, none-open, past-refused, none-past}
 use Rattle.adjustment.proofs.solve.Statement.{statement}
 use Rattle.adjustment.proofs.solve.Tie as tie
 
@@ -83,8 +83,8 @@ module _ (c : tie.After-corrections) where
 reduce-requires : tie.Need-reduce-requires
 reduce-requires c κs = search needs
 
-add-t20 : tie.Need-add-t20
-add-t20 c = search needs
+add-t24 : tie.Need-add-t24
+add-t24 c = search needs
 
 refused-requires : tie.Need-refused-requires
 refused-requires c κs = search needs
@@ -126,8 +126,8 @@ remainders-requires c κs =
       ),
     )
 
-add-t30 : tie.Need-add-t30
-add-t30 c = search needs
+add-t34 : tie.Need-add-t34
+add-t34 c = search needs
 
 refused-requires-3 : tie.Need-refused-requires-3
 refused-requires-3 c κs = search needs
@@ -140,15 +140,48 @@ returns-3 c =
       no-solution (c .refused3 .ensures),
     )
 
+slice-aggregate-print-corrections : tie.Need-slice-aggregate-print-corrections
+slice-aggregate-print-corrections c = search needs
+
+print-corrections-requires : tie.Need-print-corrections-requires
+print-corrections-requires c κs = search needs
+
+add-t39 : tie.Need-add-t39
+add-t39 c = search needs
+
+refused-requires-4 : tie.Need-refused-requires-4
+refused-requires-4 c κs = search needs
+
+-- no remainder is too large
+module _ (c : tie.Else3) where
+  abbrev corrected : tie.After-corrections
+  corrected = c .before .before .before
+
+  abbrev start5 : tie.Start
+  start5 = start4 corrected
+
+  none-left : remaindersReply (table start5) (K (table start5)) ≡ Accepted
+  none-left = none-open (table start5) (corrected .corrections .result) (v-is corrected) (c .before .remainders .result .close) (c .before .remainders .ensures .0) (c .if3 .left)
+
 returns-4 : tie.Need-returns-4
 returns-4 c =
-    let r = c .before .before in let b = r .before .before in let s = start4 b in let e = b .before .before in (
-      none-open (table s) (b .corrections .result) (v-is b) (r .remainders .result .close) (r .remainders .ensures .0) (no-weak (sound (e .before)) .0) (none-large e .0) (c .before .if3 .left),
+    let p = c .before .before in let r = p .before .before .before in let b = corrected r in let e = b .before .before in (
+      c .refused4 .ensures
+          ∙ past-refused (table (start5 r)) (b .corrections .result) (v-is b) (p .print-corrections .result .within) (p .print-corrections .ensures .0) (no-weak (sound (e .before)) .0) (none-large e .0) (none-left r) (c .before .if4 .taken),
+      no-solution (c .refused4 .ensures),
+    )
+
+returns-5 : tie.Need-returns-5
+returns-5 c =
+    let p = c .before .before in let l = p .before .before .before in let b = corrected l in let t = table (start5 l) in let e = b .before .before in
+    let none = none-past t (b .corrections .result) (v-is b) (p .print-corrections .result .within) (p .print-corrections .ensures .0) (no-weak (sound (e .before)) .0) (none-large e .0) (none-left l) (c .before .if4 .left) in (
+      none .0,
       λ f. record {
         k = k-is e;
         v = v-is b;
-        r = λ j l. r .remainders .ensures .1 j (omega arith) ∙ closing-is (table s) (b .corrections .result) (v-is b) j;
-        k-most = none-large e .1;
+        u = λ i h. p .print-corrections .ensures .1 i (omega arith) ∙ rounding-is t (b .corrections .result) (v-is b) i h;
+        r = λ j h. l .before .remainders .ensures .1 j (omega arith) ∙ closing-is t (b .corrections .result) (v-is b) j;
+        u-most = none .1;
       },
     )
 
@@ -157,7 +190,7 @@ solve-spec =
     tie.close
     (tie.spec
     reduce-requires
-    add-t20
+    add-t24
     refused-requires
     returns
     correlates-requires
@@ -166,7 +199,12 @@ solve-spec =
     corrections-requires
     slice-aggregate-remainders
     remainders-requires
-    add-t30
+    add-t34
     refused-requires-3
     returns-3
-    returns-4)
+    slice-aggregate-print-corrections
+    print-corrections-requires
+    add-t39
+    refused-requires-4
+    returns-4
+    returns-5)

@@ -15,7 +15,7 @@ use Rattle.exact.proofs.Bound.{read-at, read-within}
 use Rattle.exact.proofs.Sum.{sum-none, sum-more}
 use Rattle.doolittle.specs.Table.{at}
 use Rattle.doolittle.specs.Solution.{M}
-use Rattle.doolittle.proofs.Sizes.{sum-within, combination-size, row-end, next-row}
+use Rattle.doolittle.proofs.Sizes.{sum-within, product-size, row-end, next-row}
 use Rattle.adjustment.proofs.correct.combined.Statement.{statement}
 use Rattle.adjustment.proofs.correct.combined.Tie as tie
 
@@ -78,7 +78,7 @@ module _ (c : tie.After-y Inv-loop μ-loop) where
       (omega (
         arith,
         sum-within j 24 200000000000 terms (omega arith)
-            (λ h l. combination-size (getD a (h * start .args .m + start .args .i) (pos 0)) (getD (start .args .t2) h (pos 0)) (start .pre .1 .0 h (omega arith)) (start .pre .1 .1 h (omega arith))),
+            (λ h l. product-size (getD a (h * start .args .m + start .args .i) (pos 0)) (getD (start .args .t2) h (pos 0)) (start .pre .1 .0 h (omega arith)) (start .pre .1 .1 h (omega arith))),
       ))
 
   -- the coefficient, as the code finds it

@@ -13,7 +13,7 @@ use Rattle.exact.proofs.Filling.{Filled, filled-none, filled-more}
 use Rattle.doolittle.specs.Table.{Table, at, tableOf}
 use Rattle.doolittle.specs.Solution.{M}
 use Rattle.adjustment.specs.Corrections.{V-of}
-use Rattle.doolittle.proofs.Sizes.{sum-within, combination-size}
+use Rattle.doolittle.proofs.Sizes.{sum-within, product-size}
 use Rattle.adjustment.proofs.correct.corrections.Statement.{statement}
 use Rattle.adjustment.proofs.correct.corrections.Tie as tie
 
@@ -60,7 +60,7 @@ module _ (c : tie.After-combined Inv-loop μ-loop) where
   sum-size =
       rw (c .combined .ensures)
       (sum-within (t .n) 24 200000000000 (λ j. t .a j i *ℤ at (start .args .k) j) (start .pre .0 .n-most)
-      (λ j e. combination-size (t .a j i) (at (start .args .k) j) (start .pre .0 .a-most j e i below) (start .pre .1 j e)))
+      (λ j e. product-size (t .a j i) (at (start .args .k) j) (start .pre .0 .a-most j e i below) (start .pre .1 j e)))
 
 weighted-requires : tie.Need-weighted-requires Inv-loop μ-loop
 weighted-requires c κs = (

@@ -1,33 +1,40 @@
 -- `correct::print_corrections` meets its contract. Assumes nothing.
-use mathlib.Core.Path.{_≡_, refl, _∙_, ap, subst}
+use mathlib.Core.Path.{_≡_, refl, sym, _∙_, ap, subst}
+use mathlib.Core.Bool.{Bool}
 use mathlib.Core.List.{List}
-use Prim.Native.Nat.{ℕ, _-_, _≤_}
+use Prim.Native.Nat.{ℕ, _-_, _≤_, _<_, zero-le}
 use native.Mathlib.Omega.{arith}
 use borrow.Author.Needs.{needs}
+use borrow.Author.Tests.{lt-ltb, le-ltb}
 use denote.Ref.{now}
-use lib.ListN.{length, getD}
-use lib.IntN.{ℤ, pos}
+use lib.Dec.{ltb}
+use lib.ListN.{length, getD, replicate, length-set}
+use lib.IntN.{ℤ, pos, natAbs}
 use mir.Syntax.{w64}
 use mir.Val.{toZ, ofZ}
 use Rattle.exact.specs.Nearest.{nearest}
 use Rattle.exact.proofs.Bound.{read-at}
-use Rattle.exact.proofs.Filling.{Filled, filled-none, filled-more, filled-all}
+use Rattle.exact.proofs.Searching.{Failed, failed-none, failed-more, first-at, first-none}
+use Rattle.exact.proofs.Filling.{Filled, filled-none, filled-more}
+use Rattle.doolittle.specs.Table.{at}
 use Rattle.doolittle.specs.Solution.{M}
+use Rattle.adjustment.specs.Inner.{rounding}
 use Rattle.adjustment.proofs.correct.print_corrections.Statement.{statement}
 use Rattle.adjustment.proofs.correct.print_corrections.Tie as tie
 
--- u of V
-abbrev rounded : List ℤ → ℕ → ℤ
-rounded v i = nearest (getD v i (pos 0)) (pos 100000)
+-- the printed correction of direction i is past one minute
+abbrev past : List ℤ → ℕ → Bool
+past v i = ltb 60000 (natAbs (rounding (at v) i))
 
 abbrev Inv-loop : tie.InvT-loop
-Inv-loop v u₀ i₀ u i = (i ≤ length u₀) × Filled (pos 0) (rounded v) 0 i u₀ u
+Inv-loop v m u₀ i₀ u i = (i ≤ m) × (length u ≡ 64) × Failed (past v) i × Filled (pos 0) (rounding (λ h. getD v h (pos 0))) 0 i u₀ u
 
 abbrev μ-loop : tie.MeasureT-loop
-μ-loop v u₀ i₀ u i = length u₀ - i
+μ-loop v m u₀ i₀ u i = m - i
 
 loop-holds : tie.Need-loop-holds Inv-loop μ-loop
-loop-holds c = (omega arith, filled-none (pos 0) (rounded (now (c .args .v))) 0 (now (c .args .u)))
+loop-holds c =
+    let v = now (c .args .v) in (omega arith, refl, failed-none (past v), filled-none (pos 0) (rounding (at v)) 0 (replicate 64 (pos 0)))
 
 mul-x : tie.Need-mul-x Inv-loop μ-loop
 mul-x c = search needs
@@ -38,11 +45,44 @@ shared-slice-copy-out-x c = search needs
 nearest-requires : tie.Need-nearest-requires Inv-loop μ-loop
 nearest-requires c κs = search needs
 
-mul-t5 : tie.Need-mul-t5 Inv-loop μ-loop
-mul-t5 c = search needs
+magnitude-requires : tie.Need-magnitude-requires Inv-loop μ-loop
+magnitude-requires c κs = search needs
 
-slice-set-from-u : tie.Need-slice-set-from-u Inv-loop μ-loop
-slice-set-from-u c = search needs
+-- in a turn: the printed correction, and its size
+module _ (c : tie.After-magnitude Inv-loop μ-loop) where
+  abbrev loop : tie.At-loop Inv-loop μ-loop
+  loop = c .before .before .before .before
+
+  abbrev start : tie.Start Inv-loop μ-loop
+  start = loop .before
+
+  abbrev v : List ℤ
+  v = now (start .args .v)
+
+  abbrev i : ℕ
+  i = loop .loop .i
+
+  below : i < start .args .m
+  below = omega arith
+
+  rounded : c .before .nearest .result ≡ rounding (at v) i
+  rounded = c .before .nearest .ensures ∙ ap (λ (z : ℤ). nearest z (pos 100000)) (read-at (at v i) (c .before .before .x .given))
+
+  size-is : c .magnitude .result ≡ natAbs (rounding (at v) i)
+  size-is = c .magnitude .ensures ∙ ap natAbs (read-at (c .before .nearest .result) (c .before .nearest .ok) ∙ rounded)
+
+returns : tie.Need-returns Inv-loop μ-loop
+returns c =
+    let b = c .before in let h = loop b .loop .inv in (
+      sym (first-at (start b .args .m) (past (v b)) (i b) (below b) (h .2) (lt-ltb 60000 (natAbs (rounding (at (v b)) (i b))) (rw (size-is b) at (c .if1 .taken)))),
+      λ k l. h .3 .done k zero-le l,
+    )
+
+mul-u : tie.Need-mul-u Inv-loop μ-loop
+mul-u c = search needs
+
+array-set-from-u : tie.Need-array-set-from-u Inv-loop μ-loop
+array-set-from-u c = search needs
 
 add-i : tie.Need-add-i Inv-loop μ-loop
 add-i c = search needs
@@ -52,20 +92,18 @@ loop-less c = search needs
 
 loop-again : tie.Need-loop-again Inv-loop μ-loop
 loop-again c =
-    let l = c .before .before .before in let s = l .before in let x = getD (now (s .args .v)) (l .loop .i) (pos 0) in (
+    let b = c .before in let h = loop b .loop .inv in let y = b .before .nearest .result in (
       omega arith,
-      filled-more (pos 0) (rounded (now (s .args .v))) 0 (l .loop .i) (now (s .args .u)) (l .loop .u) (toZ w64 (ofZ w64 (c .nearest .result))) (omega (arith, l .loop .inv .1 .long)) (l .loop .inv .1)
-          (read-at (c .nearest .result) (c .nearest .ok) ∙ c .nearest .ensures ∙ ap (λ (z : ℤ). nearest z (pos 100000)) (read-at x (c .before .x .given))),
+      length-set (loop b .loop .u) (i b) (toZ w64 (ofZ w64 y)) ∙ h .1,
+      failed-more (past (v b)) (i b) (h .2) (le-ltb 60000 (natAbs (rounding (at (v b)) (i b))) (rw (size-is b) at (c .if1 .left))),
+      filled-more (pos 0) (rounding (at (v b))) 0 (i b) (replicate 64 (pos 0)) (loop b .loop .u) (toZ w64 (ofZ w64 y))
+          (omega (arith, start b .pre .0, below b)) (h .3) (read-at y (b .before .nearest .ok) ∙ rounded b),
     )
 
-same-length : tie.Need-same-length Inv-loop μ-loop
-same-length c = search needs
-
-returns : tie.Need-returns Inv-loop μ-loop
-returns c =
-    let l = c .before in let s = l .before in let e : l .loop .i ≡ length (now (s .args .u)) = omega (arith, l .loop .inv .1 .long) in
-    filled-all (pos 0) (rounded (now (s .args .v))) (length (now (s .args .u))) (now (s .args .u)) (l .loop .u) refl
-    (subst (λ (i : ℕ). Filled (pos 0) (rounded (now (s .args .v))) 0 i (now (s .args .u)) (l .loop .u)) e (l .loop .inv .1))
+returns-2 : tie.Need-returns-2 Inv-loop μ-loop
+returns-2 c =
+    let l = c .before in let s = l .before in let test = past (now (s .args .v)) in let e : l .loop .i ≡ s .args .m = omega arith in
+    (e ∙ sym (first-none (s .args .m) test (subst (Failed test) e (l .loop .inv .2))), λ h k. l .loop .inv .3 .done h zero-le k)
 
 pub print-corrections-spec : {M : Type 1} → statement M
 print-corrections-spec =
@@ -77,10 +115,11 @@ print-corrections-spec =
     mul-x
     shared-slice-copy-out-x
     nearest-requires
-    mul-t5
-    slice-set-from-u
+    magnitude-requires
+    returns
+    mul-u
+    array-set-from-u
     add-i
     loop-less
     loop-again
-    same-length
-    returns)
+    returns-2)

@@ -17,7 +17,7 @@ use Rattle.doolittle.specs.Table.{Table, at, tableOf}
 use Rattle.adjustment.specs.Demand.{seen}
 use Rattle.doolittle.specs.Solution.{M}
 use Rattle.doolittle.specs.Inner.{Within}
-use Rattle.doolittle.proofs.Sizes.{sum-within, printed-size, row-end, next-row}
+use Rattle.doolittle.proofs.Sizes.{sum-within, product-size, row-end, next-row}
 use Rattle.adjustment.proofs.correct.print_remainders.Statement.{statement}
 use Rattle.adjustment.proofs.correct.print_remainders.Tie as tie
 
@@ -72,11 +72,11 @@ module _ (c : tie.After-sum-seen Inv-loop μ-loop) where
   sum-is : c .sum-seen .result ≡ seen t j (at u)
   sum-is = c .sum-seen .ensures ∙ ap (λ (k : ℕ). sum (t .m) (λ i. getD (now (start .args .a)) (k + i) (pos 0) *ℤ getD u i (pos 0))) (loop .loop .inv .1)
 
-  sum-size : natAbs (c .sum-seen .result) ≤ 61440000128000
+  sum-size : natAbs (c .sum-seen .result) ≤ 7680000000
   sum-size =
       rw sum-is
-      (sum-within (t .m) 64 960000002000 (λ i. t .a j i *ℤ at u i) (start .pre .0 .m-most)
-      (λ i l. printed-size (t .a j i) (at u i) (start .pre .0 .a-most j below i l) (start .pre .1 .1 i l)))
+      (sum-within (t .m) 64 120000000 (λ i. t .a j i *ℤ at u i) (start .pre .0 .m-most)
+      (λ i l. product-size (t .a j i) (at u i) (start .pre .0 .a-most j below i l) (start .pre .1 .1 i l)))
 
 printed-remainder-requires : tie.Need-printed-remainder-requires Inv-loop μ-loop
 printed-remainder-requires c κs =
