@@ -17,7 +17,7 @@ use Rattle.condition.specs.Rules.{coefficient, coefficientsReply, coefficientsL
 use Rattle.doolittle.specs.Solution.{N, reduced, D, L, M, weakRow, weak, back, K}
 use Rattle.adjustment.specs.Corrections.{V-of, R-of, u-of, adjusted-of, Q-of}
 use Rattle.adjustment.specs.Refusals.{countsAmiss, differs, lengthsAmiss, coefficientFault, misclosureFault}
-use Rattle.adjustment.specs.Refusals.{conditionsReply as tableReply, rowsReply, correlatesReply, remaindersReply, solutionReply, inputReply}
+use Rattle.adjustment.specs.Refusals.{conditionsReply as tableReply, rowsReply, correlatesReply, remaindersReply, correctionsReply, solutionReply, inputReply}
 use Rattle.adjustment.specs.Promise.{adjustReply}
 use Rattle.text.specs.Parts.{onFirst, parted}
 use Rattle.text.specs.Lines.{linesOf}
@@ -61,5 +61,5 @@ listing =
     []
 
 pub figure-3 : (fileReply file ≡ Accepted) × (listingOf file ≡ listing)
-unfolding floor modulo first nearest sum tabulate directionsReply kindOf share angle part directionsMiscounted termsMiscounted inTurn termsCheck checks coefficient coefficientsReply coefficientsList misclosure misclosureFigure N reduced D L M weakRow weak back K V-of R-of u-of adjusted-of Q-of countsAmiss differs lengthsAmiss coefficientFault misclosureFault tableReply rowsReply correlatesReply remaindersReply solutionReply inputReply adjustReply onFirst parted linesOf fieldsOf fieldAt letterOf readDigits unsignedOf plus minus numeral digits digitsOf written with directionLine anglesLine sidesLine conditionLine angleLine fixedLine sideLine lineOf recordOf termFault same belongs outOfTurn oneTooMany directionReply anglesReply sidesReply termReply lineReply counted endFault endReply scanned scanReply lineBefore netOf refusedAs figureValue zeros lentOf conditionReply formedReply rowOf misclosureOf rowsOf misclosuresOf tableIn room netReply netAnswers fileReply inOrder answersListing netListing printed listingOf
+unfolding floor modulo first nearest sum tabulate directionsReply kindOf share angle part directionsMiscounted termsMiscounted inTurn termsCheck checks coefficient coefficientsReply coefficientsList misclosure misclosureFigure N reduced D L M weakRow weak back K V-of R-of u-of adjusted-of Q-of countsAmiss differs lengthsAmiss coefficientFault misclosureFault tableReply rowsReply correlatesReply remaindersReply correctionsReply solutionReply inputReply adjustReply onFirst parted linesOf fieldsOf fieldAt letterOf readDigits unsignedOf plus minus numeral digits digitsOf written with directionLine anglesLine sidesLine conditionLine angleLine fixedLine sideLine lineOf recordOf termFault same belongs outOfTurn oneTooMany directionReply anglesReply sidesReply termReply lineReply counted endFault endReply scanned scanReply lineBefore netOf refusedAs figureValue zeros lentOf conditionReply formedReply rowOf misclosureOf rowsOf misclosuresOf tableIn room netReply netAnswers fileReply inOrder answersListing netListing printed listingOf
 figure-3 = (refl, refl)

@@ -1,5 +1,5 @@
 -- The promises of the operations on a whole file: page's laws, of the reply to a file and of its listing. Assumes nothing.
---   file-demand3                            demand 3 of every accepted file
+--   file-demand3, file-within-minute        of every accepted file: demand 3, and no printed correction is past one minute
 --   file-most, listing-most                 no file's listing has more than 6,560 bytes
 --   too-short, table-refused, table-listed  `adjust` keeps its promise: with a buffer that is too short, of a file without a table, of another
 --   refusal-leaves-buffer                   a refusal that keeps the promise leaves the lent buffer as it was
@@ -19,8 +19,8 @@ use Rattle.reply.specs.Verdicts.{verdictOf}
 use Rattle.reply.proofs.Checking.{both-accepted}
 use Rattle.doolittle.specs.Solution.{K}
 use Rattle.adjustment.specs.Corrections.{u-of}
-use Rattle.adjustment.specs.Promise.{adjustReply}
-use Rattle.adjustment.proofs.Promising.{accepted-demand3}
+use Rattle.adjustment.specs.Promise.{Answers, adjustReply}
+use Rattle.adjustment.proofs.Promising.{accepted-demand3, accepted-within-minute}
 use Rattle.text.specs.Lines.{linesOf}
 use Rattle.text.specs.Written.{Wrote}
 use Rattle.text.proofs.Putting.{one-wrote}
@@ -32,23 +32,37 @@ use Rattle.network.specs.Net.{Net, netOf, netFrom, formedReply, rowsOf, misclos
 use Rattle.network.specs.declared.Tabled.{Tabled}
 use Rattle.network.proofs.Bounding.{scan-bounds}
 use Rattle.network.proofs.Passing.{file-passed}
-use Rattle.listing.specs.File.{tableIn, room, netReply, netAnswers, fileReply, tableListing, netListing, fileListing, FileDemand3, adjustFileReply, AdjustsFile, listingOf, listingIn}
+use Rattle.listing.specs.File.{tableIn, room, netReply, netAnswers, fileReply, tableListing, netListing, fileListing, FileDemand3, FileWithinMinute, adjustFileReply, AdjustsFile, listingOf, listingIn}
 use Rattle.listing.proofs.Tabling.{misclosures-length, file-refused, file-reply, file-listing, answers-most}
 
 module _ (file : List ℕ) where
   abbrev net : Net
   net = netOf (linesOf file)
 
-  -- ---- demand 3
-  pub file-demand3 : fileReply file ≡ Accepted → FileDemand3 file
-  unfolding fileReply netReply tableIn
-  file-demand3 e =
-      let rows = rowsOf (net .directions) (net .q) (net .conditions) in
-      let closings = misclosuresOf (net .directions) (net .q) (net .conditions) in
-      let lent = room (length (net .directions)) (length (net .conditions)) in
-      let solved = both-accepted (scanReply file) (netReply net) e .1 in
-      accepted-demand3 (net .directions) (net .q) rows closings lent
-      (both-accepted (formedReply (net .directions) (net .q) 1 (net .conditions)) (adjustReply (net .directions) (net .q) rows closings lent) solved .1)
+  -- ---- of every accepted file: its table is accepted
+  abbrev rows : List ℤ
+  rows = rowsOf (net .directions) (net .q) (net .conditions)
+
+  abbrev closings : List ℤ
+  closings = misclosuresOf (net .directions) (net .q) (net .conditions)
+
+  abbrev lent : Answers
+  lent = room (length (net .directions)) (length (net .conditions))
+
+  module _ (e : fileReply file ≡ Accepted) where
+    solved : adjustReply (net .directions) (net .q) rows closings lent ≡ Accepted
+    unfolding fileReply netReply
+    solved =
+        both-accepted (formedReply (net .directions) (net .q) 1 (net .conditions)) (adjustReply (net .directions) (net .q) rows closings lent)
+        (both-accepted (scanReply file) (netReply net) e .1) .1
+
+    pub file-demand3 : FileDemand3 file
+    unfolding tableIn
+    file-demand3 = accepted-demand3 (net .directions) (net .q) rows closings lent solved
+
+    pub file-within-minute : FileWithinMinute file
+    unfolding tableIn
+    file-within-minute = accepted-within-minute (net .directions) (net .q) rows closings lent solved
 
   -- ---- the longest listing
   pub file-most : fileReply file ≡ Accepted → length (fileListing file) ≤ 6560
@@ -68,11 +82,9 @@ module _ (file : List ℕ) where
   module _ (before : List ℕ) where
     kept : {listed : Listed} {after : List ℕ} → ListedBy (adjustFileReply file (length before)) (fileListing file) before listed after → AdjustsFile file before listed after
     unfolding adjustFileReply
-    kept l = record {
-      lists = l;
-      verdict = ap verdictOf (l .answer);
-      demand3 = λ e. file-demand3 (room-accepted (Count 0) 6560 (length before) (fileReply file) (sym (l .answer) ∙ e));
-    }
+    kept {listed} l =
+        let accepted : listed .reply ≡ Accepted → fileReply file ≡ Accepted = λ e. room-accepted (Count 0) 6560 (length before) (fileReply file) (sym (l .answer) ∙ e) in
+        record { lists = l; verdict = ap verdictOf (l .answer); demand3 = λ e. file-demand3 (accepted e); within-minute = λ e. file-within-minute (accepted e) }
 
     pub too-short : length before < 6560 → AdjustsFile file before (record { reply = Refused (Count 0); length = 0 }) before
     unfolding adjustFileReply

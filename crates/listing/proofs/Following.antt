@@ -1,4 +1,4 @@
--- After an accepted scan a file is refused with 4 or 5 by its conditions, or with 6, 7 or 8 by its solution, and for nothing else. Assumes nothing.
+-- After an accepted scan a file is refused with 4 or 5 by its conditions, or with 6, 7, 8 or 9 by its solution, and for nothing else. Assumes nothing.
 --   InRange, in-range     the row and the misclosure of an accepted condition are in range
 --   AllInRange, all-in-range   the rows of all conditions, one after the other, and their misclosures are
 --   table-passes          so the table passes the input checks of `adjustment`

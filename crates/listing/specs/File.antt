@@ -13,7 +13,7 @@ use Rattle.doolittle.specs.Table.{Table, at, tableOf}
 use Rattle.doolittle.specs.Solution.{K}
 use Rattle.adjustment.specs.Corrections.{V-of, R-of, u-of, Q-of}
 use Rattle.adjustment.specs.Demand.{Demand3}
-use Rattle.adjustment.specs.Promise.{Answers, lists, adjustReply, answersOf}
+use Rattle.adjustment.specs.Promise.{Answers, lists, adjustReply, answersOf, WithinMinute}
 use Rattle.text.specs.Lines.{linesOf}
 use Rattle.page.specs.declared.Listed.{Listed}
 use Rattle.page.specs.Page.{ListedBy, inRoom, printed, printedIn}
@@ -63,6 +63,10 @@ fileListing file = netListing (netOf (linesOf file))
 abbrev pub FileDemand3 : List ℕ → Type 0
 FileDemand3 file = let t = tableIn (netOf (linesOf file)) in Demand3 t (V-of t (K t)) (u-of t (K t)) (R-of t (K t)) (Q-of t (K t))
 
+-- and none of the u on its V lines is past one minute
+abbrev pub FileWithinMinute : List ℕ → Type 0
+FileWithinMinute file = let t = tableIn (netOf (linesOf file)) in WithinMinute t (u-of t (K t))
+
 -- ---- the operation on a file; a buffer of fewer than 6,560 bytes could not hold the longest listing, and is refused before all else
 unfoldable pub adjustFileReply : (file : List ℕ) (room : ℕ) → Reply
 adjustFileReply file room = inRoom (Count 0) 6560 room (fileReply file)
@@ -71,8 +75,9 @@ pub record AdjustsFile (file before : List ℕ) (listed : Listed) (after : List 
   pub lists : ListedBy (adjustFileReply file (length before)) (fileListing file) before listed after
   -- in the rules' numbers: number and place
   pub verdict : verdictOf (listed .reply) ≡ verdictOf (adjustFileReply file (length before))
-  -- and of every accepted file demand 3
+  -- and of every accepted file demand 3, and printed corrections within one minute
   pub demand3 : listed .reply ≡ Accepted → FileDemand3 file
+  pub within-minute : listed .reply ≡ Accepted → FileWithinMinute file
 
 -- ---- for programs: the listing of any file, an accepted one's or the line of its refusal
 unfoldable pub listingOf : List ℕ → List ℕ
