@@ -49,4 +49,5 @@ module _ {v : Verdict} {listed : Listed} {before after : List ℕ} {n m : ℕ} (
   book-told file a = record { told = listed-told (a .lists); joined = λ f. a .joined (a .lists .answer ∙ f) }
 
   pub file-told : (file : List ℕ) → AdjustsFile file before listed after → File file before n v after m
-  file-told file a = record { told = listed-told (a .lists); demand3 = λ f. a .demand3 (a .lists .answer ∙ f) }
+  file-told file a =
+      let e = a .lists .answer in record { told = listed-told (a .lists); demand3 = λ f. a .demand3 (e ∙ f); within-minute = λ f. a .within-minute (e ∙ f) }

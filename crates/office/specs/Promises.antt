@@ -17,7 +17,7 @@ use Rattle.station.specs.Pairs.{JoinedRightly}
 use Rattle.condition.specs.declared.Kind.{Kind}
 use Rattle.condition.specs.Rules.{Lent}
 use Rattle.adjustment.specs.Promise.{Answers as Lists, adjustReply, Adjusts}
-use Rattle.listing.specs.File.{fileListing, FileDemand3, adjustFileReply}
+use Rattle.listing.specs.File.{fileListing, FileDemand3, FileWithinMinute, adjustFileReply}
 use Rattle.book.specs.Lines.{bookOf}
 use Rattle.book.specs.File.{bookListing, meansReply}
 use Rattle.office.specs.declared.Heading.{Heading}
@@ -52,3 +52,4 @@ pub record SightingBook (file before : List ℕ) (lengthBefore : ℕ) (v : Verdi
 pub record File (file before : List ℕ) (lengthBefore : ℕ) (v : Verdict) (after : List ℕ) (lengthAfter : ℕ) : Type 0 where
   pub told : ToldBy (adjustFileReply file (length before)) (fileListing file) before lengthBefore v after lengthAfter
   pub demand3 : adjustFileReply file (length before) ≡ Accepted → FileDemand3 file
+  pub within-minute : adjustFileReply file (length before) ≡ Accepted → FileWithinMinute file
