@@ -34,7 +34,7 @@ extern "C" {
 
 /* The version of this header. Each request that changes a number of the table of refusals, a limit, a unit or a function's parameters
  * raises it by one. The archive holds no version: header and archive go together, from one state of the project. */
-#define MOLSADRIU_VERSION 1
+#define MOLSADRIU_VERSION 2
 
 /* The archive is made for computers whose lengths have 64 bits; a compiler for another one stops here. */
 typedef char molsadriu_lengths_have_64_bits[sizeof(size_t) == 8 ? 1 : -1];
@@ -64,6 +64,7 @@ typedef char molsadriu_lengths_have_64_bits[sizeof(size_t) == 8 ? 1 : -1];
  *   6   weak row                                                            row
  *   7   correlate too large                                                 row
  *   8   remainder R too large                                               condition
+ *   9   printed correction u above 60,000 in size: past one minute          lowest such direction number
  *  21   no sightings, over 512, or lists of unequal length;                 0
  *       a wrong room for their means
  *  22   sighting field out of range                                         its ordinal, in a sighting book its line
@@ -156,7 +157,7 @@ molsadriu_verdict molsadriu_misclosure(
  * row after row; w, the n misclosures (-1,000,000 to 1,000,000); n from 1 to 24 and not above m.
  * Out, in three lists of exactly m: the corrections V, the printed corrections u, and the adjusted directions; and in three lists of
  * exactly n: the correlates K, the remainders R, and the printed remainders Q.
- * Comes back: the verdict, 2 to 8 where it refuses; an answer list of another length is 2 at 0. */
+ * Comes back: the verdict, 2 to 9 where it refuses; an answer list of another length is 2 at 0. */
 molsadriu_verdict molsadriu_adjust_table(
     const int64_t *directions, size_t directions_length,
     const int64_t *q, size_t q_length,
@@ -171,7 +172,7 @@ molsadriu_verdict molsadriu_adjust_table(
 
 /* Adjusts a network file. In: the bytes of the file. Out, where it is accepted: its listing in the first bytes of `out`, of which those
  * after it stay as they were, and how many bytes it has, in the one number at `length`, which must not be null.
- * Comes back: the verdict, 1 to 8 where it refuses, and then `out` and the number at `length` stay as they were. A room below
+ * Comes back: the verdict, 1 to 9 where it refuses, and then `out` and the number at `length` stay as they were. A room below
  * MOLSADRIU_LISTING is 2 at 0 before all else. A file of more than 65,535 bytes is 2 at 0, and is not read. */
 molsadriu_verdict molsadriu_adjust_file(
     const uint8_t *file, size_t file_length,
