@@ -5,7 +5,7 @@ use crate::condition::{
 };
 use crate::numeric::{answer, modulo, nearest, within, CIRCLE};
 use crate::refusal::{
-    place, Refusal, COEFFICIENT, CORRELATE, COUNT, MISCLOSURE, REMAINDER, WEAK_ROW,
+    place, Refusal, COEFFICIENT, CORRECTION, CORRELATE, COUNT, MISCLOSURE, REMAINDER, WEAK_ROW,
 };
 
 pub const MOST_CONDITIONS: usize = 24;
@@ -16,6 +16,8 @@ const LEAST_PIVOT: i128 = 100;
 const MOST_M: i128 = 1_000_000_000;
 const MOST_K: i128 = 100_000_000;
 const MOST_R: i128 = 50_000_000;
+/// One minute: a larger printed correction is a blunder.
+const MOST_U: i128 = 60_000;
 
 /// A lent table of n conditions in m directions; `a` holds n rows of m.
 #[derive(Clone, Copy, Debug)]
@@ -162,7 +164,7 @@ impl Net {
 
         // R stands on the unrounded V; only u and Q see the rounding.
         let v = self.corrections(&k);
-        let u: Vec<i128> = v.iter().map(|&v| nearest(v, 100_000)).collect();
+        let u = printed_corrections(&v)?;
         let adjusted = self.directions.iter().zip(&u);
         let adjusted = adjusted.map(|(&direction, &u)| modulo(direction + u, CIRCLE));
         Ok(Adjustment {
@@ -285,6 +287,19 @@ fn remainders(normals: &[Vec<i128>], k: &[i128], w: &[i128]) -> Result<Vec<i128>
         remainders.push(r);
     }
     Ok(remainders)
+}
+
+/// u(i) = nearest(V(i) / 10^5), each tested as it is printed.
+fn printed_corrections(v: &[i128]) -> Result<Vec<i128>, Refusal> {
+    let mut printed = Vec::new();
+    for (index, &v) in v.iter().enumerate() {
+        let u = nearest(v, 100_000);
+        if !within(u, MOST_U) {
+            return Err(Refusal::new(CORRECTION, place(index + 1)));
+        }
+        printed.push(u);
+    }
+    Ok(printed)
 }
 
 fn dot(row: &[i128], other: &[i128]) -> i128 {

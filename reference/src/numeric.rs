@@ -36,7 +36,7 @@ pub fn within(value: i128, limit: i128) -> bool {
 }
 
 /// An answer as it is handed back. Each one is bounded by tests made before it
-/// (the largest is Q, below 6.2 * 10^18), so nothing is cut off.
+/// (the largest is Q, below 8 * 10^14), so nothing is cut off.
 pub fn answer(value: i128) -> i64 {
     value as i64
 }

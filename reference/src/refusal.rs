@@ -19,6 +19,8 @@ pub const WEAK_ROW: i64 = 6;
 pub const CORRELATE: i64 = 7;
 /// A remainder R too large.
 pub const REMAINDER: i64 = 8;
+/// A printed correction past one minute.
+pub const CORRECTION: i64 = 9;
 /// No sightings, too many, or lists of unequal length.
 pub const SIGHTING_COUNT: i64 = 21;
 /// A sighting's field out of its range.
