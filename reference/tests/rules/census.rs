@@ -30,9 +30,9 @@ fn every_reply_occurs_often() {
         cases,
     );
     assert_frequent("misclosure", &census.misclosure, &[0, 1, 2, 3, 5], cases);
-    let table = [0, 2, 3, 4, 5, 6, 7, 8];
+    let table = [0, 2, 3, 4, 5, 6, 7, 8, 9];
     assert_frequent("table", &census.table, &table, cases);
-    let network = [0, 1, 2, 3, 4, 5, 6, 7, 8];
+    let network = [0, 1, 2, 3, 4, 5, 6, 7, 8, 9];
     assert_frequent("network", &census.network, &network, cases);
     let book = [0, 1, 2, 21, 22, 23, 24, 25, 26];
     assert_frequent("book", &census.book, &book, cases);

@@ -399,10 +399,12 @@ fn steep(first_of_second: i64) -> Result<Adjustment, Refusal> {
     adjust(&[10; 12], &[&first, &second], &[0, 0])
 }
 
-/// L(2) is 1,000 * w(2) + 3 * 10^9, a little more for a larger meeting.
+/// L(2) is 1,000 * w(2) + 3 * 10^9, a little more for a larger meeting than 1,500. Eight
+/// directions share it, so that no correction passes one minute.
 fn heavy(meeting: i64, w: i64) -> Result<Adjustment, Refusal> {
-    let rows: [&[i64]; 2] = [&[600, 0, 0], &[meeting, 1_500, 1_500]];
-    adjust(&[1; 3], &rows, &[-1_000_000, w])
+    let first = [[500; 4], [0; 4]].concat();
+    let second = [[meeting; 4], [2_000; 4]].concat();
+    adjust(&[1; 8], &[&first, &second], &[-1_000_000, w])
 }
 
 #[test]
@@ -413,7 +415,7 @@ fn reading_19_the_first_weak_row_is_the_place() {
     assert_eq!(adjust(&[1; 2], &rows, &[0; 2]), refused(6, 1));
     // M belongs to the row it is formed in.
     assert_eq!(steep(1_001), refused(6, 1));
-    assert_eq!(heavy(1_801, 1_000_000), refused(6, 2));
+    assert_eq!(heavy(1_501, 1_000_000), refused(6, 2));
 }
 
 #[test]
@@ -440,7 +442,7 @@ fn reading_20_limits_of_the_solution_pass() {
     let remainder = adjust(&[10; 10], &[&[1_000; 10]], &[-5]).unwrap();
     assert_eq!(remainder.r, [50_000_000]);
     assert!(steep(1_000).is_ok());
-    assert!(heavy(1_800, 1_000_000).is_ok());
+    assert!(heavy(1_500, 1_000_000).is_ok());
     let fullest = adjust(&[10; 64], &[&[2_000; 64]], &[256]).unwrap();
     assert_eq!((fullest.k, fullest.r), (vec![-1], vec![0]));
     // K as a whole is tested: its parts at row 1 are -1.01 * 10^8 and 10^6.
@@ -533,6 +535,54 @@ fn reading_24_means_round_downward_below_zero() {
     let means = means(&list.concat()).unwrap();
     assert_eq!(means.directions[..2], [0, CIRCLE - 1]);
     assert_eq!(means.pairs[..2], [2, 2]);
+}
+
+#[test]
+fn reading_25_the_printed_correction_is_tested() {
+    // Two directions share w: V is 6,000,050,000 in either; halves go away from zero.
+    let rows: [&[i64]; 2] = [&[100, 100, 0], &[1, 1, 300]];
+    let half = |w: i64| adjust(&[1; 2], &[&[100, 100]], &[w]);
+    // A second condition takes 1 from both: V is 6,000,049,999.
+    let below = |w: [i64; 2]| adjust(&[1; 3], &rows, &w).unwrap();
+    for side in [1, -1] {
+        assert_eq!(half(side * 120_001), refused(9, 1));
+        assert_eq!(half(side * 120_000).unwrap().u, [side * -60_000; 2]);
+        let below = below([side * 120_001, side * 1_200]);
+        assert_eq!(below.v[..2], [side * -6_000_049_999; 2]);
+        assert_eq!(below.u, [side * -60_000, side * -60_000, 0]);
+    }
+    // The second condition in direction 1 alone: direction 2 is the one past the limit.
+    let rows: [&[i64]; 2] = [&[100, 100, 0], &[1, 0, 200]];
+    assert_eq!(adjust(&[1; 3], &rows, &[-120_001, -600]), refused(9, 2));
+}
+
+#[test]
+fn reading_25_all_other_refusals_come_first() {
+    // Direction 1 has u = -60,001; condition 2, in the other four, is refused before that.
+    let table = |q: i64, a: i64, w: i64| {
+        let rows: [&[i64]; 2] = [&[100, 0, 0, 0, 0], &[0, a, a, a, a]];
+        adjust(&[1, q, q, q, q], &rows, &[60_001, w])
+    };
+    assert_eq!(table(1, 100, 0), refused(9, 1));
+    assert_eq!(table(11, 100, 0), refused(3, 2));
+    assert_eq!(table(1, 2_001, 0), refused(4, 2));
+    assert_eq!(table(1, 100, 1_000_001), refused(5, 2));
+    assert_eq!(table(1, 4, 0), refused(6, 2));
+    assert_eq!(table(1, 5, 1_001), refused(7, 2));
+    assert_eq!(table(10, 2_000, 200), refused(8, 2));
+
+    let file = |second: &str| {
+        let others: String = (2..=5).map(|i| format!("D {i} 0 10\n")).collect();
+        reply(&format!("D 1 0 1\n{others}C A 60001\nP 0 1\n{second}"))
+    };
+    assert_eq!(file(""), "REFUSED 9 1");
+    assert_eq!(file("C S\n"), "REFUSED 2 0");
+    assert_eq!(file("C S\nL 0 2000 0 2\nR 0 1 2 0\n"), "REFUSED 4 2");
+    assert_eq!(file("C S\nL 10001 2000 0 2\n"), "REFUSED 5 2");
+    assert_eq!(file("C A 60001\nP 0 1\n"), "REFUSED 6 2");
+    assert_eq!(file("C S\nL 20 4 0 2\n"), "REFUSED 7 2");
+    let three = "L 0 2000 0 3\nL 0 2000 0 4\nL 0 2000 0 5\n";
+    assert_eq!(file(&format!("C S\nL 2 2000 0 2\n{three}")), "REFUSED 8 2");
 }
 
 #[test]

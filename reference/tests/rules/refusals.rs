@@ -150,6 +150,45 @@ fn refusal_8_remainders() {
 }
 
 #[test]
+fn refusal_9_corrections_of_lent_tables() {
+    // The one direction takes the whole misclosure.
+    for side in [1, -1] {
+        let limit = adjust(&[1], &[&[100]], &[side * 60_000]).unwrap();
+        assert_eq!(limit.u, [side * -60_000]);
+        assert_eq!(adjust(&[1], &[&[100]], &[side * 60_001]), refused(9, 1));
+    }
+    // The lowest direction, neither the largest correction nor the first condition.
+    let rows: [&[i64]; 3] = [&[0, 0, 100], &[0, 100, 0], &[100, 0, 0]];
+    let reply = |w: [i64; 3]| adjust(&[1; 3], &rows, &w);
+    assert_eq!(reply([90_000, 60_001, 60_000]), refused(9, 2));
+    assert_eq!(reply([-60_001, 60_000, 60_000]), refused(9, 3));
+    assert_eq!(reply([60_001, 90_000, -60_001]), refused(9, 1));
+    let mut last = [0; 64];
+    last[63] = 100;
+    assert_eq!(adjust(&[1; 64], &[&last], &[60_001]), refused(9, 64));
+}
+
+#[test]
+fn refusal_9_corrections_in_files() {
+    // Direction 2 lies at 105,000, which the target asks it to leave.
+    let angle = |target: i64| reply(&format!("D 1 0 1\nD 2 105000 1\nC A {target}\nP 0 2\n"));
+    assert_eq!(angle(45_000), "ADJ 2 1");
+    assert_eq!(angle(44_999), "REFUSED 9 2");
+    assert_eq!(angle(165_000), "ADJ 2 1");
+    assert_eq!(angle(165_001), "REFUSED 9 2");
+    // Side conditions: u = -100 * w / d, and w goes by hundreds.
+    let side =
+        |left: i64, right: i64| reply_under(&format!("C S\nL {left} 1000 0 3\nR {right} 0 0 0\n"));
+    assert_eq!(side(6_000, 0), "ADJ 3 1");
+    assert_eq!(side(6_001, 0), "REFUSED 9 3");
+    assert_eq!(side(0, 6_000), "ADJ 3 1");
+    assert_eq!(side(0, 6_001), "REFUSED 9 3");
+    // Direction 3 of figure 3, had it been read 140 seconds too far.
+    let blunder = FIGURE_3.replace("215997000", "216137000");
+    assert_eq!(reply(&blunder), "REFUSED 9 3");
+}
+
+#[test]
 fn refusal_21_counts_of_sightings() {
     assert_eq!(means(&[]), refused(21, 0));
     assert_eq!(means(&[[1, 1, 0, 0]; 513]), refused(21, 0));
