@@ -170,6 +170,16 @@ fn inverse_weights(rng: &mut Rng, m: usize) -> Vec<i64> {
     }
 }
 
+/// A misclosure that the directions of a condition take up equally, each by 1 for every
+/// `share` of it: most often one minute, or just less or more.
+fn minute_misclosure(rng: &mut Rng, share: i64) -> i64 {
+    let size = match rng.below(3) {
+        0 => rng.range(0, 9_000),
+        _ => 60_000 * share + rng.range(-share, share),
+    };
+    rng.sign() * size
+}
+
 /// A number of directions, small ones and the full 64 among them.
 fn direction_count(rng: &mut Rng) -> usize {
     match rng.below(8) {

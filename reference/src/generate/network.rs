@@ -3,7 +3,7 @@
 use super::text::{
     damage_bytes, damage_line, line, no_number, odd_byte, write_lines, Line, LINE_DAMAGES,
 };
-use super::{direction_count, inverse_weights, Rng, CIRCLE};
+use super::{direction_count, inverse_weights, minute_misclosure, Rng, CIRCLE};
 
 /// The bytes of a network file.
 #[derive(Clone, Debug, PartialEq, Eq)]
@@ -25,7 +25,10 @@ pub struct NumberCase {
 }
 
 pub fn network_case(rng: &mut Rng) -> NetworkCase {
-    let mut lines = sound_net(rng);
+    let mut lines = match rng.below(15) {
+        0 => net_about_a_minute(rng),
+        _ => sound_net(rng),
+    };
     let damaged = rng.chance(55);
     if damaged && rng.chance(70) {
         for _ in 0..rng.pick(&[1, 1, 1, 2, 3]) {
@@ -91,10 +94,7 @@ fn sound_net(rng: &mut Rng) -> Vec<Line> {
     let m = direction_count(rng);
     let directions: Vec<i64> = (0..m).map(|_| rng.direction()).collect();
     let q = inverse_weights(rng, m);
-    let mut lines: Vec<Line> = Vec::new();
-    for (index, (direction, q)) in directions.iter().zip(&q).enumerate() {
-        lines.push(line!["D", index + 1, direction, q]);
-    }
+    let mut lines = direction_lines(&directions, &q);
     let most = m.min(24);
     let n = match rng.below(3) {
         0 => most,
@@ -113,6 +113,44 @@ fn sound_net(rng: &mut Rng) -> Vec<Line> {
         }
     }
     lines
+}
+
+/// A net with corrections next to one minute: the angles of each condition have directions
+/// of their own, which share its misclosure equally.
+fn net_about_a_minute(rng: &mut Rng) -> Vec<Line> {
+    let n = rng.count(1, 3);
+    let angles = rng.count(1, 4);
+    let ends = rng.count(1, 2);
+    let each = angles * ends;
+    let m = n * each + rng.below(4);
+    let directions: Vec<i64> = (0..m).map(|_| rng.direction()).collect();
+    let mut lines = direction_lines(&directions, &vec![rng.range(1, 10); m]);
+    for own in rng.sample(1, m as i64, n * each).chunks(each) {
+        let mut terms = vec![line!["F", CIRCLE / 2]];
+        let mut sum = CIRCLE / 2;
+        for pair in own.chunks(ends) {
+            // An angle with one direction of its own begins or ends at number 0.
+            let mut pair = [pair[0], pair.get(1).copied().unwrap_or(0)];
+            rng.shuffle(&mut pair);
+            let [i, k] = pair;
+            terms.push(line!["P", i, k]);
+            sum += angle(&directions, i, k);
+        }
+        rng.shuffle(&mut terms);
+        lines.push(line!["C", "A", sum - minute_misclosure(rng, each as i64)]);
+        lines.extend(terms);
+    }
+    if n < m && rng.chance(15) {
+        lines.extend(odd_condition(rng, &directions));
+    }
+    lines
+}
+
+fn direction_lines(directions: &[i64], q: &[i64]) -> Vec<Line> {
+    let numbered = directions.iter().zip(q).enumerate();
+    numbered
+        .map(|(index, (direction, q))| line!["D", index + 1, direction, q])
+        .collect()
 }
 
 /// Some direction number other than the one given, 0 included.
@@ -196,7 +234,7 @@ fn side_condition(rng: &mut Rng, directions: &[i64], own: i64) -> Vec<Line> {
 fn moderate_misclosure(rng: &mut Rng) -> i64 {
     match rng.below(12) {
         0 => 0,
-        1 => rng.range(-150_000, 150_000),
+        1 => rng.range(-100_000, 100_000),
         _ => rng.range(-9_000, 9_000),
     }
 }
@@ -256,7 +294,7 @@ fn odd_condition(rng: &mut Rng, directions: &[i64]) -> Vec<Line> {
             let k = rng.range(1, m as i64);
             vec![
                 line!["C", "S"],
-                line!["L", 70_000_000 + side * apart, 1_500, 0, k],
+                line!["L", 70_000_000 + side * apart, 2_000, 0, k],
                 line!["R", 70_000_000, 0, 0, 0],
             ]
         }

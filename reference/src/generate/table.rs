@@ -1,7 +1,7 @@
 //! Condition tables: nets that close, nets that hardly do, and nets at the edge of
 //! each test of the solution.
 
-use super::{direction_count, inverse_weights, spoil_length, Rng, CIRCLE};
+use super::{direction_count, inverse_weights, minute_misclosure, spoil_length, Rng, CIRCLE};
 use crate::adjustment::{AnswerLengths, ConditionTable};
 
 /// A lent table, and the lengths of the six lists lent for the answer.
@@ -33,7 +33,7 @@ struct Draft {
 }
 
 pub fn table_case(rng: &mut Rng) -> TableCase {
-    let draft = match rng.below(20) {
+    let draft = match rng.below(21) {
         0..=5 => sparse_net(rng),
         6..=8 => full_net(rng),
         9 => nearly_dependent(rng),
@@ -44,6 +44,7 @@ pub fn table_case(rng: &mut Rng) -> TableCase {
         14 => fullest(rng),
         15 => steep_factor(rng),
         16 => heavy_constant(rng),
+        17 => about_a_minute(rng),
         _ => sparse_net(rng),
     };
     let m = draft.q.len();
@@ -82,7 +83,7 @@ fn sparse_net(rng: &mut Rng) -> Draft {
     let m = direction_count(rng);
     let n = condition_count(rng, m);
     let side_share = rng.pick(&[0, 15, 50]);
-    let most_w = rng.pick(&[0, 3_000, 30_000, 300_000]);
+    let most_w = rng.pick(&[0, 3_000, 30_000, 100_000]);
     // Each row has a direction of its own, so that rows are seldom dependent.
     let own = rng.sample(0, m as i64 - 1, n);
     let mut rows = Vec::new();
@@ -117,7 +118,7 @@ fn full_net(rng: &mut Rng) -> Draft {
     let m = direction_count(rng);
     let n = condition_count(rng, m);
     let most = rng.pick(&[20, 100, 300, 600]);
-    let most_w = rng.pick(&[3_000, 30_000, 200_000]);
+    let most_w = rng.pick(&[3_000, 30_000, 100_000]);
     let rows = (0..n).map(|_| random_row(rng, m, most)).collect();
     let w = misclosures(rng, n, most_w);
     let q = inverse_weights(rng, m);
@@ -333,16 +334,17 @@ fn steep_factor(rng: &mut Rng) -> Draft {
     }
 }
 
-/// L at its limit of 4 * 10^9, with correlates that still pass.
+/// L at its limit of 4 * 10^9, with correlates that still pass. The more directions share
+/// the misclosures, the more often the corrections pass too.
 fn heavy_constant(rng: &mut Rng) -> Draft {
-    let m = rng.count(3, 12);
-    let mut first = vec![0; m];
-    let mut second = vec![0; m];
-    first[0] = rng.pick(&[400, 500, 600]);
-    second[0] = 3 * first[0] + rng.pick(&[-1, 0, 0, 0, 1]);
-    for a in second.iter_mut().skip(1) {
-        *a = rng.range(400, 1_500);
-    }
+    let shared = rng.count(3, 6);
+    let m = shared + rng.count(5, 12);
+    let size = rng.pick(&[400, 500, 600, 600]);
+    let mut first = vec![size; shared];
+    let mut second = vec![3 * size; shared];
+    second[0] += rng.pick(&[-1, 0, 0, 0, 1]);
+    first.resize(m, 0);
+    second.resize_with(m, || rng.range(1_000, 2_000));
     let side = rng.sign();
     let short = rng.pick(&[0, 0, 0, 1, 2]);
     let w = vec![side * 1_000_000, -side * (1_000_000 - short)];
@@ -351,6 +353,36 @@ fn heavy_constant(rng: &mut Rng) -> Draft {
         rows: vec![first, second],
         w,
     }
+}
+
+/// Corrections next to one minute: each condition has directions of its own, which share
+/// its misclosure equally.
+fn about_a_minute(rng: &mut Rng) -> Draft {
+    let n = rng.count(1, 4);
+    let each = rng.count(1, 8);
+    let m = n * each + rng.below(4);
+    let size = rng.pick(&[100, 100, 200]);
+    let mut rows = vec![vec![0; m]; n];
+    let numbers = rng.sample(0, m as i64 - 1, n * each);
+    for (row, own) in rows.iter_mut().zip(numbers.chunks(each)) {
+        for &index in own {
+            row[index as usize] = rng.sign() * size;
+        }
+    }
+    let share = each as i64 * size / 100;
+    let mut w: Vec<i64> = (0..n).map(|_| minute_misclosure(rng, share)).collect();
+    let mut q = vec![rng.pick(&[1, 2, 10]); m];
+    if rng.chance(15) {
+        // In four directions more, a condition that is refused before a correction is.
+        let (its_q, a, its_w) = rng.pick(&[(1, 4, 0), (1, 5, 1_001), (10, 2_000, 200)]);
+        for row in &mut rows {
+            row.resize(m + 4, 0);
+        }
+        rows.push([vec![0; m], vec![a; 4]].concat());
+        q.resize(m + 4, its_q);
+        w.push(its_w);
+    }
+    Draft { q, rows, w }
 }
 
 /// A number at or beyond the edge of its range.

@@ -539,10 +539,10 @@ fn reading_24_means_round_downward_below_zero() {
 
 #[test]
 fn reading_25_the_printed_correction_is_tested() {
-    // Two directions share w: V is 6,000,050,000 in either; halves go away from zero.
-    let rows: [&[i64]; 2] = [&[100, 100, 0], &[1, 1, 300]];
+    // Two directions share w, and V = 6,000,050,000 is rounded away from zero.
     let half = |w: i64| adjust(&[1; 2], &[&[100, 100]], &[w]);
-    // A second condition takes 1 from both: V is 6,000,049,999.
+    // A second condition takes 1 from both: V = 6,000,049,999.
+    let rows: [&[i64]; 2] = [&[100, 100, 0], &[1, 1, 300]];
     let below = |w: [i64; 2]| adjust(&[1; 3], &rows, &w).unwrap();
     for side in [1, -1] {
         assert_eq!(half(side * 120_001), refused(9, 1));
