@@ -100,6 +100,13 @@ pub fn weakness(table: &ConditionTable) -> Option<Weakness> {
     }
 }
 
+/// The printed correction for which a table is refused with 9, if it is. The refusal does
+/// not tell; the census does.
+pub fn blunder(table: &ConditionTable) -> Option<i64> {
+    let lengths = AnswerLengths::fitting(table.directions.len(), table.w.len());
+    Net::check(table, lengths).ok()?.blunder()
+}
+
 /// A net whose numbers are all in range, in wide numbers.
 pub(crate) struct Net {
     pub(crate) directions: Vec<i128>,
@@ -156,15 +163,12 @@ impl Net {
     }
 
     pub(crate) fn adjust(&self) -> Result<Adjustment, Refusal> {
-        let normals = self.normals();
-        let rows =
-            reduce(&normals, &self.w).map_err(|(row, _)| Refusal::new(WEAK_ROW, place(row + 1)))?;
-        let k = correlates(&rows)?;
-        let r = remainders(&normals, &k, &self.w)?;
+        let (k, r) = self.solve()?;
 
         // R stands on the unrounded V; only u and Q see the rounding.
         let v = self.corrections(&k);
-        let u = printed_corrections(&v)?;
+        let u = printed_corrections(&v)
+            .map_err(|(direction, _)| Refusal::new(CORRECTION, place(direction + 1)))?;
         let adjusted = self.directions.iter().zip(&u);
         let adjusted = adjusted.map(|(&direction, &u)| modulo(direction + u, CIRCLE));
         Ok(Adjustment {
@@ -175,6 +179,25 @@ impl Net {
             k: answers(k),
             r: answers(r),
         })
+    }
+
+    /// K and R, with every test of the solution: 6 by row, 7 in back order, 8 by condition.
+    fn solve(&self) -> Result<(Vec<i128>, Vec<i128>), Refusal> {
+        let normals = self.normals();
+        let rows =
+            reduce(&normals, &self.w).map_err(|(row, _)| Refusal::new(WEAK_ROW, place(row + 1)))?;
+        let k = correlates(&rows)?;
+        let r = remainders(&normals, &k, &self.w)?;
+        Ok((k, r))
+    }
+
+    /// The printed correction that refuses a net with nothing else against it, if one does.
+    pub(crate) fn blunder(&self) -> Option<i64> {
+        let (k, _) = self.solve().ok()?;
+        match printed_corrections(&self.corrections(&k)) {
+            Ok(_) => None,
+            Err((_, u)) => Some(answer(u)),
+        }
     }
 
     /// N(j,k): inverse weights multiply.
@@ -289,13 +312,13 @@ fn remainders(normals: &[Vec<i128>], k: &[i128], w: &[i128]) -> Result<Vec<i128>
     Ok(remainders)
 }
 
-/// u(i) = nearest(V(i) / 10^5), each tested as it is printed.
-fn printed_corrections(v: &[i128]) -> Result<Vec<i128>, Refusal> {
+/// u(i) = nearest(V(i) / 10^5), or the index of the first past one minute and that u.
+fn printed_corrections(v: &[i128]) -> Result<Vec<i128>, (usize, i128)> {
     let mut printed = Vec::new();
     for (index, &v) in v.iter().enumerate() {
         let u = nearest(v, 100_000);
         if !within(u, MOST_U) {
-            return Err(Refusal::new(CORRECTION, place(index + 1)));
+            return Err((index, u));
         }
         printed.push(u);
     }

@@ -8,7 +8,7 @@ use crate::adjustment::Adjustment;
 use crate::generate::{
     book_case, line_case, network_case, number_case, station_case, table_case, terms_case, Rng,
 };
-use crate::refusal::Refusal;
+use crate::refusal::{Refusal, CORRECTION};
 use crate::{adjustment, book, condition, lines, network, station};
 
 /// Replies by number, 0 for acceptance, with how often each occurred.
@@ -32,6 +32,10 @@ pub struct Census {
     pub book_lengths: [usize; 2],
     /// Accepted tables in which some |K| is 10^8, and in which some |R| is 50,000,000.
     pub limits_met: [usize; 2],
+    /// Accepted tables in which some |u| is 60,000, and those refused for a |u| of 60,001,
+    /// by u; then the same of networks.
+    pub table_minutes: BTreeMap<i64, usize>,
+    pub network_minutes: BTreeMap<i64, usize>,
     pub weaknesses: BTreeMap<adjustment::Weakness, usize>,
     pub line_statuses: BTreeMap<lines::LineStatus, usize>,
     /// Malformed and well-formed numbers.
@@ -91,6 +95,8 @@ fn count_table(rng: &mut Rng, census: &mut Census) {
     let case = table_case(rng);
     let reply = adjustment::adjust(&case.table(), case.lengths);
     count(&mut census.table, &reply);
+    let blunder = || adjustment::blunder(&case.table());
+    count_minutes(&mut census.table_minutes, &reply, blunder);
     match reply {
         Ok(adjustment) => {
             add(&mut census.largest_tables, largest(&adjustment));
@@ -110,10 +116,28 @@ fn count_table(rng: &mut Rng, census: &mut Census) {
 }
 
 fn count_network(rng: &mut Rng, census: &mut Census) {
-    let reply = network::adjust_network(&network_case(rng).file);
+    let file = network_case(rng).file;
+    let reply = network::adjust_network(&file);
     count(&mut census.network, &reply);
+    count_minutes(&mut census.network_minutes, &reply, || {
+        network::blunder(&file)
+    });
     if let Ok(adjustment) = reply {
         add(&mut census.largest_networks, largest(&adjustment));
+    }
+}
+
+fn count_minutes(
+    minutes: &mut BTreeMap<i64, usize>,
+    reply: &Result<Adjustment, Refusal>,
+    blunder: impl Fn() -> Option<i64>,
+) {
+    let met = |u: &i64| match reply {
+        Ok(adjustment) => u.abs() == 60_000 && adjustment.u.contains(u),
+        Err(refusal) => refusal.number == CORRECTION && blunder() == Some(*u),
+    };
+    for u in [-60_001, -60_000, 60_000, 60_001].into_iter().filter(met) {
+        *minutes.entry(u).or_default() += 1;
     }
 }
 
@@ -173,6 +197,14 @@ pub fn report(census: &Census) -> String {
         ),
         format!("books of 65,535 bytes {longest}, of 65,536 {too_long}\n"),
         format!("limits met exactly in accepted tables: K {k}, R {r}\n"),
+        describe(
+            "corrections next to one minute, tables",
+            &census.table_minutes,
+        ),
+        describe(
+            "corrections next to one minute, networks",
+            &census.network_minutes,
+        ),
         describe("weak rows", &census.weaknesses),
         describe("line statuses", &census.line_statuses),
         describe("numbers well formed", &census.numbers),

@@ -31,9 +31,19 @@ pub fn adjust_file(file: &[u8], room: usize) -> Result<Vec<u8>, Refusal> {
 
 /// The adjustment of a network file.
 pub fn adjust_network(file: &[u8]) -> Result<Adjustment, Refusal> {
+    sound_net(file)?.adjust()
+}
+
+/// The printed correction for which a network file is refused with 9, if it is.
+pub fn blunder(file: &[u8]) -> Option<i64> {
+    sound_net(file).ok()?.blunder()
+}
+
+/// The net of a file, with every check before the normals.
+fn sound_net(file: &[u8]) -> Result<Net, Refusal> {
     let net = read_file(file)?.into_net();
     net.check_conditions()?;
-    net.adjust()
+    Ok(net)
 }
 
 fn adjustment_text(adjustment: &Adjustment) -> String {

@@ -43,6 +43,10 @@ fn every_reply_occurs_often() {
     assert!(census.book_sizes.iter().all(|&count| count > 0));
     assert!(census.book_lengths.iter().all(|&count| count > 0));
     assert!(census.limits_met.iter().all(|&count| count > 0));
+    for minutes in [&census.table_minutes, &census.network_minutes] {
+        assert_eq!(minutes.len(), 4);
+        assert!(minutes.values().all(|&count| 600 * count >= cases));
+    }
 }
 
 /// Lists of any length and any numbers, many of them the ends of the machine's range.
@@ -92,12 +96,14 @@ fn no_input_panics() {
         };
         let _ = adjustment::adjust(&table, adjustment::AnswerLengths::fitting(m, n));
         let _ = adjustment::weakness(&table);
+        let _ = adjustment::blunder(&table);
         let fitting = station::AnswerLengths::fitting();
         let _ = station::station_means_i64(&kinds, &values, &d, &i, fitting);
         let bytes: Vec<u8> = (0..rng.below(60))
             .map(|_| rng.range(0, 255) as u8)
             .collect();
         let _ = network::listing(&bytes);
+        let _ = network::blunder(&bytes);
         let _ = book::listing(&bytes);
         let _ = lines::line(&bytes, rng.below(70));
         let _ = lines::read_number(&bytes);
