@@ -223,6 +223,17 @@ static void table(void)
                 CHECK(unchanged(l, 4, 10, right));
                 l[j].at[n] = l[j].before[n];
             }
+    /* both sides of one minute, by the misclosure: direction 3 is the first to pass it */
+    for (int64_t sign = -1; sign <= 1; sign += 2) {
+        l[3].at[0] = sign * 961050;
+        for (size_t j = 4; j < 10; j++) memcpy(l[j].at, held, right[j] * sizeof *held);
+        CHECK(is(adjust(l), 9, 3));
+        CHECK(unchanged(l, 4, 10, right));
+        l[3].at[0] = sign * 961049;
+        CHECK(is(adjust(l), 0, 0));
+        CHECK(l[5].at[0] == sign * 17354 && l[5].at[1] == sign * -39358 && l[5].at[2] == sign * 60000);
+    }
+    l[3].at[0] = misclosures[0];
     CHECK(is(adjust(l), 0, 0));
     CHECK(l[5].at[0] == -1430 && l[5].at[1] == 3243 && l[5].at[2] == -4945);
     CHECK(l[6].at[0] == MOLSADRIU_CIRCLE - 1430 && l[6].at[1] == 4243 && l[6].at[2] == MOLSADRIU_CIRCLE - 4946);
@@ -419,6 +430,10 @@ static void network(void)
     refused_net("D\t1\t0\t1\nC\tS\nL\t11\t10\t0\t1\n", 7, 1);
     refused_net("D\t1\t0\t10\nD\t2\t0\t10\nD\t3\t0\t10\nD\t4\t0\t10\nC\tS\n"
                 "L\t2\t2000\t0\t1\nL\t0\t2000\t0\t2\nL\t0\t2000\t0\t3\nL\t0\t2000\t0\t4\n", 8, 1);
+    refused_net("D\t1\t1000\t1\nD\t2\t60001\t1\nC\tA\t0\nP\t0\t1\nC\tA\t0\nP\t0\t2\n", 9, 2);
+    /* one minute itself is no blunder */
+    accepted_file(&adjusting, "D\t1\t1000\t1\nD\t2\t60000\t1\nC\tA\t0\nP\t0\t1\nC\tA\t0\nP\t0\t2\n",
+                  "ADJ\t2\t2\nV\t1\t-1000\t0\nV\t2\t-60000\t0\nK\t1\t-1000000\t0\t0\nK\t2\t-60000000\t0\t0\n");
 }
 
 /* ---- a sighting book: figure 9 */
