@@ -22,12 +22,6 @@ pub struct Remaining {
     pub close: usize,
 }
 
-// The printed corrections up to the first past one minute.
-pub struct Printed {
-    pub u: [i64; 64],
-    pub within: usize,
-}
-
 // s + x*y.
 fn plus_product(s: i64, x: i64, y: i64) -> i64
     requires { ⌜ (natAbs s ≤ 7000000000000000000) × (natAbs x ≤ 2000) × (natAbs y ≤ 50000000000000) ⌝ }
@@ -137,24 +131,23 @@ pub fn remainders(q: &[i64], a: &[i64], w: &[i64], v: &[i64]) -> Remaining
     Remaining { r, close: j }
 }
 
-// u = nearest(V / 10^5) of m directions, up to the first beyond 60,000.
-pub fn print_corrections(v: &[i64], m: usize) -> Printed
-    requires { ⌜ (m ≤ 64) × (m ≤ length (now v)) ⌝ }
-    ensures { λ r. ⌜ r .within ≡ first m (λ i. ltb 60000 (natAbs (rounding (at (now (v .entry))) i))) ⌝ }
-    ensures { λ r. ⌜ ((i : ℕ) → i < r .within → getD (r .u) i (pos 0) ≡ rounding (at (now (v .entry))) i) ⌝ }
+// u = nearest(V / 10^5) of m directions, up to the first beyond 60,000; which that is, or m.
+pub fn print_corrections(v: &[i64], m: usize, u: &mut [i64]) -> usize
+    requires { ⌜ (m ≤ length (now v)) × (m ≤ length (now u)) ⌝ }
+    ensures { λ r. ⌜ r ≡ first m (λ i. ltb 60000 (natAbs (rounding (at (now (v .entry))) i))) ⌝ }
+    ensures { λ r. ⌜ ((i : ℕ) → i < r → getD (now (u .exit)) i (pos 0) ≡ rounding (at (now (v .entry))) i) ⌝ }
 {
-    let mut u = [0i64; 64];
     let mut i = 0;
     while i < m {
         let x = v[i];
         let y = exact::nearest(x, 100000);
         if 60000 < exact::magnitude(y) {
-            return Printed { u, within: i };
+            return i;
         }
         u[i] = y;
         i += 1;
     }
-    Printed { u, within: i }
+    i
 }
 
 // The first numbers of one list, into a lent one.

@@ -3,6 +3,7 @@ mod correct;
 mod table;
 
 ghost use mathlib.Core.Path.{_≡_};
+ghost use Prim.Native.Nat.{_≤_};
 ghost use lib.ListN.{length};
 ghost use Rattle.reply.specs.declared.Reply.the-variants.{Accepted};
 ghost use Rattle.doolittle.specs.Table.{at, tableOf};
@@ -14,12 +15,11 @@ ghost use Rattle.adjustment.specs.Inner.{Solved};
 use reply::Refusal;
 use reply::Reply;
 
-// The correlates, corrections, printed corrections and remainders of a table that is accepted.
+// The correlates, corrections and remainders of a table that is accepted.
 struct Solution {
     pub reply: Reply,
     pub k: [i64; 24],
     pub v: [i64; 64],
-    pub u: [i64; 64],
     pub r: [i64; 24],
 }
 
@@ -30,17 +30,17 @@ fn refused(why: Refusal) -> Solution
         reply: Reply::Refused(why),
         k: [0i64; 24],
         v: [0i64; 64],
-        u: [0i64; 64],
         r: [0i64; 24],
     }
 }
 
-// 6 by row, 7 in back order, 8 by condition, 9 by direction; else the solution.
-fn solve(q: &[i64], a: &[i64], w: &[i64]) -> Solution
+// 6 by row, 7 in back order, 8 by condition, 9 by direction; else the solution, and its printed corrections in u.
+fn solve(q: &[i64], a: &[i64], w: &[i64], u: &mut [i64]) -> Solution
     requires { ⌜ Sound (now q) (now a) (now w) ⌝ }
+    requires { ⌜ length (now q) ≤ length (now u) ⌝ }
     ensures { λ s. ⌜ s .reply ≡ solutionReply (tableOf (now (q .entry)) (now (a .entry)) (now (w .entry))) ⌝ }
     ensures { λ s. ⌜ (s .reply ≡ Accepted →
-        Solved (tableOf (now (q .entry)) (now (a .entry)) (now (w .entry))) (s .k) (s .v) (s .u) (s .r)) ⌝ }
+        Solved (tableOf (now (q .entry)) (now (a .entry)) (now (w .entry))) (s .k) (s .v) (now (u .exit)) (s .r)) ⌝ }
 {
     let m = q.len();
     let n = w.len();
@@ -63,17 +63,14 @@ fn solve(q: &[i64], a: &[i64], w: &[i64]) -> Solution
         return refused(Refusal::Remainder((close + 1) as u64));
     }
     let r = remaining.r;
-    let printed = correct::print_corrections(&v, m);
-    let within = printed.within;
+    let within = correct::print_corrections(&v, m, u);
     if within < m {
         return refused(Refusal::Correction((within + 1) as u64));
     }
-    let u = printed.u;
     Solution {
         reply: Reply::Accepted,
         k,
         v,
-        u,
         r,
     }
 }
@@ -86,7 +83,7 @@ fn answer(
     w: &[i64],
     k: [i64; 24],
     v: [i64; 64],
-    u: [i64; 64],
+    u: &[i64],
     r: [i64; 24],
     corrections: &mut [i64],
     printed: &mut [i64],
@@ -96,8 +93,8 @@ fn answer(
     misses: &mut [i64],
 )
     requires { ⌜ Sound (now q) (now a) (now w) ⌝ }
-    requires { ⌜ Solved (tableOf (now q) (now a) (now w)) k v u r ⌝ }
-    requires { ⌜ (length (now directions) ≡ length (now q)) × Small 1296000000 (now directions) (length (now q)) ⌝ }
+    requires { ⌜ Solved (tableOf (now q) (now a) (now w)) k v (now u) r ⌝ }
+    requires { ⌜ (length (now q) ≤ length (now u)) × (length (now directions) ≡ length (now q)) × Small 1296000000 (now directions) (length (now q)) ⌝ }
     requires { ⌜ (length (now corrections) ≡ length (now q)) × (length (now printed) ≡ length (now q)) × (length (now adjusted) ≡ length (now q)) ⌝ }
     requires { ⌜ (length (now correlates) ≡ length (now w)) × (length (now remainders) ≡ length (now w)) × (length (now misses) ≡ length (now w)) ⌝ }
     ensures { λ _. ⌜ lists (now (corrections .exit)) (now (printed .exit)) (now (adjusted .exit)) (now (correlates .exit)) (now (remainders .exit)) (now (misses .exit))
@@ -105,11 +102,11 @@ fn answer(
         (K (tableOf (now (q .entry)) (now (a .entry)) (now (w .entry)))) (at (now (directions .entry))) ⌝ }
 {
     correct::store(&v, corrections);
-    correct::store(&u, printed);
+    correct::store(u, printed);
     correct::store(&k, correlates);
     correct::store(&r, remainders);
-    correct::adjust_directions(directions, &u, adjusted);
-    correct::print_remainders(q, a, w, &u, misses);
+    correct::adjust_directions(directions, u, adjusted);
+    correct::print_remainders(q, a, w, u, misses);
 }
 
 // Adjusts a lent condition table: m directions with their inverse weights q, n rows of m coefficients, n misclosures. The answers V, u, adjusted
@@ -158,14 +155,14 @@ pub fn adjust(
     if let Reply::Refused(why) = by_condition {
         return Reply::Refused(why);
     }
-    let solution = solve(q, a, w);
+    let mut u = [0i64; 64];
+    let solution = solve(q, a, w, &mut u);
     let reply = solution.reply;
     if let Reply::Refused(why) = reply {
         return Reply::Refused(why);
     }
     let k = solution.k;
     let v = solution.v;
-    let u = solution.u;
     let r = solution.r;
     answer(
         directions,
@@ -174,7 +171,7 @@ pub fn adjust(
         w,
         k,
         v,
-        u,
+        &u,
         r,
         corrections,
         printed,

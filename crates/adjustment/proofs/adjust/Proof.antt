@@ -132,28 +132,42 @@ module _ (c : tie.After-enum-told2) where
   reply-is : adjustReply (ds begin) (q begin) (a begin) (w begin) (lent begin) ≡ solutionReply (t begin)
   reply-is = by-solution (ds begin) (q begin) (a begin) (w begin) (lent begin) (counts-right (else2 told .before .before)) (lengths-right (else2 told)) (directions-right told) conditions-right
 
+slice-aggregate-solve : tie.Need-slice-aggregate-solve
+slice-aggregate-solve c = search needs
+
 solve-requires : tie.Need-solve-requires
-solve-requires c κs = sound c
+solve-requires c κs = let s = sound (c .before) in (s, s .m-most)
 
 enum-known-reply : tie.Need-enum-known-reply
 enum-known-reply c = search needs
 
 returns-5 : tie.Need-returns-5
 returns-5 c =
-    let k = c .before .before .before in let d = k .before in let s = begin d in
+    let k = c .before .before .before .before in let d = k .before .before in let s = begin d in
     refused-adjusts (ds s) (q s) (a s) (w s) (lent s) _ (reply-is d ∙ sym (k .solve .ensures .0) ∙ c .before .reply .given .1)
 
 enum-told-3 : tie.Need-enum-told-3
 enum-told-3 c = search needs
 
+-- the printed corrections, as the solution has left them
+module _ (c : tie.After-solve) where
+  abbrev u : List ℤ
+  u = c .solve .last .1 .1 .1 .0
+
+  u-long : length u ≡ 64
+  u-long = c .solve .kept .1 .1 .1 .0
+
+slice-aggregate-answer : tie.Need-slice-aggregate-answer
+slice-aggregate-answer c = search needs
+
 answer-requires : tie.Need-answer-requires
 answer-requires c κs =
-    let k = c .before .before .before .before .before .before .before .before .before .before .before .before in let d = k .before in let s = begin d in let l = lengths (else2 (told d)) in (
+    let k = c .before .before .before .before .before .before .before .before .before .before .before .before .before in let d = k .before .before in let s = begin d in let l = lengths (else2 (told d)) in (
       sound d,
       (
         k .solve .ensures .1 (c .before .before .before .before .before .before .before .before .before .before .enum-told3 .given .1),
         (
-          (sym (l .of-q), λ i h. directions-known (ds s) (q s) (directions-right (told d)) i (omega (arith, l .of-q)) .size),
+          (omega (arith, u-long k, sound d .m-most), sym (l .of-q), λ i h. directions-known (ds s) (q s) (directions-right (told d)) i (omega (arith, l .of-q)) .size),
           (
             (l .by-direction .0 ∙ sym (l .of-q), l .by-direction .1 ∙ sym (l .of-q), l .by-direction .2 ∙ sym (l .of-q)),
             l .by-condition,
@@ -182,7 +196,7 @@ same-length-6 c = search needs
 
 returns-6 : tie.Need-returns-6
 returns-6 c =
-    let k = c .before .before .before .before .before .before .before .before .before .before .before .before .before .before .before .before .before .before .before in let d = k .before in let s = begin d in
+    let k = c .before .before .before .before .before .before .before .before .before .before .before .before .before .before .before .before .before .before .before .before in let d = k .before .before in let s = begin d in
     accepted-adjusts (ds s) (q s) (a s) (w s) (lent s) (sym (k .solve .ensures .0) ∙ c .before .before .before .before .before .before .before .before .before .before .before .before .before .before .before .before .before .enum-told3 .given .1) (sound d) (reply-is d) _ (c .before .before .before .before .before .before .answer .ensures)
 
 pub adjust-spec : {M : Type 1} → statement M
@@ -201,10 +215,12 @@ adjust-spec =
     enum-known-by-condition
     returns-4
     enum-told-2
+    slice-aggregate-solve
     solve-requires
     enum-known-reply
     returns-5
     enum-told-3
+    slice-aggregate-answer
     answer-requires
     same-length
     same-length-2

@@ -23,26 +23,20 @@ slice-aggregate-store c = search needs
 store-requires : tie.Need-store-requires
 store-requires c κs = search needs
 
-slice-aggregate-store-2 : tie.Need-slice-aggregate-store-2
-slice-aggregate-store-2 c = search needs
-
 store-requires-2 : tie.Need-store-requires-2
 store-requires-2 c κs = search needs
 
-slice-aggregate-store-3 : tie.Need-slice-aggregate-store-3
-slice-aggregate-store-3 c = search needs
+slice-aggregate-store-2 : tie.Need-slice-aggregate-store-2
+slice-aggregate-store-2 c = search needs
 
 store-requires-3 : tie.Need-store-requires-3
 store-requires-3 c κs = search needs
 
-slice-aggregate-store-4 : tie.Need-slice-aggregate-store-4
-slice-aggregate-store-4 c = search needs
+slice-aggregate-store-3 : tie.Need-slice-aggregate-store-3
+slice-aggregate-store-3 c = search needs
 
 store-requires-4 : tie.Need-store-requires-4
 store-requires-4 c κs = search needs
-
-slice-aggregate-adjust-directions : tie.Need-slice-aggregate-adjust-directions
-slice-aggregate-adjust-directions c = search needs
 
 -- the table, and what is known of its solution
 module _ (s : tie.Start) where
@@ -56,7 +50,7 @@ module _ (s : tie.Start) where
   v = s .args .t6
 
   abbrev u : List ℤ
-  u = s .args .t7
+  u = now (s .args .u)
 
   abbrev r : List ℤ
   r = s .args .t8
@@ -64,24 +58,16 @@ module _ (s : tie.Start) where
   solved : Solved t k v u r
   solved = s .pre .1 .0
 
-  u-long : length u ≡ 64
-  u-long = search needs
-
 adjust-directions-requires : tie.Need-adjust-directions-requires
 adjust-directions-requires c κs =
-    let s = c .before .before .before .before .before .before .before .before .before .before .before .before .before .before .before .before .before .before in let p = s .pre .1 .1 in let e = p .1 .0 .2 in (
-      (omega (arith, e, p .0 .0), omega (arith, e, u-long s, s .pre .0 .m-most)),
-      ((λ i l. p .0 .1 i (omega (arith, e))), λ i l. u-size (t s) (k s) (v s) (u s) (r s) (solved s) i (omega (arith, e))),
+    let s = c .before .before .before .before .before .before .before .before .before .before .before .before .before .before .before .before in let p = s .pre .1 .1 in let e = p .1 .0 .2 in (
+      (omega (arith, e, p .0 .1), omega (arith, e, p .0 .0)),
+      ((λ i l. p .0 .2 i (omega (arith, e))), λ i l. u-size (t s) (k s) (v s) (u s) (r s) (solved s) i (omega (arith, e))),
     )
-
-slice-aggregate-print-remainders : tie.Need-slice-aggregate-print-remainders
-slice-aggregate-print-remainders c =
-    sym (u-long (c .before .before .before .before .before .before .before .before .before .before .before .before .before .before .before .before .before .before .before .before .before))
 
 print-remainders-requires : tie.Need-print-remainders-requires
 print-remainders-requires c κs =
-    let s = c .before .before .before .before .before .before .before .before .before .before .before .before .before .before .before .before .before .before .before .before .before .before in
-    (s .pre .0, ((omega (arith, u-long s, s .pre .0 .m-most), s .pre .1 .1 .1 .1 .2), u-size (t s) (k s) (v s) (u s) (r s) (solved s)))
+    let s = c .before .before .before .before .before .before .before .before .before .before .before .before .before .before .before .before .before .before .before in let p = s .pre .1 .1 in (s .pre .0, ((p .0 .0, p .1 .1 .2), u-size (t s) (k s) (v s) (u s) (r s) (solved s)))
 
 same-length : tie.Need-same-length
 same-length c = search needs
@@ -103,8 +89,7 @@ same-length-6 c = search needs
 
 returns : tie.Need-returns
 returns c =
-    let a = c .before .before .before .before .before in let st4 = a .before .before .before .before in let st3 = st4 .before .before .before .before in let st2 = st3 .before .before .before .before in let st = st2 .before .before .before .before in
-    let s = st .before .before .before in let p = s .pre .1 .1 .1 in let e = solved s in
+    let a = c .before .before .before .before in let st4 = a .before .before .before in let st3 = st4 .before .before .before .before in let st2 = st3 .before .before .before .before in let st = st2 .before .before .before in let s = st .before .before .before in let p = s .pre .1 .1 .1 in let e = solved s in
     λ i. lists
     ((st .store .ensures ∙ ap (λ (m : ℕ). tabulate m (at (v s))) (p .0 .0) ∙ corrections-list (t s) (k s) (v s) (u s) (r s) e) i)
     ((st2 .store2 .ensures ∙ ap (λ (m : ℕ). tabulate m (at (u s))) (p .0 .1) ∙ printed-list (t s) (k s) (v s) (u s) (r s) e) i)
@@ -119,15 +104,12 @@ answer-spec =
     (tie.spec
     slice-aggregate-store
     store-requires
-    slice-aggregate-store-2
     store-requires-2
-    slice-aggregate-store-3
+    slice-aggregate-store-2
     store-requires-3
-    slice-aggregate-store-4
+    slice-aggregate-store-3
     store-requires-4
-    slice-aggregate-adjust-directions
     adjust-directions-requires
-    slice-aggregate-print-remainders
     print-remainders-requires
     same-length
     same-length-2

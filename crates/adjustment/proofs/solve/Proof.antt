@@ -83,8 +83,8 @@ module _ (c : tie.After-corrections) where
 reduce-requires : tie.Need-reduce-requires
 reduce-requires c κs = search needs
 
-add-t24 : tie.Need-add-t24
-add-t24 c = search needs
+add-t23 : tie.Need-add-t23
+add-t23 c = search needs
 
 refused-requires : tie.Need-refused-requires
 refused-requires c κs = search needs
@@ -98,7 +98,7 @@ returns c =
 
 correlates-requires : tie.Need-correlates-requires
 correlates-requires c κs =
-    let e = c .before .before in (start1 e .pre .n-most, triangle-within (table (start1 e)) (rows e) (multipliers e) (triangle e))
+    let e = c .before .before in (start1 e .pre .0 .n-most, triangle-within (table (start1 e)) (rows e) (multipliers e) (triangle e))
 
 refused-requires-2 : tie.Need-refused-requires-2
 refused-requires-2 c κs = search needs
@@ -111,7 +111,7 @@ returns-2 c =
     )
 
 corrections-requires : tie.Need-corrections-requires
-corrections-requires c κs = let e = c .before in (start3 e .pre, k-small e)
+corrections-requires c κs = let e = c .before in (start3 e .pre .0, k-small e)
 
 slice-aggregate-remainders : tie.Need-slice-aggregate-remainders
 slice-aggregate-remainders c = search needs
@@ -119,15 +119,15 @@ slice-aggregate-remainders c = search needs
 remainders-requires : tie.Need-remainders-requires
 remainders-requires c κs =
     let b = c .before in let s = start4 b in let long : length (b .corrections .result) ≡ 64 = search needs in (
-      s .pre,
+      s .pre .0,
       (
-        omega (arith, long, s .pre .m-most),
-        λ i l. rw (v-is b i l) (V-size (now (s .args .q)) (now (s .args .a)) (now (s .args .w)) (s .pre) (K (table s)) (none-large (b .before .before) .1) i l),
+        omega (arith, long, s .pre .0 .m-most),
+        λ i l. rw (v-is b i l) (V-size (now (s .args .q)) (now (s .args .a)) (now (s .args .w)) (s .pre .0) (K (table s)) (none-large (b .before .before) .1) i l),
       ),
     )
 
-add-t34 : tie.Need-add-t34
-add-t34 c = search needs
+add-t33 : tie.Need-add-t33
+add-t33 c = search needs
 
 refused-requires-3 : tie.Need-refused-requires-3
 refused-requires-3 c κs = search needs
@@ -146,8 +146,9 @@ slice-aggregate-print-corrections c = search needs
 print-corrections-requires : tie.Need-print-corrections-requires
 print-corrections-requires c κs = search needs
 
-add-t39 : tie.Need-add-t39
-add-t39 c = search needs
+add-t40 : tie.Need-add-t40
+add-t40 c =
+    let s = c .before .before .before .before .before .before .before .before .before .before .before .before .before .before .before .before .before .before .before in omega (arith, c .if4 .taken, s .pre .0 .m-most)
 
 refused-requires-4 : tie.Need-refused-requires-4
 refused-requires-4 c κs = search needs
@@ -163,18 +164,24 @@ module _ (c : tie.Else3) where
   none-left : remaindersReply (table start5) (K (table start5)) ≡ Accepted
   none-left = none-open (table start5) (corrected .corrections .result) (v-is corrected) (c .before .remainders .result .close) (c .before .remainders .ensures .0) (c .if3 .left)
 
+same-length : tie.Need-same-length
+same-length c = search needs
+
 returns-4 : tie.Need-returns-4
 returns-4 c =
-    let p = c .before .before in let r = p .before .before .before in let b = corrected r in let e = b .before .before in (
+    let p = c .before .before .before in let r = p .before .before .before .before in let b = corrected r in let e = b .before .before in (
       c .refused4 .ensures
-          ∙ past-refused (table (start5 r)) (b .corrections .result) (v-is b) (p .print-corrections .result .within) (p .print-corrections .ensures .0) (no-weak (sound (e .before)) .0) (none-large e .0) (none-left r) (c .before .if4 .taken),
+          ∙ past-refused (table (start5 r)) (b .corrections .result) (v-is b) (p .print-corrections .result) (p .print-corrections .ensures .0) (no-weak (sound (e .before)) .0) (none-large e .0) (none-left r) (c .before .if4 .taken),
       no-solution (c .refused4 .ensures),
     )
 
+same-length-2 : tie.Need-same-length-2
+same-length-2 c = search needs
+
 returns-5 : tie.Need-returns-5
 returns-5 c =
-    let p = c .before .before in let l = p .before .before .before in let b = corrected l in let t = table (start5 l) in let e = b .before .before in
-    let none = none-past t (b .corrections .result) (v-is b) (p .print-corrections .result .within) (p .print-corrections .ensures .0) (no-weak (sound (e .before)) .0) (none-large e .0) (none-left l) (c .before .if4 .left) in (
+    let p = c .before .before in let l = p .before .before .before .before in let b = corrected l in let t = table (start5 l) in let e = b .before .before in
+    let none = none-past t (b .corrections .result) (v-is b) (p .print-corrections .result) (p .print-corrections .ensures .0) (no-weak (sound (e .before)) .0) (none-large e .0) (none-left l) (c .if4 .left) in (
       none .0,
       λ f. record {
         k = k-is e;
@@ -190,7 +197,7 @@ solve-spec =
     tie.close
     (tie.spec
     reduce-requires
-    add-t24
+    add-t23
     refused-requires
     returns
     correlates-requires
@@ -199,12 +206,14 @@ solve-spec =
     corrections-requires
     slice-aggregate-remainders
     remainders-requires
-    add-t34
+    add-t33
     refused-requires-3
     returns-3
     slice-aggregate-print-corrections
     print-corrections-requires
-    add-t39
+    add-t40
     refused-requires-4
+    same-length
     returns-4
+    same-length-2
     returns-5)

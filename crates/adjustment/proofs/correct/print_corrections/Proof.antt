@@ -1,5 +1,5 @@
 -- `correct::print_corrections` meets its contract. Assumes nothing.
-use mathlib.Core.Path.{_≡_, refl, sym, _∙_, ap, subst}
+use mathlib.Core.Path.{_≡_, sym, _∙_, ap, subst}
 use mathlib.Core.Bool.{Bool}
 use mathlib.Core.List.{List}
 use Prim.Native.Nat.{ℕ, _-_, _≤_, _<_, zero-le}
@@ -8,7 +8,7 @@ use borrow.Author.Needs.{needs}
 use borrow.Author.Tests.{lt-ltb, le-ltb}
 use denote.Ref.{now}
 use lib.Dec.{ltb}
-use lib.ListN.{length, getD, replicate, length-set}
+use lib.ListN.{length, getD}
 use lib.IntN.{ℤ, pos, natAbs}
 use mir.Syntax.{w64}
 use mir.Val.{toZ, ofZ}
@@ -27,14 +27,14 @@ abbrev past : List ℤ → ℕ → Bool
 past v i = ltb 60000 (natAbs (rounding (at v) i))
 
 abbrev Inv-loop : tie.InvT-loop
-Inv-loop v m u₀ i₀ u i = (i ≤ m) × (length u ≡ 64) × Failed (past v) i × Filled (pos 0) (rounding (λ h. getD v h (pos 0))) 0 i u₀ u
+Inv-loop v m u₀ i₀ u i = (i ≤ m) × Failed (past v) i × Filled (pos 0) (rounding (λ h. getD v h (pos 0))) 0 i u₀ u
 
 abbrev μ-loop : tie.MeasureT-loop
 μ-loop v m u₀ i₀ u i = m - i
 
 loop-holds : tie.Need-loop-holds Inv-loop μ-loop
 loop-holds c =
-    let v = now (c .args .v) in (omega arith, refl, failed-none (past v), filled-none (pos 0) (rounding (at v)) 0 (replicate 64 (pos 0)))
+    let v = now (c .args .v) in (omega arith, failed-none (past v), filled-none (pos 0) (rounding (at v)) 0 (now (c .args .u)))
 
 mul-x : tie.Need-mul-x Inv-loop μ-loop
 mul-x c = search needs
@@ -71,18 +71,21 @@ module _ (c : tie.After-magnitude Inv-loop μ-loop) where
   size-is : c .magnitude .result ≡ natAbs (rounding (at v) i)
   size-is = c .magnitude .ensures ∙ ap natAbs (read-at (c .before .nearest .result) (c .before .nearest .ok) ∙ rounded)
 
+same-length : tie.Need-same-length Inv-loop μ-loop
+same-length c = search needs
+
 returns : tie.Need-returns Inv-loop μ-loop
 returns c =
     let b = c .before in let h = loop b .loop .inv in (
-      sym (first-at (start b .args .m) (past (v b)) (i b) (below b) (h .2) (lt-ltb 60000 (natAbs (rounding (at (v b)) (i b))) (rw (size-is b) at (c .if1 .taken)))),
-      λ k l. h .3 .done k zero-le l,
+      sym (first-at (start b .args .m) (past (v b)) (i b) (below b) (h .1) (lt-ltb 60000 (natAbs (rounding (at (v b)) (i b))) (rw (size-is b) at (c .if1 .taken)))),
+      λ k l. h .2 .done k zero-le l,
     )
 
-mul-u : tie.Need-mul-u Inv-loop μ-loop
-mul-u c = search needs
+mul-y : tie.Need-mul-y Inv-loop μ-loop
+mul-y c = search needs
 
-array-set-from-u : tie.Need-array-set-from-u Inv-loop μ-loop
-array-set-from-u c = search needs
+slice-set-from-y : tie.Need-slice-set-from-y Inv-loop μ-loop
+slice-set-from-y c = search needs
 
 add-i : tie.Need-add-i Inv-loop μ-loop
 add-i c = search needs
@@ -94,16 +97,18 @@ loop-again : tie.Need-loop-again Inv-loop μ-loop
 loop-again c =
     let b = c .before in let h = loop b .loop .inv in let y = b .before .nearest .result in (
       omega arith,
-      length-set (loop b .loop .u) (i b) (toZ w64 (ofZ w64 y)) ∙ h .1,
-      failed-more (past (v b)) (i b) (h .2) (le-ltb 60000 (natAbs (rounding (at (v b)) (i b))) (rw (size-is b) at (c .if1 .left))),
-      filled-more (pos 0) (rounding (at (v b))) 0 (i b) (replicate 64 (pos 0)) (loop b .loop .u) (toZ w64 (ofZ w64 y))
-          (omega (arith, start b .pre .0, below b)) (h .3) (read-at y (b .before .nearest .ok) ∙ rounded b),
+      failed-more (past (v b)) (i b) (h .1) (le-ltb 60000 (natAbs (rounding (at (v b)) (i b))) (rw (size-is b) at (c .if1 .left))),
+      filled-more (pos 0) (rounding (at (v b))) 0 (i b) (now (start b .args .u)) (loop b .loop .u) (toZ w64 (ofZ w64 y))
+          (omega (arith, start b .pre .1, h .2 .long, below b)) (h .2) (read-at y (b .before .nearest .ok) ∙ rounded b),
     )
+
+same-length-2 : tie.Need-same-length-2 Inv-loop μ-loop
+same-length-2 c = search needs
 
 returns-2 : tie.Need-returns-2 Inv-loop μ-loop
 returns-2 c =
     let l = c .before in let s = l .before in let test = past (now (s .args .v)) in let e : l .loop .i ≡ s .args .m = omega arith in
-    (e ∙ sym (first-none (s .args .m) test (subst (Failed test) e (l .loop .inv .2))), λ h k. l .loop .inv .3 .done h zero-le k)
+    (e ∙ sym (first-none (s .args .m) test (subst (Failed test) e (l .loop .inv .1))), λ h k. l .loop .inv .2 .done h zero-le k)
 
 pub print-corrections-spec : {M : Type 1} → statement M
 print-corrections-spec =
@@ -116,10 +121,12 @@ print-corrections-spec =
     shared-slice-copy-out-x
     nearest-requires
     magnitude-requires
+    same-length
     returns
-    mul-u
-    array-set-from-u
+    mul-y
+    slice-set-from-y
     add-i
     loop-less
     loop-again
+    same-length-2
     returns-2)
