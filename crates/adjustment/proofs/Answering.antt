@@ -3,7 +3,6 @@
 --   corrections-list, correlates-list, remainders-list, printed-list, adjusted-list, misses-list      each list is the rules' one
 use mathlib.Core.Path.{_≡_, ap}
 use mathlib.Core.List.{List}
-use Prim.Native.Nat.{ℕ}
 use lib.ListN.{getD}
 use lib.IntN.{ℤ, pos, _+ℤ_, _*ℤ_}
 use Rattle.exact.specs.Circle.{C, modulo}

@@ -25,6 +25,7 @@ use Rattle.doolittle.specs.Table.{Table, at, tableOf}
 use Rattle.doolittle.specs.Solution.{weak, K}
 use Rattle.adjustment.specs.Corrections.{V-of, R-of, u-of}
 use Rattle.adjustment.specs.Refusals.{rowsReply, correlatesReply, remaindersReply, correctionsReply, solutionReply}
+use Rattle.adjustment.specs.Promise.{WithinMinute}
 use Rattle.doolittle.specs.Inner.{Sound}
 use Rattle.adjustment.specs.Inner.{closing, rounding}
 use Rattle.doolittle.proofs.Sizes.{sum-within, product-size}
@@ -113,7 +114,7 @@ module _ (t : Table) where
       unfolding solutionReply correctionsReply
       past-refused l = rw (a, b, c, refuse-first (t .m) past (λ i. Correction (i + 1)) within first-past l)
 
-      pub none-past : t .m ≤ within → (Accepted ≡ solutionReply t) × ((i : ℕ) → i < t .m → natAbs (u-of t (K t) i) ≤ 60000)
+      pub none-past : t .m ≤ within → (Accepted ≡ solutionReply t) × WithinMinute t (u-of t (K t))
       unfolding solutionReply correctionsReply
       none-past l = (
         rw (a, b, c, accept-first (t .m) past (λ i. Correction (i + 1)) (omega (arith, first-past))),

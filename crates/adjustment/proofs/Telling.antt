@@ -6,7 +6,7 @@
 --   lowest-direction         of two blunders the one with the lower direction number is named, though the other is larger
 --   remainder-first          a table with a remainder that is too large and a blunder is refused for its remainder
 use mathlib.Core.Path.{_≡_, refl}
-use mathlib.Core.List.{List, [], _∷_}
+use mathlib.Core.List.{[], _∷_}
 use lib.IntN.{ℤ, pos, negℤ}
 use Rattle.exact.specs.Sum.{sum}
 use Rattle.exact.specs.Nearest.{nearest}

@@ -1,14 +1,15 @@
 -- What the inner functions hand each other. No part of the promise.
 use mathlib.Core.Path.{_≡_}
 use mathlib.Core.List.{List}
-use Prim.Native.Nat.{ℕ, _≤_, _<_}
+use Prim.Native.Nat.{ℕ, _<_}
 use lib.ListN.{getD}
-use lib.IntN.{ℤ, pos, natAbs, _+ℤ_, _*ℤ_}
+use lib.IntN.{ℤ, pos, _+ℤ_, _*ℤ_}
 use Rattle.exact.specs.Nearest.{nearest}
 use Rattle.doolittle.specs.Table.{Table}
 use Rattle.doolittle.specs.Solution.{K}
 use Rattle.adjustment.specs.Corrections.{V-of, R-of, u-of}
 use Rattle.adjustment.specs.Demand.{seen}
+use Rattle.adjustment.specs.Promise.{WithinMinute}
 
 -- R(j) by a and V: sum of a*V + 10^7*w(j)
 abbrev pub closing : Table → (ℕ → ℤ) → ℕ → ℤ
@@ -24,4 +25,4 @@ pub record Solved (t : Table) (ks vs us rs : List ℤ) : Type 0 where
   pub v : (i : ℕ) → i < t .m → getD vs i (pos 0) ≡ V-of t (K t) i
   pub u : (i : ℕ) → i < t .m → getD us i (pos 0) ≡ u-of t (K t) i
   pub r : (j : ℕ) → j < t .n → getD rs j (pos 0) ≡ R-of t (K t) j
-  pub u-most : (i : ℕ) → i < t .m → natAbs (u-of t (K t) i) ≤ 60000
+  pub u-most : WithinMinute t (u-of t (K t))

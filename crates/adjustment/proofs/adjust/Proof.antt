@@ -12,7 +12,6 @@ use Rattle.reply.specs.declared.Refusal.the-variants.{Count}
 use Rattle.reply.specs.declared.Reply.the-variants.{Accepted}
 use Rattle.direction.specs.Ranges.{directionsReply}
 use Rattle.doolittle.specs.Table.{Table, tableOf}
-use Rattle.doolittle.specs.Solution.{M}
 use Rattle.adjustment.specs.Refusals.{solutionReply, countsAmiss, lengthsAmiss, conditionsReply}
 use Rattle.adjustment.specs.Promise.{Answers, lists, adjustReply}
 use Rattle.doolittle.specs.Inner.{Sound}

@@ -1,16 +1,15 @@
 -- `answer` meets its contract. Assumes nothing.
-use mathlib.Core.Path.{_≡_, sym, _∙_, ap}
+use mathlib.Core.Path.{_∙_, ap}
 use mathlib.Core.List.{List}
 use Prim.Native.Nat.{ℕ}
 use native.Mathlib.Omega.{arith}
 use borrow.Author.Needs.{needs}
 use denote.Ref.{now}
-use lib.ListN.{length, getD}
+use lib.ListN.{getD}
 use lib.IntN.{ℤ, pos, _+ℤ_}
 use Rattle.exact.specs.Circle.{C, modulo}
 use Rattle.exact.specs.Tabulate.{tabulate}
 use Rattle.doolittle.specs.Table.{Table, at, tableOf}
-use Rattle.doolittle.specs.Solution.{M}
 use Rattle.adjustment.specs.Promise.{lists}
 use Rattle.adjustment.specs.Inner.{Solved}
 use Rattle.adjustment.proofs.Answering.{corrections-list, printed-list, correlates-list, remainders-list, adjusted-list, misses-list, u-size}

@@ -12,7 +12,6 @@ use mir.Val.{toZ, ofZ}
 use Rattle.exact.specs.Circle.{C, modulo}
 use Rattle.exact.proofs.Bound.{read-at, read-within}
 use Rattle.exact.proofs.Filling.{Filled, filled-none, filled-more, filled-all}
-use Rattle.doolittle.specs.Solution.{M}
 use Rattle.adjustment.proofs.correct.adjust_directions.Statement.{statement}
 use Rattle.adjustment.proofs.correct.adjust_directions.Tie as tie
 

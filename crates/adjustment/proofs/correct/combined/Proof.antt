@@ -14,7 +14,6 @@ use Rattle.exact.specs.Sum.{sum}
 use Rattle.exact.proofs.Bound.{read-at, read-within}
 use Rattle.exact.proofs.Sum.{sum-none, sum-more}
 use Rattle.doolittle.specs.Table.{at}
-use Rattle.doolittle.specs.Solution.{M}
 use Rattle.doolittle.proofs.Sizes.{sum-within, product-size, row-end, next-row}
 use Rattle.adjustment.proofs.correct.combined.Statement.{statement}
 use Rattle.adjustment.proofs.correct.combined.Tie as tie

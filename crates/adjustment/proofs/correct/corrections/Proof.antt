@@ -11,7 +11,6 @@ use mir.Val.{toZ, ofZ}
 use Rattle.exact.proofs.Bound.{read-at, read-within}
 use Rattle.exact.proofs.Filling.{Filled, filled-none, filled-more}
 use Rattle.doolittle.specs.Table.{Table, at, tableOf}
-use Rattle.doolittle.specs.Solution.{M}
 use Rattle.adjustment.specs.Corrections.{V-of}
 use Rattle.doolittle.proofs.Sizes.{sum-within, product-size}
 use Rattle.adjustment.proofs.correct.corrections.Statement.{statement}

@@ -8,7 +8,7 @@ use borrow.Author.Needs.{needs}
 use borrow.Author.Tests.{lt-ltb, le-ltb}
 use denote.Ref.{now}
 use lib.Dec.{ltb}
-use lib.ListN.{length, getD}
+use lib.ListN.{getD}
 use lib.IntN.{ℤ, pos, natAbs}
 use mir.Syntax.{w64}
 use mir.Val.{toZ, ofZ}
@@ -17,7 +17,6 @@ use Rattle.exact.proofs.Bound.{read-at}
 use Rattle.exact.proofs.Searching.{Failed, failed-none, failed-more, first-at, first-none}
 use Rattle.exact.proofs.Filling.{Filled, filled-none, filled-more}
 use Rattle.doolittle.specs.Table.{at}
-use Rattle.doolittle.specs.Solution.{M}
 use Rattle.adjustment.specs.Inner.{rounding}
 use Rattle.adjustment.proofs.correct.print_corrections.Statement.{statement}
 use Rattle.adjustment.proofs.correct.print_corrections.Tie as tie

@@ -15,7 +15,6 @@ use Rattle.exact.proofs.Bound.{read-at, read-within}
 use Rattle.exact.proofs.Filling.{Filled, filled-none, filled-more, filled-all}
 use Rattle.doolittle.specs.Table.{Table, at, tableOf}
 use Rattle.adjustment.specs.Demand.{seen}
-use Rattle.doolittle.specs.Solution.{M}
 use Rattle.doolittle.specs.Inner.{Within}
 use Rattle.doolittle.proofs.Sizes.{sum-within, product-size, row-end, next-row}
 use Rattle.adjustment.proofs.correct.print_remainders.Statement.{statement}

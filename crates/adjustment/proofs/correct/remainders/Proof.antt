@@ -19,7 +19,6 @@ use Rattle.exact.proofs.Searching.{Failed, failed-none, failed-more, first-at, 
 use Rattle.exact.proofs.Filling.{Filled, filled-none, filled-more}
 use Rattle.doolittle.specs.Table.{Table, at, tableOf}
 use Rattle.adjustment.specs.Demand.{seen}
-use Rattle.doolittle.specs.Solution.{M}
 use Rattle.adjustment.specs.Inner.{closing}
 use Rattle.doolittle.specs.Inner.{Within}
 use Rattle.doolittle.proofs.Sizes.{sum-within, product-size, row-end, next-row}

@@ -13,7 +13,6 @@ use Rattle.exact.specs.Sum.{sum}
 use Rattle.exact.proofs.Bound.{read-at, read-within}
 use Rattle.exact.proofs.Sum.{sum-none, sum-more}
 use Rattle.doolittle.specs.Table.{at}
-use Rattle.doolittle.specs.Solution.{M}
 use Rattle.doolittle.proofs.Sizes.{sum-within, product-size}
 use Rattle.adjustment.proofs.correct.sum_seen.Statement.{statement}
 use Rattle.adjustment.proofs.correct.sum_seen.Tie as tie

@@ -17,7 +17,6 @@ use Rattle.reply.specs.declared.Refusal.{Refusal}
 use Rattle.reply.specs.declared.Refusal.the-variants.{Coefficient, Misclosure}
 use Rattle.reply.proofs.Checking.{refuse-at, refuse-none}
 use Rattle.doolittle.specs.Table.{Table, at, tableOf}
-use Rattle.doolittle.specs.Solution.{M}
 use Rattle.adjustment.specs.Refusals.{coefficientFault, misclosureFault, conditionsReply}
 use Rattle.doolittle.proofs.Sizes.{row-end, next-row}
 use Rattle.adjustment.proofs.table.check_conditions.Statement.{statement}

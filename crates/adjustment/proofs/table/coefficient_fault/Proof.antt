@@ -13,7 +13,6 @@ use lib.IntN.{ℤ, pos, natAbs}
 use Rattle.exact.proofs.Bound.{read-at}
 use Rattle.exact.proofs.Searching.{Failed, failed-none, failed-more, some-at, some-none}
 use Rattle.doolittle.specs.Table.{at}
-use Rattle.doolittle.specs.Solution.{M}
 use Rattle.adjustment.proofs.table.coefficient_fault.Statement.{statement}
 use Rattle.adjustment.proofs.table.coefficient_fault.Tie as tie
 

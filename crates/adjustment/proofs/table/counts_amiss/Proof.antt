@@ -1,6 +1,5 @@
 -- `table::counts_amiss` meets its contract. Assumes nothing.
 use borrow.Author.Tests.{lt-ltb, le-ltb}
-use Rattle.doolittle.specs.Solution.{M}
 use Rattle.adjustment.specs.Refusals.{countsAmiss}
 use Rattle.adjustment.proofs.table.counts_amiss.Statement.{statement}
 use Rattle.adjustment.proofs.table.counts_amiss.Tie as tie

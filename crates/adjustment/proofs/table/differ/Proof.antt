@@ -1,6 +1,5 @@
 -- `table::differ` meets its contract. Assumes nothing.
 use borrow.Author.Tests.{eq-eqb, ne-eqb}
-use Rattle.doolittle.specs.Solution.{M}
 use Rattle.adjustment.specs.Refusals.{differs}
 use Rattle.adjustment.proofs.table.differ.Statement.{statement}
 use Rattle.adjustment.proofs.table.differ.Tie as tie

@@ -5,7 +5,6 @@ use native.Mathlib.Omega.{arith}
 use borrow.Author.Needs.{needs}
 use borrow.Author.Tests.{eq-eqb, ne-eqb}
 use Rattle.exact.proofs.Bound.{mul-le}
-use Rattle.doolittle.specs.Solution.{M}
 use Rattle.adjustment.specs.Refusals.{lengthsAmiss}
 use Rattle.adjustment.proofs.table.lengths_amiss.Statement.{statement}
 use Rattle.adjustment.proofs.table.lengths_amiss.Tie as tie
