@@ -8,19 +8,17 @@
 use mathlib.Core.Path.{_≡_, refl, sym, _∙_, ap}
 use mathlib.Core.Bool.{Bool, true, false}
 use mathlib.Core.List.{List}
-use Prim.Native.Nat.{ℕ, _+_, _≤_, _<_}
-use borrow.Author.Tests.{ltb-false}
-use lib.Dec.{ltb}
+use Prim.Native.Nat.{ℕ, _<_}
 use lib.ListN.{length}
-use lib.IntN.{ℤ, pos, natAbs}
+use lib.IntN.{ℤ, pos}
 use Rattle.exact.proofs.Filling.{tabulate-at}
 use Rattle.reply.specs.declared.Refusal.{Refusal}
-use Rattle.reply.specs.declared.Refusal.the-variants.{Count, Remainder, Correction}
+use Rattle.reply.specs.declared.Refusal.the-variants.{Count}
 use Rattle.reply.specs.declared.Reply.{Reply}
 use Rattle.reply.specs.declared.Reply.the-variants.{Accepted, Refused}
 use Rattle.reply.specs.Checks.{refuseIf, _andThen_, leaves}
 use Rattle.reply.specs.Verdicts.{verdictOf}
-use Rattle.reply.proofs.Checking.{never, none-refused, both-accepted, if-accepted}
+use Rattle.reply.proofs.Checking.{never, both-accepted, if-accepted}
 use Rattle.direction.specs.Ranges.{directionsReply}
 use Rattle.doolittle.specs.Table.{Table, at, tableOf}
 use Rattle.doolittle.specs.Solution.{K}
@@ -31,6 +29,7 @@ use Rattle.adjustment.specs.Promise.{Answers, adjustReply, answersOf, Wi
 use Rattle.doolittle.specs.Inner.{Sound}
 use Rattle.adjustment.proofs.Admitting.{counts-known, lengths-known, sound-table}
 use Rattle.adjustment.proofs.Demands.{demand-3, demand-ext}
+use Rattle.adjustment.proofs.Solving.{remainders-close, corrections-small}
 
 module _ (ds qs cs ws : List ℤ) (lent : Answers) where
   abbrev t : Table
@@ -80,16 +79,8 @@ module _ (ds qs cs ws : List ℤ) (lent : Answers) where
         let correlates = both-accepted (correlatesReply t) after-8 (rows .1) in
         both-accepted (remaindersReply t (K t)) (correctionsReply t (K t)) (correlates .1)
 
-    close : (j : ℕ) → j < t .n → natAbs (R-of t (K t) j) ≤ 50000000
-    unfolding remaindersReply
-    close j l = ltb-false 50000000 (natAbs (R-of t (K t) j)) (none-refused (t .n) (λ j. ltb 50000000 (natAbs (R-of t (K t) j))) (λ j. Remainder (j + 1)) (last .0) j l)
-
-    small : WithinMinute t (u-of t (K t))
-    unfolding correctionsReply
-    small i l = ltb-false 60000 (natAbs (u-of t (K t) i)) (none-refused (t .m) (λ i. ltb 60000 (natAbs (u-of t (K t) i))) (λ i. Correction (i + 1)) (last .1) i l)
-
     pub accepted-adjusts : Sound qs cs ws → adjustReply ds qs cs ws lent ≡ solutionReply t → (left : Answers) → left ≡ answersOf t (K t) (at ds) → Adjusts ds qs cs ws lent Accepted left
-    accepted-adjusts s f left g = record { answer = sym (f ∙ e); verdict = ap verdictOf (sym (f ∙ e)); lists = g; demand3 = λ h. demand; within-minute = λ h i l. rw (u-left i l) (small i l) }
+    accepted-adjusts s f left g = record { answer = sym (f ∙ e); verdict = ap verdictOf (sym (f ∙ e)); lists = g; demand3 = λ h. demand; within-minute = λ h i l. rw (u-left i l) (corrections-small t (K t) (last .1) i l) }
       where
         u-left : (i : ℕ) → i < t .m → at (left .printed) i ≡ u-of t (K t) i
         u-left i l = ap (λ (x : Answers). at (x .printed) i) g ∙ tabulate-at (t .m) (u-of t (K t)) i (pos 0) l
@@ -101,7 +92,7 @@ module _ (ds qs cs ws : List ℤ) (lent : Answers) where
             (λ i l. sym (u-left i l))
             (λ j l. sym (ap (λ (x : Answers). at (x .remainders) j) g ∙ tabulate-at (t .n) (R-of t (K t)) j (pos 0) l))
             (λ j l. sym (ap (λ (x : Answers). at (x .misses) j) g ∙ tabulate-at (t .n) (Q-of t (K t)) j (pos 0) l))
-            (demand-3 t (K t) (s .q-least) (s .q-most) close)
+            (demand-3 t (K t) (s .q-least) (s .q-most) (remainders-close t (K t) (last .0)))
 
   -- ---- of every table that the rules accept
   module _ (e : adjustReply ds qs cs ws lent ≡ Accepted) where
@@ -117,10 +108,10 @@ module _ (ds qs cs ws : List ℤ) (lent : Answers) where
         let table = both-accepted (directionsReply ds qs) (conditionsReply t) (lengths .1) in
         let l = lengths-known (length ds) (length ws) (length qs) (length cs) _ _ _ _ _ _ (if-accepted lengths-amiss (Count 0) (lengths .0)) in
         let s = sound-table ds qs cs ws (counts-known (length ds) (length ws) (if-accepted (countsAmiss (length ds) (length ws)) (Count 0) (counts .0))) (l .of-q) (l .of-a) (table .0) (table .1) in
-        demand-3 t (K t) (s .q-least) (s .q-most) (close (both .1))
+        demand-3 t (K t) (s .q-least) (s .q-most) (remainders-close t (K t) (last (both .1) .0))
 
     pub accepted-within-minute : WithinMinute t (u-of t (K t))
-    accepted-within-minute = small (both .1)
+    accepted-within-minute = corrections-small t (K t) (last (both .1) .1)
 
   -- ---- a refusal leaves the lists alone
   pub refusal-leaves-lists : (why : Refusal) (left : Answers) → Adjusts ds qs cs ws lent (Refused why) left → left ≡ lent

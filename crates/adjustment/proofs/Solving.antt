@@ -2,7 +2,9 @@
 --   V-size, V-ext                    the corrections of correlates within 10^8, and of equal correlates
 --   closing-is                       the remainders of a list that holds the corrections are R
 --   weak-refused, large-refused, open-refused, past-refused      6, 7, 8 and 9 at their places
---   none-weak, none-too-large, none-open, none-past              where nothing is found, the checks accept
+--   none-weak, none-too-large, none-open, none-past              where nothing is found, the check accepts
+--   all-accepted                     where all four accept, so does the solution
+--   remainders-close, corrections-small      what 8 and 9 leave known where they accept, of any correlates
 use mathlib.Core.Path.{_≡_, sym, _∙_, ap, subst}
 use mathlib.Core.Bool.{Bool}
 use mathlib.Core.List.{List}
@@ -20,7 +22,7 @@ use Rattle.exact.proofs.Sum.{sum-ext}
 use Rattle.exact.proofs.Searching.{Failed, first-before, first-ext}
 use Rattle.reply.specs.declared.Refusal.the-variants.{WeakRow, Correlate, Remainder, Correction}
 use Rattle.reply.specs.declared.Reply.the-variants.{Accepted, Refused}
-use Rattle.reply.proofs.Checking.{refuse-first, accept-first}
+use Rattle.reply.proofs.Checking.{refuse-first, accept-first, none-refused}
 use Rattle.doolittle.specs.Table.{Table, at, tableOf}
 use Rattle.doolittle.specs.Solution.{weak, K}
 use Rattle.adjustment.specs.Corrections.{V-of, R-of, u-of}
@@ -105,18 +107,28 @@ module _ (t : Table) where
     abbrev past : ℕ → Bool
     past i = ltb 60000 (natAbs (u-of t (K t) i))
 
-    module _ (within : ℕ) (e : within ≡ first (t .m) (λ i. ltb 60000 (natAbs (rounding (at vs) i))))
-        (a : rowsReply t ≡ Accepted) (b : correlatesReply t ≡ Accepted) (c : remaindersReply t (K t) ≡ Accepted) where
+    module _ (within : ℕ) (e : within ≡ first (t .m) (λ i. ltb 60000 (natAbs (rounding (at vs) i)))) where
       first-past : within ≡ first (t .m) past
       first-past = e ∙ first-ext (t .m) (λ i. ltb 60000 (natAbs (rounding (at vs) i))) past (λ i l. ap (λ (z : ℤ). ltb 60000 (natAbs z)) (rounding-is i l))
 
-      pub past-refused : within < t .m → Refused (Correction (within + 1)) ≡ solutionReply t
+      pub past-refused : rowsReply t ≡ Accepted → correlatesReply t ≡ Accepted → remaindersReply t (K t) ≡ Accepted → within < t .m → Refused (Correction (within + 1)) ≡ solutionReply t
       unfolding solutionReply correctionsReply
-      past-refused l = rw (a, b, c, refuse-first (t .m) past (λ i. Correction (i + 1)) within first-past l)
+      past-refused a b c l = rw (a, b, c, refuse-first (t .m) past (λ i. Correction (i + 1)) within first-past l)
 
-      pub none-past : t .m ≤ within → (Accepted ≡ solutionReply t) × WithinMinute t (u-of t (K t))
-      unfolding solutionReply correctionsReply
-      none-past l = (
-        rw (a, b, c, accept-first (t .m) past (λ i. Correction (i + 1)) (omega (arith, first-past))),
-        λ i h. ltb-false 60000 (natAbs (u-of t (K t) i)) (first-before (t .m) past i (omega (arith, first-past))),
-      )
+      pub none-past : t .m ≤ within → correctionsReply t (K t) ≡ Accepted
+      unfolding correctionsReply
+      none-past l = accept-first (t .m) past (λ i. Correction (i + 1)) (omega (arith, first-past))
+
+  pub all-accepted : rowsReply t ≡ Accepted → correlatesReply t ≡ Accepted → remaindersReply t (K t) ≡ Accepted → correctionsReply t (K t) ≡ Accepted → Accepted ≡ solutionReply t
+  unfolding solutionReply
+  all-accepted a b c d = rw (a, b, c, d)
+
+  -- ---- of any correlates, where 8 and 9 accept
+  module _ (k : ℕ → ℤ) where
+    pub remainders-close : remaindersReply t k ≡ Accepted → (j : ℕ) → j < t .n → natAbs (R-of t k j) ≤ 50000000
+    unfolding remaindersReply
+    remainders-close e j l = ltb-false 50000000 (natAbs (R-of t k j)) (none-refused (t .n) (λ j. ltb 50000000 (natAbs (R-of t k j))) (λ j. Remainder (j + 1)) e j l)
+
+    pub corrections-small : correctionsReply t k ≡ Accepted → WithinMinute t (u-of t k)
+    unfolding correctionsReply
+    corrections-small e i l = ltb-false 60000 (natAbs (u-of t k i)) (none-refused (t .m) (λ i. ltb 60000 (natAbs (u-of t k i))) (λ i. Correction (i + 1)) e i l)

@@ -17,7 +17,7 @@ use Rattle.adjustment.specs.Corrections.{V-of}
 use Rattle.adjustment.specs.Refusals.{rowsReply, correlatesReply, remaindersReply}
 use Rattle.doolittle.specs.Inner.{Triangle, Solves, Small}
 use Rattle.doolittle.proofs.Correlating.{triangle-within}
-use Rattle.adjustment.proofs.Solving.{V-size, V-ext, closing-is, rounding-is, weak-refused, none-weak, large-refused, none-too-large, open-refused, none-open, past-refused, none-past}
+use Rattle.adjustment.proofs.Solving.{V-size, V-ext, closing-is, rounding-is, weak-refused, none-weak, large-refused, none-too-large, open-refused, none-open, past-refused, none-past, all-accepted, corrections-small}
 use Rattle.adjustment.proofs.solve.Statement.{statement}
 use Rattle.adjustment.proofs.solve.Tie as tie
 
@@ -181,14 +181,14 @@ same-length-2 c = search needs
 returns-5 : tie.Need-returns-5
 returns-5 c =
     let p = c .before .before in let l = p .before .before .before .before in let b = corrected l in let t = table (start5 l) in let e = b .before .before in
-    let none = none-past t (b .corrections .result) (v-is b) (p .print-corrections .result) (p .print-corrections .ensures .0) (no-weak (sound (e .before)) .0) (none-large e .0) (none-left l) (c .if4 .left) in (
-      none .0,
+    let none = none-past t (b .corrections .result) (v-is b) (p .print-corrections .result) (p .print-corrections .ensures .0) (c .if4 .left) in (
+      all-accepted t (no-weak (sound (e .before)) .0) (none-large e .0) (none-left l) none,
       λ f. record {
         k = k-is e;
         v = v-is b;
         u = λ i h. p .print-corrections .ensures .1 i (omega arith) ∙ rounding-is t (b .corrections .result) (v-is b) i h;
         r = λ j h. l .before .remainders .ensures .1 j (omega arith) ∙ closing-is t (b .corrections .result) (v-is b) j;
-        u-most = none .1;
+        u-most = corrections-small t (K t) none;
       },
     )
 
