@@ -16,7 +16,7 @@ use Rattle.adjustment.specs.Demand.{seen}
 use Rattle.doolittle.specs.Inner.{Small}
 use Rattle.adjustment.specs.Inner.{Solved}
 
-module _ (t : Table) (ks vs us rs : List ℤ) (s : Solved t ks vs us rs) where
+module _ {t : Table} {ks vs us rs : List ℤ} (s : Solved t ks vs us rs) where
   pub corrections-list : tabulate (t .m) (at vs) ≡ tabulate (t .m) (V-of t (K t))
   corrections-list = tabulate-ext (t .m) (at vs) (V-of t (K t)) (s .v)
 

@@ -61,12 +61,12 @@ adjust-directions-requires : tie.Need-adjust-directions-requires
 adjust-directions-requires c κs =
     let s = c .before .before .before .before .before .before .before .before .before .before .before .before .before .before .before .before in let p = s .pre .1 .1 in let e = p .1 .0 .2 in (
       (omega (arith, e, p .0 .1), omega (arith, e, p .0 .0)),
-      ((λ i l. p .0 .2 i (omega (arith, e))), λ i l. u-size (t s) (k s) (v s) (u s) (r s) (solved s) i (omega (arith, e))),
+      ((λ i l. p .0 .2 i (omega (arith, e))), λ i l. u-size (solved s) i (omega (arith, e))),
     )
 
 print-remainders-requires : tie.Need-print-remainders-requires
 print-remainders-requires c κs =
-    let s = c .before .before .before .before .before .before .before .before .before .before .before .before .before .before .before .before .before .before .before in let p = s .pre .1 .1 in (s .pre .0, ((p .0 .0, p .1 .1 .2), u-size (t s) (k s) (v s) (u s) (r s) (solved s)))
+    let s = c .before .before .before .before .before .before .before .before .before .before .before .before .before .before .before .before .before .before .before in let p = s .pre .1 .1 in (s .pre .0, ((p .0 .0, p .1 .1 .2), u-size (solved s)))
 
 same-length : tie.Need-same-length
 same-length c = search needs
@@ -90,12 +90,12 @@ returns : tie.Need-returns
 returns c =
     let a = c .before .before .before .before in let st4 = a .before .before .before in let st3 = st4 .before .before .before .before in let st2 = st3 .before .before .before .before in let st = st2 .before .before .before in let s = st .before .before .before in let p = s .pre .1 .1 .1 in let e = solved s in
     λ i. lists
-    ((st .store .ensures ∙ ap (λ (m : ℕ). tabulate m (at (v s))) (p .0 .0) ∙ corrections-list (t s) (k s) (v s) (u s) (r s) e) i)
-    ((st2 .store2 .ensures ∙ ap (λ (m : ℕ). tabulate m (at (u s))) (p .0 .1) ∙ printed-list (t s) (k s) (v s) (u s) (r s) e) i)
-    ((a .adjust-directions .ensures ∙ ap (λ (m : ℕ). tabulate m (λ i. modulo (getD (now (s .args .directions)) i (pos 0) +ℤ getD (u s) i (pos 0)) C)) (p .0 .2) ∙ adjusted-list (t s) (k s) (v s) (u s) (r s) e (now (s .args .directions))) i)
-    ((st3 .store3 .ensures ∙ ap (λ (n : ℕ). tabulate n (at (k s))) (p .1 .0) ∙ correlates-list (t s) (k s) (v s) (u s) (r s) e) i)
-    ((st4 .store4 .ensures ∙ ap (λ (n : ℕ). tabulate n (at (r s))) (p .1 .1) ∙ remainders-list (t s) (k s) (v s) (u s) (r s) e) i)
-    ((c .before .print-remainders .ensures ∙ misses-list (t s) (k s) (v s) (u s) (r s) e) i)
+    ((st .store .ensures ∙ ap (λ (m : ℕ). tabulate m (at (v s))) (p .0 .0) ∙ corrections-list e) i)
+    ((st2 .store2 .ensures ∙ ap (λ (m : ℕ). tabulate m (at (u s))) (p .0 .1) ∙ printed-list e) i)
+    ((a .adjust-directions .ensures ∙ ap (λ (m : ℕ). tabulate m (λ i. modulo (getD (now (s .args .directions)) i (pos 0) +ℤ getD (u s) i (pos 0)) C)) (p .0 .2) ∙ adjusted-list e (now (s .args .directions))) i)
+    ((st3 .store3 .ensures ∙ ap (λ (n : ℕ). tabulate n (at (k s))) (p .1 .0) ∙ correlates-list e) i)
+    ((st4 .store4 .ensures ∙ ap (λ (n : ℕ). tabulate n (at (r s))) (p .1 .1) ∙ remainders-list e) i)
+    ((c .before .print-remainders .ensures ∙ misses-list e) i)
 
 pub answer-spec : {M : Type 1} → statement M
 answer-spec =
