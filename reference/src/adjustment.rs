@@ -181,7 +181,7 @@ impl Net {
         })
     }
 
-    /// K and R, with every test of the solution: 6 by row, 7 in back order, 8 by condition.
+    /// K and R, with the tests 6 by row, 7 in back order and 8 by condition.
     fn solve(&self) -> Result<(Vec<i128>, Vec<i128>), Refusal> {
         let normals = self.normals();
         let rows =

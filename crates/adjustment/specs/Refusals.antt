@@ -49,7 +49,7 @@ correlatesReply t = refuseFirst (t .n) (λ b. ltb 100000000 (natAbs (K t (t .n -
 unfoldable pub remaindersReply : Table → (ℕ → ℤ) → Reply
 remaindersReply t k = refuseFirst (t .n) (λ j. ltb 50000000 (natAbs (R-of t k j))) (λ j. Remainder (j + 1))
 
--- 9 by direction: "Any printed correction above 60,000 in size refuses the whole adjustment"
+-- 9 by direction: "Any printed correction above 60,000 in size refuses the whole adjustment", "9, place the lowest direction number concerned, tested after 8"
 unfoldable pub correctionsReply : Table → (ℕ → ℤ) → Reply
 correctionsReply t k = refuseFirst (t .m) (λ i. ltb 60000 (natAbs (u-of t k i))) (λ i. Correction (i + 1))
 

@@ -1,5 +1,5 @@
 -- `solve` meets its contract. Assumes nothing.
-use mathlib.Core.Path.{_≡_, refl, _∙_}
+use mathlib.Core.Path.{_≡_, refl, sym, _∙_}
 use mathlib.Core.List.{List}
 use Prim.Native.Nat.{ℕ, _≤_, _<_}
 use native.Mathlib.Omega.{arith}
@@ -11,6 +11,7 @@ use Rattle.exact.proofs.Searching.{Failed}
 use Rattle.reply.specs.declared.Refusal.{Refusal}
 use Rattle.reply.specs.declared.Reply.{Reply}
 use Rattle.reply.specs.declared.Reply.the-variants.{Accepted, Refused}
+use Rattle.reply.proofs.Checking.{never}
 use Rattle.doolittle.specs.Table.{Table, at, tableOf}
 use Rattle.doolittle.specs.Solution.{weak, K}
 use Rattle.adjustment.specs.Corrections.{V-of}
@@ -23,7 +24,7 @@ use Rattle.adjustment.proofs.solve.Tie as tie
 
 -- a refusal is no solution
 no-solution : {A : Type 0} {r : Reply} {why : Refusal} → r ≡ Refused why → r ≡ Accepted → A
-no-solution e f = let z : _≡_ {A = ℕ} 0 1 = cc in absurd (omega arith)
+no-solution {why = why} e f = never why (sym e ∙ f)
 
 -- ---- what each place knows of the table
 abbrev table : tie.Start → Table

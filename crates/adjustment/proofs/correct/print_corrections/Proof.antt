@@ -8,7 +8,6 @@ use borrow.Author.Needs.{needs}
 use borrow.Author.Tests.{lt-ltb, le-ltb}
 use denote.Ref.{now}
 use lib.Dec.{ltb}
-use lib.ListN.{getD}
 use lib.IntN.{ℤ, pos, natAbs}
 use mir.Syntax.{w64}
 use mir.Val.{toZ, ofZ}
@@ -26,7 +25,7 @@ abbrev past : List ℤ → ℕ → Bool
 past v i = ltb 60000 (natAbs (rounding (at v) i))
 
 abbrev Inv-loop : tie.InvT-loop
-Inv-loop v m u₀ i₀ u i = (i ≤ m) × Failed (past v) i × Filled (pos 0) (rounding (λ h. getD v h (pos 0))) 0 i u₀ u
+Inv-loop v m u₀ i₀ u i = (i ≤ m) × Failed (past v) i × Filled (pos 0) (rounding (at v)) 0 i u₀ u
 
 abbrev μ-loop : tie.MeasureT-loop
 μ-loop v m u₀ i₀ u i = m - i
