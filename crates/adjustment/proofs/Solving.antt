@@ -1,6 +1,7 @@
 -- The refusals of the solution, from what the code has found. Assumes nothing.
 --   V-size, V-ext                    the corrections of correlates within 10^8, and of equal correlates
---   closing-is                       the remainders of a list that holds the corrections are R
+--   same-first, each-within          of numbers tested against a limit in their order: equal ones have the same first beyond it; where none is refused, each is within it
+--   closing-is, rounding-is          the remainders of a list that holds the corrections are R, and its numbers rounded are u
 --   weak-refused, large-refused, open-refused, past-refused      6, 7, 8 and 9 at their places
 --   none-weak, none-too-large, none-open, none-past              where nothing is found, the check accepts
 --   all-accepted                     where all four accept, so does the solution
@@ -20,8 +21,10 @@ use Rattle.exact.specs.Nearest.{nearest}
 use Rattle.exact.proofs.Bound.{abs-mul, mul-le}
 use Rattle.exact.proofs.Sum.{sum-ext}
 use Rattle.exact.proofs.Searching.{Failed, first-before, first-ext}
+use Rattle.reply.specs.declared.Refusal.{Refusal}
 use Rattle.reply.specs.declared.Refusal.the-variants.{WeakRow, Correlate, Remainder, Correction}
 use Rattle.reply.specs.declared.Reply.the-variants.{Accepted, Refused}
+use Rattle.reply.specs.Checks.{refuseFirst}
 use Rattle.reply.proofs.Checking.{refuse-first, accept-first, none-refused}
 use Rattle.doolittle.specs.Table.{Table, at, tableOf}
 use Rattle.doolittle.specs.Solution.{weak, K}
@@ -45,6 +48,16 @@ V-size qs cs ws s k h i l =
 pub V-ext : (t : Table) (k k' : ℕ → ℤ) → ((j : ℕ) → j < t .n → k j ≡ k' j) → (i : ℕ) → V-of t k i ≡ V-of t k' i
 unfolding V-of
 V-ext t k k' e i = ap (λ (z : ℤ). t .q i *ℤ z) (sum-ext (t .n) (λ j. t .a j i *ℤ k j) (λ j. t .a j i *ℤ k' j) (λ j l. ap (λ (z : ℤ). t .a j i *ℤ z) (e j l)))
+
+-- ---- numbers tested against a limit, in their order
+abbrev beyond : ℕ → (ℕ → ℤ) → ℕ → Bool
+beyond most f i = ltb most (natAbs (f i))
+
+same-first : (n most : ℕ) (f g : ℕ → ℤ) → ((i : ℕ) → i < n → f i ≡ g i) → first n (beyond most f) ≡ first n (beyond most g)
+same-first n most f g e = first-ext n (beyond most f) (beyond most g) (λ i l. ap (λ (z : ℤ). ltb most (natAbs z)) (e i l))
+
+each-within : (n most : ℕ) (f : ℕ → ℤ) (why : ℕ → Refusal) → refuseFirst n (beyond most f) why ≡ Accepted → (i : ℕ) → i < n → natAbs (f i) ≤ most
+each-within n most f why e i l = ltb-false most (natAbs (f i)) (none-refused n (beyond most f) why e i l)
 
 module _ (t : Table) where
   -- ---- 6
@@ -85,39 +98,34 @@ module _ (t : Table) where
         (sum-ext (t .m) (λ i. t .a j i *ℤ at vs i) (λ i. t .a j i *ℤ V-of t (K t) i) (λ i l. ap (λ (z : ℤ). t .a j i *ℤ z) (v i l)))
         ∙ sym (remainder-forms t (K t) j)
 
-    module _ (close : ℕ) (e : close ≡ first (t .n) (λ j. ltb 50000000 (natAbs (closing t (at vs) j)))) where
-      same-first : close ≡ first (t .n) (λ j. ltb 50000000 (natAbs (R-of t (K t) j)))
-      same-first =
-          e ∙ first-ext (t .n) (λ j. ltb 50000000 (natAbs (closing t (at vs) j))) (λ j. ltb 50000000 (natAbs (R-of t (K t) j)))
-          (λ j l. ap (λ (z : ℤ). ltb 50000000 (natAbs z)) (closing-is j))
+    module _ (close : ℕ) (e : close ≡ first (t .n) (beyond 50000000 (closing t (at vs)))) where
+      first-open : close ≡ first (t .n) (beyond 50000000 (R-of t (K t)))
+      first-open = e ∙ same-first (t .n) 50000000 (closing t (at vs)) (R-of t (K t)) (λ j l. closing-is j)
 
       pub open-refused : rowsReply t ≡ Accepted → correlatesReply t ≡ Accepted → close < t .n → Refused (Remainder (close + 1)) ≡ solutionReply t
       unfolding solutionReply remaindersReply
-      open-refused a b l = rw (a, b, refuse-first (t .n) (λ j. ltb 50000000 (natAbs (R-of t (K t) j))) (λ j. Remainder (j + 1)) close same-first l)
+      open-refused a b l = rw (a, b, refuse-first (t .n) (beyond 50000000 (R-of t (K t))) (λ j. Remainder (j + 1)) close first-open l)
 
       pub none-open : t .n ≤ close → remaindersReply t (K t) ≡ Accepted
       unfolding remaindersReply
-      none-open l = accept-first (t .n) (λ j. ltb 50000000 (natAbs (R-of t (K t) j))) (λ j. Remainder (j + 1)) (omega (arith, same-first))
+      none-open l = accept-first (t .n) (beyond 50000000 (R-of t (K t))) (λ j. Remainder (j + 1)) (omega (arith, first-open))
 
     -- ---- 9
     pub rounding-is : (i : ℕ) → i < t .m → rounding (at vs) i ≡ u-of t (K t) i
     unfolding u-of
     rounding-is i l = ap (λ (z : ℤ). nearest z (pos 100000)) (v i l)
 
-    abbrev past : ℕ → Bool
-    past i = ltb 60000 (natAbs (u-of t (K t) i))
-
-    module _ (within : ℕ) (e : within ≡ first (t .m) (λ i. ltb 60000 (natAbs (rounding (at vs) i)))) where
-      first-past : within ≡ first (t .m) past
-      first-past = e ∙ first-ext (t .m) (λ i. ltb 60000 (natAbs (rounding (at vs) i))) past (λ i l. ap (λ (z : ℤ). ltb 60000 (natAbs z)) (rounding-is i l))
+    module _ (within : ℕ) (e : within ≡ first (t .m) (beyond 60000 (rounding (at vs)))) where
+      first-past : within ≡ first (t .m) (beyond 60000 (u-of t (K t)))
+      first-past = e ∙ same-first (t .m) 60000 (rounding (at vs)) (u-of t (K t)) rounding-is
 
       pub past-refused : rowsReply t ≡ Accepted → correlatesReply t ≡ Accepted → remaindersReply t (K t) ≡ Accepted → within < t .m → Refused (Correction (within + 1)) ≡ solutionReply t
       unfolding solutionReply correctionsReply
-      past-refused a b c l = rw (a, b, c, refuse-first (t .m) past (λ i. Correction (i + 1)) within first-past l)
+      past-refused a b c l = rw (a, b, c, refuse-first (t .m) (beyond 60000 (u-of t (K t))) (λ i. Correction (i + 1)) within first-past l)
 
       pub none-past : t .m ≤ within → correctionsReply t (K t) ≡ Accepted
       unfolding correctionsReply
-      none-past l = accept-first (t .m) past (λ i. Correction (i + 1)) (omega (arith, first-past))
+      none-past l = accept-first (t .m) (beyond 60000 (u-of t (K t))) (λ i. Correction (i + 1)) (omega (arith, first-past))
 
   pub all-accepted : rowsReply t ≡ Accepted → correlatesReply t ≡ Accepted → remaindersReply t (K t) ≡ Accepted → correctionsReply t (K t) ≡ Accepted → Accepted ≡ solutionReply t
   unfolding solutionReply
@@ -127,8 +135,8 @@ module _ (t : Table) where
   module _ (k : ℕ → ℤ) where
     pub remainders-close : remaindersReply t k ≡ Accepted → (j : ℕ) → j < t .n → natAbs (R-of t k j) ≤ 50000000
     unfolding remaindersReply
-    remainders-close e j l = ltb-false 50000000 (natAbs (R-of t k j)) (none-refused (t .n) (λ j. ltb 50000000 (natAbs (R-of t k j))) (λ j. Remainder (j + 1)) e j l)
+    remainders-close = each-within (t .n) 50000000 (R-of t k) (λ j. Remainder (j + 1))
 
     pub corrections-small : correctionsReply t k ≡ Accepted → WithinMinute t (u-of t k)
     unfolding correctionsReply
-    corrections-small e i l = ltb-false 60000 (natAbs (u-of t k i)) (none-refused (t .m) (λ i. ltb 60000 (natAbs (u-of t k i))) (λ i. Correction (i + 1)) e i l)
+    corrections-small = each-within (t .m) 60000 (u-of t k) (λ i. Correction (i + 1))
