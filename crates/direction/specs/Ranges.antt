@@ -10,8 +10,11 @@ use Rattle.reply.specs.declared.Reply.{Reply}
 use Rattle.reply.specs.declared.Refusal.the-variants.{OutOfRange}
 use Rattle.reply.specs.Checks.{refuseFirst}
 
+abbrev pub weightOutOfRange : ℤ → Bool
+weightOutOfRange q = outside (pos 1) (pos 10) q
+
 abbrev pub outOfRange : ℤ → ℤ → Bool
-outOfRange direction q = outside (pos 0) (C -ℤ pos 1) direction || outside (pos 1) (pos 10) q
+outOfRange direction q = outside (pos 0) (C -ℤ pos 1) direction || weightOutOfRange q
 
 -- the direction of that number, counted from 0, is out of range
 abbrev pub faultAt : List ℤ → List ℤ → ℕ → Bool

@@ -2,7 +2,7 @@
 ghost use mathlib.Core.Path.{_≡_};
 ghost use lib.ListN.{length};
 ghost use Rattle.reply.specs.Verdicts.{Replies};
-ghost use Rattle.direction.specs.Ranges.{outOfRange, directionsReply};
+ghost use Rattle.direction.specs.Ranges.{weightOutOfRange, outOfRange, directionsReply};
 use reply::Refusal;
 use reply::Reply;
 
@@ -11,14 +11,21 @@ pub const CIRCLE: i64 = 1296000000;
 
 pub const LAST: i64 = CIRCLE - 1;
 
-// A direction lies from 0 to C - 1, and its q from 1 to 10.
+// An inverse weight q lies from 1 to 10.
+pub fn weight_out_of_range(q: i64) -> bool
+    ensures { λ r. ⌜ r ≡ weightOutOfRange q ⌝ }
+{
+    exact::outside(1, 10, q)
+}
+
+// A direction lies from 0 to C - 1, and its q is in range.
 pub fn out_of_range(direction: i64, q: i64) -> bool
     ensures { λ r. ⌜ r ≡ outOfRange direction q ⌝ }
 {
     if exact::outside(0, LAST, direction) {
         return true;
     }
-    exact::outside(1, 10, q)
+    weight_out_of_range(q)
 }
 
 // Refuses the first direction that is out of range, by its number.

@@ -16,13 +16,13 @@ direction-test c = let f = c .before .fits .direction in c .outside .ensures ∙
 returns : tie.Need-returns
 returns c = rw (sym (direction-test (c .before)) ∙ c .if1 .taken)
 
-outside-requires-2 : tie.Need-outside-requires-2
-outside-requires-2 c κs = search needs
+weight-out-of-range-requires : tie.Need-weight-out-of-range-requires
+weight-out-of-range-requires c κs = search needs
 
 returns-2 : tie.Need-returns-2
 returns-2 c =
     let e = c .before in let f = e .before .before .fits .q in
-    rw (sym (direction-test (e .before)) ∙ e .if1 .left) (c .outside2 .ensures ∙ simp toZ-ofZ)
+    rw (sym (direction-test (e .before)) ∙ e .if1 .left) (c .weight-out-of-range .ensures ∙ simp toZ-ofZ)
 
 pub out-of-range-spec : {M : Type 1} → statement M
-out-of-range-spec = tie.close (tie.spec outside-requires returns outside-requires-2 returns-2)
+out-of-range-spec = tie.close (tie.spec outside-requires returns weight-out-of-range-requires returns-2)
