@@ -1,6 +1,7 @@
 -- What the input checks of a lent table leave known where they accept. Assumes nothing.
 --   Counts, counts-known          from the counts
 --   Lengths, lengths-known        from the lengths
+--   weight-known                  the range of an inverse weight
 --   directions-known              the ranges of the directions and of q
 --   sound-table                   all that the solution needs
 use mathlib.Core.Path.{_≡_, refl, sym, _∙_, ap, subst}
@@ -21,13 +22,14 @@ use Rattle.exact.proofs.Searching.{all-failed, neither}
 use Rattle.reply.specs.declared.Refusal.the-variants.{OutOfRange, Coefficient, Misclosure}
 use Rattle.reply.specs.declared.Reply.the-variants.{Accepted}
 use Rattle.reply.proofs.Checking.{none-refused}
-use Rattle.direction.specs.Ranges.{outOfRange, faultAt, directionsReply}
+use Rattle.direction.specs.Ranges.{weightOutOfRange, outOfRange, faultAt, directionsReply}
 use Rattle.doolittle.specs.Table.{at, tableOf}
 use Rattle.adjustment.specs.Refusals.{countsAmiss, differs, lengthsAmiss, coefficientFault, misclosureFault, conditionsReply}
 use Rattle.doolittle.specs.Inner.{Sound}
 
 pub record Counts (m n : ℕ) : Type 0 where
   pub m-most : m ≤ 64
+  pub n-least : 1 ≤ n
   pub n-most : n ≤ 24
 
 pub counts-known : (m n : ℕ) → countsAmiss m n ≡ false → Counts m n
@@ -37,7 +39,7 @@ counts-known m n e =
     let b = neither (ltb 64 m) (ltb n 1 || (ltb 24 n || ltb m n)) (a .1) in
     let c = neither (ltb n 1) (ltb 24 n || ltb m n) (b .1) in
     let d = neither (ltb 24 n) (ltb m n) (c .1) in
-    record { m-most = ltb-false 64 m (b .0); n-most = ltb-false 24 n (d .0) }
+    record { m-most = ltb-false 64 m (b .0); n-least = ltb-false n 1 (c .0); n-most = ltb-false 24 n (d .0) }
 
 equal : (x y : ℕ) → not (eqb x y) ≡ false → x ≡ y
 equal x y e = eqb-true x y (not-false (eqb x y) e)
@@ -69,18 +71,21 @@ pub record InRange (direction q : ℤ) : Type 0 where
   pub q-least : pos 1 ≤ℤ q
   pub q-most : natAbs q ≤ 10
 
+pub weight-known : (q : ℤ) → weightOutOfRange q ≡ false → (pos 1 ≤ℤ q) × (natAbs q ≤ 10)
+weight-known q e = let h = neither (ltZ q (pos 1)) (ltZ (pos 10) q) e in (lt-false (h .0) refl refl, small q (lt-false (h .0) refl refl) (lt-false (h .1) refl refl))
+  where
+    small : (q : ℤ) → pos 1 ≤ℤ q → q ≤ℤ pos 10 → natAbs q ≤ 10
+    small q a b = let v = unknowns (q ∷ []) in omega (arith, orders, one-sided)
+
 in-range : (d q : ℤ) → outOfRange d q ≡ false → InRange d q
 in-range d q e =
-    let f = neither (outside (pos 0) (C -ℤ pos 1) d) (outside (pos 1) (pos 10) q) e in
+    let f = neither (outside (pos 0) (C -ℤ pos 1) d) (weightOutOfRange q) e in
     let g = neither (ltZ d (pos 0)) (ltZ (C -ℤ pos 1) d) (f .0) in
-    let h = neither (ltZ q (pos 1)) (ltZ (pos 10) q) (f .1) in
-    record { size = within d (lt-false (g .0) refl refl) (lt-false (g .1) refl refl); q-least = lt-false (h .0) refl refl; q-most = small q (lt-false (h .0) refl refl) (lt-false (h .1) refl refl) }
+    let w = weight-known q (f .1) in
+    record { size = within d (lt-false (g .0) refl refl) (lt-false (g .1) refl refl); q-least = w .0; q-most = w .1 }
   where
     within : (d : ℤ) → pos 0 ≤ℤ d → d ≤ℤ pos 1295999999 → natAbs d ≤ 1296000000
     within d a b = let v = unknowns (d ∷ []) in omega (arith, orders, one-sided)
-
-    small : (q : ℤ) → pos 1 ≤ℤ q → q ≤ℤ pos 10 → natAbs q ≤ 10
-    small q a b = let v = unknowns (q ∷ []) in omega (arith, orders, one-sided)
 
 pub directions-known : (ds qs : List ℤ) → directionsReply ds qs ≡ Accepted → (i : ℕ) → i < length ds → InRange (at ds i) (at qs i)
 unfolding directionsReply

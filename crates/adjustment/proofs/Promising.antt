@@ -2,24 +2,28 @@
 --   by-counts, by-lengths, by-directions, by-conditions, by-solution      the reply, where the checks before have accepted
 --   refused-adjusts          a refusal that is the rule's reply, with the lists as they were lent, keeps the promise
 --   accepted-adjusts         so does an accepted table whose lists are the rules' answers: what the promise says of accepted tables holds of them
+--   accepted-counts, accepted-weights, accepted-sound      of every table that the rules accept: its counts, its q and all its numbers are in range
 --   accepted-demand3, accepted-within-minute      of every table that the rules accept: demand 3, and no printed correction is past one minute
 --   refusal-leaves-lists     a refusal that keeps the promise leaves the six lent lists as they were
 --   only-reply               two replies that keep the promise are equal, and leave equal lists
-use mathlib.Core.Path.{_≡_, refl, sym, _∙_, ap}
+use mathlib.Core.Path.{_≡_, refl, sym, _∙_, ap, subst}
 use mathlib.Core.Bool.{Bool, true, false}
 use mathlib.Core.List.{List}
-use Prim.Native.Nat.{ℕ, _<_}
+use Prim.Native.Nat.{ℕ, _+_, _<_}
 use lib.ListN.{length}
-use lib.IntN.{ℤ, pos}
+use lib.IntN.{ℤ, pos, _-ℤ_}
+use Rattle.exact.specs.Circle.{C}
+use Rattle.exact.specs.Outside.{outside}
 use Rattle.exact.proofs.Filling.{tabulate-at}
+use Rattle.exact.proofs.Searching.{neither}
 use Rattle.reply.specs.declared.Refusal.{Refusal}
-use Rattle.reply.specs.declared.Refusal.the-variants.{Count}
+use Rattle.reply.specs.declared.Refusal.the-variants.{Count, OutOfRange}
 use Rattle.reply.specs.declared.Reply.{Reply}
 use Rattle.reply.specs.declared.Reply.the-variants.{Accepted, Refused}
 use Rattle.reply.specs.Checks.{refuseIf, _andThen_, leaves}
 use Rattle.reply.specs.Verdicts.{verdictOf}
-use Rattle.reply.proofs.Checking.{never, both-accepted, if-accepted}
-use Rattle.direction.specs.Ranges.{directionsReply}
+use Rattle.reply.proofs.Checking.{never, both-accepted, if-accepted, none-refused}
+use Rattle.direction.specs.Ranges.{weightOutOfRange, faultAt, directionsReply}
 use Rattle.doolittle.specs.Table.{Table, at, tableOf}
 use Rattle.doolittle.specs.Solution.{K}
 use Rattle.adjustment.specs.Corrections.{V-of, R-of, u-of, Q-of}
@@ -27,7 +31,7 @@ use Rattle.adjustment.specs.Refusals.{countsAmiss, lengthsAmiss, conditi
 use Rattle.adjustment.specs.Demand.{Demand3}
 use Rattle.adjustment.specs.Promise.{Answers, adjustReply, answersOf, WithinMinute, Adjusts}
 use Rattle.doolittle.specs.Inner.{Sound}
-use Rattle.adjustment.proofs.Admitting.{counts-known, lengths-known, sound-table}
+use Rattle.adjustment.proofs.Admitting.{counts-known, Lengths, lengths-known, sound-table}
 use Rattle.adjustment.proofs.Demands.{demand-3, demand-ext}
 use Rattle.adjustment.proofs.Solving.{remainders-close, corrections-small}
 
@@ -100,15 +104,40 @@ module _ (ds qs cs ws : List ℤ) (lent : Answers) where
     unfolding adjustReply
     both = both-accepted input (solutionReply t) e
 
-    pub accepted-demand3 : Demand3 t (V-of t (K t)) (u-of t (K t)) (R-of t (K t)) (Q-of t (K t))
+    -- the input checks, one after another
+    abbrev by-tables : Reply
+    by-tables = directionsReply ds qs andThen conditionsReply t
+
+    counted : (refuseIf (countsAmiss (length ds) (length ws)) (Count 0) ≡ Accepted) × ((refuseIf lengths-amiss (Count 0) andThen by-tables) ≡ Accepted)
     unfolding inputReply
-    accepted-demand3 =
-        let counts = both-accepted (refuseIf (countsAmiss (length ds) (length ws)) (Count 0)) (refuseIf lengths-amiss (Count 0) andThen (directionsReply ds qs andThen conditionsReply t)) (both .0) in
-        let lengths = both-accepted (refuseIf lengths-amiss (Count 0)) (directionsReply ds qs andThen conditionsReply t) (counts .1) in
-        let table = both-accepted (directionsReply ds qs) (conditionsReply t) (lengths .1) in
-        let l = lengths-known (length ds) (length ws) (length qs) (length cs) _ _ _ _ _ _ (if-accepted lengths-amiss (Count 0) (lengths .0)) in
-        let s = sound-table ds qs cs ws (counts-known (length ds) (length ws) (if-accepted (countsAmiss (length ds) (length ws)) (Count 0) (counts .0))) (l .of-q) (l .of-a) (table .0) (table .1) in
-        demand-3 t (K t) (s .q-least) (s .q-most) (remainders-close t (K t) (last (both .1) .0))
+    counted = both-accepted (refuseIf (countsAmiss (length ds) (length ws)) (Count 0)) (refuseIf lengths-amiss (Count 0) andThen by-tables) (both .0)
+
+    measured : (refuseIf lengths-amiss (Count 0) ≡ Accepted) × (by-tables ≡ Accepted)
+    measured = both-accepted (refuseIf lengths-amiss (Count 0)) by-tables (counted .1)
+
+    counts-sound : countsAmiss (length ds) (length ws) ≡ false
+    counts-sound = if-accepted (countsAmiss (length ds) (length ws)) (Count 0) (counted .0)
+
+    lengths-sound : Lengths (length ds) (length ws) (length qs) (length cs) (length (lent .corrections)) (length (lent .printed)) (length (lent .adjusted)) (length (lent .correlates)) (length (lent .remainders)) (length (lent .misses))
+    lengths-sound = lengths-known (length ds) (length ws) (length qs) (length cs) _ _ _ _ _ _ (if-accepted lengths-amiss (Count 0) (measured .0))
+
+    pub accepted-counts : countsAmiss (t .m) (t .n) ≡ false
+    accepted-counts = subst (λ (m : ℕ). countsAmiss m (length ws) ≡ false) (sym (lengths-sound .of-q)) counts-sound
+
+    ranged : (directionsReply ds qs ≡ Accepted) × (conditionsReply t ≡ Accepted)
+    ranged = both-accepted (directionsReply ds qs) (conditionsReply t) (measured .1)
+
+    pub accepted-weights : (i : ℕ) → i < t .m → weightOutOfRange (t .q i) ≡ false
+    unfolding directionsReply
+    accepted-weights i l =
+        neither (outside (pos 0) (C -ℤ pos 1) (at ds i)) (weightOutOfRange (t .q i))
+        (none-refused (length ds) (faultAt ds qs) (λ i. OutOfRange (i + 1)) (ranged .0) i (subst (λ (m : ℕ). i < m) (lengths-sound .of-q) l)) .1
+
+    pub accepted-sound : Sound qs cs ws
+    accepted-sound = sound-table ds qs cs ws (counts-known (length ds) (length ws) counts-sound) (lengths-sound .of-q) (lengths-sound .of-a) (ranged .0) (ranged .1)
+
+    pub accepted-demand3 : Demand3 t (V-of t (K t)) (u-of t (K t)) (R-of t (K t)) (Q-of t (K t))
+    accepted-demand3 = demand-3 t (K t) (accepted-sound .q-least) (accepted-sound .q-most) (remainders-close t (K t) (last (both .1) .0))
 
     pub accepted-within-minute : WithinMinute t (u-of t (K t))
     accepted-within-minute = corrections-small t (K t) (last (both .1) .1)

@@ -14,6 +14,7 @@ ghost use Rattle.adjustment.specs.Corrections.{V-of};
 ghost use Rattle.adjustment.specs.Demand.{seen};
 ghost use Rattle.doolittle.specs.Inner.{Small, Within, Sound};
 ghost use Rattle.adjustment.specs.Inner.{closing, rounding};
+use crate::MINUTE;
 use direction::CIRCLE;
 
 // The remainders up to the first that is too large.
@@ -141,7 +142,7 @@ pub fn print_corrections(v: &[i64], m: usize, u: &mut [i64]) -> usize
     while i < m {
         let x = v[i];
         let y = exact::nearest(x, 100000);
-        if 60000 < exact::magnitude(y) {
+        if MINUTE < exact::magnitude(y) {
             return i;
         }
         u[i] = y;

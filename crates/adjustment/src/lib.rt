@@ -1,6 +1,6 @@
 // Adjustment of a condition table: the one public operation, `adjust`. It checks the lent table, solves it, and only then writes the lent answer lists.
 mod correct;
-mod table;
+pub mod table;
 
 ghost use mathlib.Core.Path.{_≡_};
 ghost use Prim.Native.Nat.{_≤_};
@@ -14,6 +14,9 @@ ghost use Rattle.doolittle.specs.Inner.{Small, Sound};
 ghost use Rattle.adjustment.specs.Inner.{Solved};
 use reply::Refusal;
 use reply::Reply;
+
+// The largest printed correction that is no blunder, one minute.
+pub const MINUTE: u64 = 60000;
 
 // The correlates, corrections and remainders of a table that is accepted.
 struct Solution {
