@@ -1,0 +1,2 @@
+pub mod Errors
+pub mod Promise
