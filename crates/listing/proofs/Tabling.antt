@@ -1,31 +1,39 @@
 -- Laws of the reply to a condition table and to a net, and of their listings, by what `adjustment` and the conditions have answered. Assumes nothing.
 --   Lent                                        answer lists as long as they must be
---   answered, table-accepted                    the reply to a table, and the listing of an accepted one
+--   answers-errors                              the errors of a table's answers
+--   answered, errors-accepted, table-accepted   the reply to a table; that an accepted one's errors are not refused; and its listing
 --   misclosures-length                          a misclosure for each condition
 --   file-refused, file-reply, file-listing      the reply to a file whose table is refused, and to one whose is not; its listing
 --   answers-most                                no listing has more than 6,560 bytes
-use mathlib.Core.Path.{_≡_, refl, sym, _∙_, ap, ap₂}
-use mathlib.Core.List.{List, [], _∷_}
+use mathlib.Core.Path.{_≡_, refl, sym, _∙_, ap, ap₂, subst}
+use mathlib.Core.List.{List, [], _∷_, _++_}
 use Prim.Native.Nat.{ℕ, suc, _*_, _≤_}
 use native.Mathlib.Omega.{arith}
 use lib.IntN.{ℤ}
 use lib.ListN.{length, take}
+use Rattle.exact.specs.Tabulate.{tabulate}
 use Rattle.exact.proofs.Filling.{tabulate-length}
 use Rattle.reply.specs.declared.Refusal.{Refusal}
 use Rattle.reply.specs.declared.Reply.{Reply}
 use Rattle.reply.specs.declared.Reply.the-variants.{Accepted, Refused}
 use Rattle.reply.specs.Checks.{_andThen_, leaves}
 use Rattle.reply.proofs.Checking.{never}
-use Rattle.doolittle.specs.Table.{at, tableOf}
+use Rattle.doolittle.specs.Table.{Table, at, tableOf}
 use Rattle.doolittle.specs.Solution.{K}
+use Rattle.adjustment.specs.Corrections.{u-of}
 use Rattle.adjustment.specs.Promise.{Answers, adjustReply, answersOf, Adjusts}
+use Rattle.precision.specs.declared.Errors.{Errors}
+use Rattle.precision.specs.Errors.{errorsOf}
+use Rattle.precision.specs.Promise.{errorsReply}
+use Rattle.precision.proofs.Adjusting.{table-admitted}
 use Rattle.text.specs.Lines.{linesOf}
 use Rattle.network.specs.Scan.{scanReply}
 use Rattle.network.specs.Net.{Condition, Net, netOf, zeros, formedReply, rowsOf, misclosuresOf, tableReply, Tables}
 use Rattle.network.specs.declared.Tabled.{Tabled}
-use Rattle.listing.specs.Listing.{acceptedListing}
-use Rattle.listing.specs.File.{tableIn, room, netReply, netAnswers, fileReply, answersListing, tableListing, netListing, fileListing}
-use Rattle.listing.proofs.Composing.{accepted-most}
+use Rattle.listing.specs.declared.Sheet.{Sheet}
+use Rattle.listing.specs.Listing.{acceptedListing, onSheet}
+use Rattle.listing.specs.File.{tableIn, room, netReply, netAnswers, fileReply, answersListing, answersErrors, tableListing, netListing, fileListing}
+use Rattle.listing.proofs.Composing.{accepted-most, ended-by}
 
 -- the lengths of lent answer lists, m by direction and n by condition
 pub record Lent (m n : ℕ) (lent : Answers) : Type 0 where
@@ -37,6 +45,11 @@ pub record Lent (m n : ℕ) (lent : Answers) : Type 0 where
   pub misses : length (lent .misses) ≡ n
 
 -- ---- a condition table
+-- its errors, by its own counts
+pub answers-errors : (q : List ℤ) (t : Table) (k direction : ℕ → ℤ) → answersErrors q (answersOf t k direction) ≡ errorsOf (tabulate (t .m) (u-of t k)) q (t .n)
+unfolding answersErrors
+answers-errors q t k direction = ap (errorsOf (tabulate (t .m) (u-of t k)) q) (tabulate-length (t .n) k)
+
 module _ (ds q a w : List ℤ) {lent : Answers} (l : Lent (length ds) (length w) lent) where
   -- the reply depends on the lengths alone
   by-room : adjustReply ds q a w (room (length ds) (length w)) ≡ adjustReply ds q a w lent
@@ -51,12 +64,29 @@ module _ (ds q a w : List ℤ) {lent : Answers} (l : Lent (length ds) (length w)
     pub answered : adjustReply ds q a w (room (length ds) (length w)) ≡ reply
     answered = by-room ∙ sym (p .answer)
 
-    pub table-accepted : length q ≡ length ds → reply ≡ Accepted
-        → acceptedListing (length ds) (length w) (left .printed) (left .adjusted) (left .correlates) (left .remainders) (left .misses) ≡ tableListing ds q a w
-    unfolding tableListing answersListing
-    table-accepted l e =
-        ap (λ (x : Answers). acceptedListing (length ds) (length w) (x .printed) (x .adjusted) (x .correlates) (x .remainders) (x .misses)) (p .lists ∙ ap (λ (r : Reply). leaves r answers lent) e)
-        ∙ ap₂ (λ (m n : ℕ). acceptedListing m n (answers .printed) (answers .adjusted) (answers .correlates) (answers .remainders) (answers .misses)) (sym (tabulate-length (length q) _ ∙ l)) (sym (tabulate-length (length w) _))
+    module _ (e : reply ≡ Accepted) where
+      left-is : left ≡ answers
+      left-is = p .lists ∙ ap (λ (r : Reply). leaves r answers lent) e
+
+      -- its errors are not refused
+      pub errors-accepted : errorsReply (left .printed) q (length w) ≡ Accepted
+      errors-accepted = subst (λ (x : Answers). errorsReply (x .printed) q (length w) ≡ Accepted) (sym left-is) (table-admitted ds q a w lent (sym (p .answer) ∙ e))
+
+      lines-are : length q ≡ length ds
+          → acceptedListing (length ds) (length w) (left .printed) (left .adjusted) (left .correlates) (left .remainders) (left .misses) ≡ answersListing answers
+      unfolding answersListing
+      lines-are l =
+          ap (λ (x : Answers). acceptedListing (length ds) (length w) (x .printed) (x .adjusted) (x .correlates) (x .remainders) (x .misses)) left-is
+          ∙ ap₂ (λ (m n : ℕ). acceptedListing m n (answers .printed) (answers .adjusted) (answers .correlates) (answers .remainders) (answers .misses)) (sym (tabulate-length (length q) _ ∙ l)) (sym (tabulate-length (length w) _))
+
+      pub table-accepted : (sheet : Sheet) → length q ≡ length ds
+          → acceptedListing (length ds) (length w) (left .printed) (left .adjusted) (left .correlates) (left .remainders) (left .misses) ++ onSheet sheet [] (errorsOf (left .printed) q (length w))
+          ≡ tableListing sheet ds q a w
+      unfolding tableListing
+      table-accepted sheet l =
+          ap₂ (λ (x : List ℕ) (y : Errors). x ++ onSheet sheet [] y) (lines-are l)
+          (ap (λ (x : Answers). errorsOf (x .printed) q (length w)) left-is ∙ sym (answers-errors q (tableOf q a w) (K (tableOf q a w)) (at ds)))
+          ∙ ended-by sheet (answersListing answers) (answersErrors q answers)
 
 -- ---- the net
 pub misclosures-length : (directions q : List ℤ) (cs : List Condition) → length (misclosuresOf directions q cs) ≡ length cs
@@ -110,9 +140,9 @@ module _ (file : List ℕ) where
         (misclosures-length (net .directions) (net .q) (net .conditions))
         ∙ sym (third (scanReply file) (formedReply (net .directions) (net .q) 1 (net .conditions)) _ (sym (is .answer) ∙ e))
 
-    pub file-listing : tableListing ds gs rows closings ≡ fileListing file
+    pub file-listing : (sheet : Sheet) → tableListing sheet ds gs rows closings ≡ fileListing sheet file
     unfolding netListing netAnswers tableIn tableListing
-    file-listing = to-net tableListing
+    file-listing sheet = to-net (tableListing sheet)
 
 -- ---- the longest listing
 pub answers-most : (x : Answers) → length (x .printed) ≤ 64 → length (x .correlates) ≤ 24 → length (answersListing x) ≤ 6560

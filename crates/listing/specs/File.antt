@@ -12,12 +12,16 @@ use Rattle.reply.specs.Verdicts.{verdictOf}
 use Rattle.doolittle.specs.Table.{Table, at, tableOf}
 use Rattle.doolittle.specs.Solution.{K}
 use Rattle.adjustment.specs.Corrections.{V-of, R-of, u-of, Q-of}
-use Rattle.adjustment.specs.Demand.{Demand3}
+use Rattle.adjustment.specs.Demand.{weighted, Demand3}
 use Rattle.adjustment.specs.Promise.{Answers, lists, adjustReply, answersOf, WithinMinute}
+use Rattle.precision.specs.declared.Errors.{Errors}
+use Rattle.precision.specs.Errors.{errorsOf}
+use Rattle.precision.specs.Promise.{MeanError}
 use Rattle.text.specs.Lines.{linesOf}
 use Rattle.page.specs.declared.Listed.{Listed}
 use Rattle.page.specs.Page.{ListedBy, inRoom, printed, printedIn}
-use Rattle.listing.specs.Listing.{acceptedListing}
+use Rattle.listing.specs.declared.Sheet.{Sheet}
+use Rattle.listing.specs.Listing.{acceptedListing, onSheet, roomOf}
 use Rattle.network.specs.Scan.{scanReply}
 use Rattle.network.specs.Net.{Net, netOf, zeros, formedReply, rowsOf, misclosuresOf}
 
@@ -47,17 +51,22 @@ fileReply file = scanReply file andThen netReply (netOf (linesOf file))
 unfoldable pub answersListing : Answers → List ℕ
 answersListing a = acceptedListing (length (a .printed)) (length (a .correlates)) (a .printed) (a .adjusted) (a .correlates) (a .remainders) (a .misses)
 
--- of an accepted condition table
-unfoldable pub tableListing : (directions q a w : List ℤ) → List ℕ
-tableListing ds q a w = answersListing (answersOf (tableOf q a w) (K (tableOf q a w)) (at ds))
+-- its errors, for an E line
+unfoldable pub answersErrors : (q : List ℤ) → Answers → Errors
+answersErrors q a = errorsOf (a .printed) q (length (a .correlates))
+
+-- of an accepted condition table, as the sheet has it
+unfoldable pub tableListing : Sheet → (directions q a w : List ℤ) → List ℕ
+tableListing sheet ds q a w =
+    let answers = answersOf (tableOf q a w) (K (tableOf q a w)) (at ds) in onSheet sheet (answersListing answers) (answersErrors q answers)
 
 -- of an accepted net
-unfoldable pub netListing : Net → List ℕ
-netListing net = answersListing (netAnswers net)
+unfoldable pub netListing : Sheet → Net → List ℕ
+netListing sheet net = onSheet sheet (answersListing (netAnswers net)) (answersErrors (net .q) (netAnswers net))
 
 -- of an accepted file
-abbrev pub fileListing : List ℕ → List ℕ
-fileListing file = netListing (netOf (linesOf file))
+abbrev pub fileListing : Sheet → List ℕ → List ℕ
+fileListing sheet file = netListing sheet (netOf (linesOf file))
 
 -- demand 3 of a file, of the table that its lines give: its V lines have u, and its K lines R and Q
 abbrev pub FileDemand3 : List ℕ → Type 0
@@ -67,22 +76,28 @@ FileDemand3 file = let t = tableIn (netOf (linesOf file)) in Demand3 t (V-of t (
 abbrev pub FileWithinMinute : List ℕ → Type 0
 FileWithinMinute file = let t = tableIn (netOf (linesOf file)) in WithinMinute t (u-of t (K t))
 
--- ---- the operation on a file; a buffer of fewer than 6,560 bytes could not hold the longest listing, and is refused before all else
-unfoldable pub adjustFileReply : (file : List ℕ) (room : ℕ) → Reply
-adjustFileReply file room = inRoom (Count 0) 6560 room (fileReply file)
+-- the e of its E line is the mean error by demand 3's weighted sum of those u
+abbrev pub FileMeanError : List ℕ → Type 0
+FileMeanError file =
+    let net = netOf (linesOf file) in let t = tableIn net in MeanError (t .n) (weighted t (u-of t (K t))) (answersErrors (net .q) (netAnswers net) .mean)
 
-pub record AdjustsFile (file before : List ℕ) (listed : Listed) (after : List ℕ) : Type 0 where
-  pub lists : ListedBy (adjustFileReply file (length before)) (fileListing file) before listed after
+-- ---- the operation on a file; a buffer that could not hold the longest listing of the sheet is refused before all else
+unfoldable pub adjustFileReply : Sheet → (file : List ℕ) (room : ℕ) → Reply
+adjustFileReply sheet file room = inRoom (Count 0) (roomOf sheet) room (fileReply file)
+
+pub record AdjustsFile (sheet : Sheet) (file before : List ℕ) (listed : Listed) (after : List ℕ) : Type 0 where
+  pub lists : ListedBy (adjustFileReply sheet file (length before)) (fileListing sheet file) before listed after
   -- in the rules' numbers: number and place
-  pub verdict : verdictOf (listed .reply) ≡ verdictOf (adjustFileReply file (length before))
-  -- and of every accepted file demand 3, and printed corrections within one minute
+  pub verdict : verdictOf (listed .reply) ≡ verdictOf (adjustFileReply sheet file (length before))
+  -- and of every accepted file demand 3, printed corrections within one minute, and the mean error
   pub demand3 : listed .reply ≡ Accepted → FileDemand3 file
   pub within-minute : listed .reply ≡ Accepted → FileWithinMinute file
+  pub mean-error : listed .reply ≡ Accepted → FileMeanError file
 
 -- ---- for programs: the listing of any file, an accepted one's or the line of its refusal
-unfoldable pub listingOf : List ℕ → List ℕ
-listingOf file = printed (fileReply file) (fileListing file)
+unfoldable pub listingOf : Sheet → List ℕ → List ℕ
+listingOf sheet file = printed (fileReply file) (fileListing sheet file)
 
--- what goes into a lent buffer of so many bytes: nothing, where they are fewer than 6,560
-unfoldable pub listingIn : (file : List ℕ) (room : ℕ) → List ℕ
-listingIn file room = printedIn 6560 room (fileReply file) (fileListing file)
+-- what goes into a lent buffer of so many bytes: nothing, where it could not hold the longest listing of the sheet
+unfoldable pub listingIn : Sheet → (file : List ℕ) (room : ℕ) → List ℕ
+listingIn sheet file room = printedIn (roomOf sheet) room (fileReply file) (fileListing sheet file)

@@ -1,24 +1,45 @@
-// The listing of a network file: its ADJ, V and K lines, and the operations on a whole file: `adjust`, which answers the reply and lists an
-// accepted net, and above it `list`, for programs.
+// The listing of a network file: its ADJ, V and K lines, an E line where the sheet has errors, and the operations on a whole file: `adjust`, which
+// answers the reply and lists an accepted net, and above it `list`, for programs.
 mod lines;
 mod solve;
 
+ghost use mathlib.Core.Path.{_≡_};
 ghost use Prim.Native.Nat.{_≤_};
 ghost use lib.ListN.{length};
 ghost use Rattle.text.specs.Written.{Wrote};
+ghost use Rattle.listing.specs.Listing.{roomOf};
 ghost use Rattle.listing.specs.File.{AdjustsFile, listingIn};
 use page::Listed;
 use reply::Refusal;
 use reply::Reply;
 
+// What a listing holds: the adjustment alone, or at its end also the mean and the probable error of a direction, on an E line.
+pub enum Sheet {
+    Plain,
+    WithErrors,
+}
+
 // The longest listing: that of 64 directions and 24 conditions, with the longest numbers.
 pub const LISTING: usize = 6560;
 
-// Adjusts a network file. The listing of an accepted one goes into the lent buffer, which must have room for LISTING bytes; a refusal leaves it as it was.
-pub fn adjust(file: &[u8], out: &mut [u8]) -> Listed
-    ensures { λ r. ⌜ AdjustsFile (now (file .entry)) (now (out .entry)) r (now (out .exit)) ⌝ }
+// The longest with an E line.
+pub const LISTING_WITH_ERRORS: usize = LISTING + 46;
+
+// The bytes that hold the longest listing of a sheet.
+fn room(sheet: Sheet) -> usize
+    ensures { λ r. ⌜ r ≡ roomOf sheet ⌝ }
 {
-    if out.len() < LISTING {
+    match sheet {
+        Sheet::Plain => LISTING,
+        Sheet::WithErrors => LISTING_WITH_ERRORS,
+    }
+}
+
+// Adjusts a network file. The listing of an accepted one goes into the lent buffer, which must have room for the longest; a refusal leaves it as it was.
+pub fn adjust(sheet: Sheet, file: &[u8], out: &mut [u8]) -> Listed
+    ensures { λ r. ⌜ AdjustsFile sheet (now (file .entry)) (now (out .entry)) r (now (out .exit)) ⌝ }
+{
+    if out.len() < room(sheet) {
         return Listed {
             reply: Reply::Refused(Refusal::Count(0)),
             length: 0,
@@ -38,18 +59,18 @@ pub fn adjust(file: &[u8], out: &mut [u8]) -> Listed
     }
     let m = tabled.m;
     let n = tabled.n;
-    solve::solve(&directions[..m], &q[..m], &a[..n * m], &w[..n], out)
+    solve::solve(sheet, &directions[..m], &q[..m], &a[..n * m], &w[..n], out)
 }
 
-// The listing of any file, an accepted one's or the line of its refusal; how many bytes it has. A buffer of fewer than LISTING bytes stays as it was,
+// The listing of any file, an accepted one's or the line of its refusal; how many bytes it has. A buffer without room for the longest stays as it was,
 // and the answer is 0.
-pub fn list(file: &[u8], out: &mut [u8]) -> usize
-    ensures listing { λ r. ⌜ Wrote (now (out .entry)) 0 (listingIn (now (file .entry)) (length (now (out .entry)))) (now (out .exit)) r ⌝ }
+pub fn list(sheet: Sheet, file: &[u8], out: &mut [u8]) -> usize
+    ensures listing { λ r. ⌜ Wrote (now (out .entry)) 0 (listingIn sheet (now (file .entry)) (length (now (out .entry)))) (now (out .exit)) r ⌝ }
     ensures within { λ r. ⌜ r ≤ length (now (out .entry)) ⌝ }
 {
-    if out.len() < LISTING {
+    if out.len() < room(sheet) {
         return 0;
     }
-    let listed = adjust(file, out);
+    let listed = adjust(sheet, file, out);
     page::print(listed, out)
 }

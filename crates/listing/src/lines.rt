@@ -1,8 +1,8 @@
-// The lines of an accepted net's listing: ADJ, V and K lines, written into a lent buffer.
+// The lines of an accepted net's listing: ADJ, V, K and E lines, written into a lent buffer.
 ghost use Prim.Native.Nat.{_+_, _*_, _≤_};
 ghost use lib.ListN.{length};
 ghost use Rattle.text.specs.Written.{Wrote};
-ghost use Rattle.listing.specs.Listing.{kLine, vLines, kLines, acceptedListing};
+ghost use Rattle.listing.specs.Listing.{kLine, eLine, vLines, kLines, acceptedListing};
 use text::LF;
 use text::writer;
 
@@ -14,6 +14,17 @@ fn put_k(out: &mut [u8], at: usize, condition: u64, k: i64, r: i64, q: i64) -> u
     let third = page::lines::put_head(out, at, b'K', condition, k, r);
     let end = writer::put_signed(out, third, q);
     writer::put_byte(out, end, LF)
+}
+
+// E, mean error, probable error.
+pub fn put_e(out: &mut [u8], at: usize, mean: i64, probable: i64) -> usize
+    requires { ⌜ at + 46 ≤ length (now out) ⌝ }
+    ensures { λ p. ⌜ Wrote (now (out .entry)) at (eLine mean probable) (now (out .exit)) p ⌝ }
+{
+    let head = writer::put_byte(out, at, b'E');
+    let one = writer::put_signed(out, head, mean);
+    let two = writer::put_signed(out, one, probable);
+    writer::put_byte(out, two, LF)
 }
 
 // The V lines of m directions.

@@ -8,22 +8,26 @@ use denote.Ref.{now}
 use lib.ListN.{length}
 use lib.Seq.{length-take-le}
 use Rattle.reply.specs.declared.Reply.the-variants.{Accepted}
+use Rattle.listing.specs.Listing.{roomOf}
 use Rattle.listing.proofs.Filing.{too-short, table-refused, table-listed}
 use Rattle.listing.proofs.adjust.Statement.{statement}
 use Rattle.listing.proofs.adjust.Tie as tie
 
+room-requires : tie.Need-room-requires
+room-requires c κs = search needs
+
 -- ---- a buffer that has room
 module _ (t : tie.After-table) where
   abbrev start : tie.Start
-  start = t .before .before .before .before .before .before .before .before
+  start = t .before .before .before .before .before .before .before .before .before
 
-  roomy : 6560 ≤ length (now (start .args .out))
-  roomy = omega arith
+  roomy : roomOf (start .args .sheet) ≤ length (now (start .args .out))
+  roomy = let f = t .before .before .before .before .before in omega (arith, f .if1 .left, f .before .room .ensures)
 
 returns : tie.Need-returns
 returns c =
-    let a = c .before .before .before .args in
-    too-short (now (a .file)) (now (a .out)) (omega (arith, c .if1 .taken))
+    let a = c .before .before .before .before .args in
+    too-short (now (a .file)) (a .sheet) (now (a .out)) (omega (arith, c .if1 .taken, c .before .room .ensures))
 
 slice-aggregate-table : tie.Need-slice-aggregate-table
 slice-aggregate-table c = search needs
@@ -46,7 +50,7 @@ enum-known-reply c = search needs
 returns-2 : tie.Need-returns-2
 returns-2 c =
     let t = c .before .before .before .before .before .before .before in let s = start t in
-    table-refused (now (s .args .file)) (now (s .args .out)) (roomy t) (c .before .reply .given .0 .0) (sym (t .table .ensures .answer) ∙ c .before .reply .given .1)
+    table-refused (now (s .args .file)) (s .args .sheet) (now (s .args .out)) (roomy t) (c .before .reply .given .0 .0) (sym (t .table .ensures .answer) ∙ c .before .reply .given .1)
 
 enum-told : tie.Need-enum-told
 enum-told c = search needs
@@ -124,12 +128,13 @@ same-length c = search needs
 returns-3 : tie.Need-returns-3
 returns-3 c =
     let e = c .before .before .before .before .before .before .before .before in let s = start (tabled e) in
-    table-listed (now (s .args .file)) (now (s .args .out)) (roomy (tabled e)) (tabled e .table .ensures) (accepted e) (c .before .before .solve .ensures)
+    table-listed (now (s .args .file)) (s .args .sheet) (now (s .args .out)) (roomy (tabled e)) (tabled e .table .ensures) (accepted e) (c .before .before .solve .ensures)
 
 pub adjust-spec : {M : Type 1} → statement M
 adjust-spec =
     tie.close
     (tie.spec
+    room-requires
     returns
     slice-aggregate-table
     slice-aggregate-table-2

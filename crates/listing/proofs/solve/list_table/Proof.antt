@@ -1,12 +1,15 @@
 -- `listing::solve::list_table` meets its contract. Assumes nothing.
 use mathlib.Core.Path.{_∙_}
+use Prim.Native.Nat.{_≤_}
+use native.Mathlib.Omega.{arith}
 use borrow.Author.Needs.{needs}
 use denote.Ref.{now}
 use lib.ListN.{length}
 use Rattle.adjustment.specs.Promise.{lists}
-use Rattle.text.proofs.Putting.{rewrote}
+use Rattle.text.proofs.Putting.{then, rewrote, wrote-length}
 use Rattle.page.proofs.Printing.{listed-refused, listed-accepted}
-use Rattle.listing.proofs.Tabling.{Lent, answered, table-accepted}
+use Rattle.listing.proofs.Composing.{accepted-most, plain-fits}
+use Rattle.listing.proofs.Tabling.{Lent, answered, errors-accepted, table-accepted}
 use Rattle.listing.proofs.solve.list_table.Statement.{statement}
 use Rattle.listing.proofs.solve.list_table.Tie as tie
 
@@ -54,7 +57,31 @@ enum-told : tie.Need-enum-told
 enum-told c = search needs
 
 put-accepted-requires : tie.Need-put-accepted-requires
-put-accepted-requires c κs = search needs
+put-accepted-requires c κs =
+    let s = start (c .before .before .before .before .before .before .before .before .before .before .before .before .before .before) in let p = s .pre .0 in
+    (omega (arith, p .0, p .1, p .2, plain-fits (s .args .sheet)), search needs)
+
+-- ---- the listing of an accepted table stands in the buffer
+module _ (c : tie.After-put-accepted) where
+  abbrev told : tie.After-enum-told
+  told = c .before .before .before .before .before .before .before
+
+  abbrev adjusted : tie.After-adjust
+  adjusted = told .before .before .before .before .before .before .before .before
+
+  abbrev s : tie.Start
+  s = start adjusted
+
+  within : c .put-accepted .result ≤ 6560
+  within =
+      let p = s .pre .0 in let f = adjusted .adjust .last .1 .1 .1 .1 .1 in
+      omega (arith, c .put-accepted .ensures .place, accepted-most (length (now (s .args .directions))) (length (now (s .args .w))) (f .0) (f .1 .0) (f .1 .1 .0) (f .1 .1 .1 .0) (f .1 .1 .1 .1 .0), p .0, p .1)
+
+put-errors-requires : tie.Need-put-errors-requires
+put-errors-requires c κs =
+    let p = c .before .before .before .before in let a = adjusted p in let s = s p in
+    (errors-accepted (now (s .args .directions)) (now (s .args .q)) (now (s .args .a)) (now (s .args .w)) (lent-lists a) (a .adjust .ensures) (told p .enum-told .given .1),
+    (within p, omega (arith, s .pre .0 .2, wrote-length (p .put-accepted .ensures))))
 
 same-length-7 : tie.Need-same-length-7
 same-length-7 c = search needs
@@ -79,10 +106,11 @@ same-length-13 c = search needs
 
 returns-2 : tie.Need-returns-2
 returns-2 c =
-    let p = c .before .before in let t = p .before .before .before .before .before .before .before in let a = t .before .before .before .before .before .before .before .before in let s = start a in
-    let e = t .enum-told .given .1 in
-    listed-accepted (answered (now (s .args .directions)) (now (s .args .q)) (now (s .args .a)) (now (s .args .w)) (lent-lists a) (a .adjust .ensures) ∙ e)
-    (rewrote (table-accepted (now (s .args .directions)) (now (s .args .q)) (now (s .args .a)) (now (s .args .w)) (lent-lists a) (a .adjust .ensures) (s .pre .0 .3) e) (p .put-accepted .ensures))
+    let e = c .before .before in let p = e .before .before .before .before .before in let a = adjusted p in let s = s p in
+    let accepted = told p .enum-told .given .1 in
+    listed-accepted (answered (now (s .args .directions)) (now (s .args .q)) (now (s .args .a)) (now (s .args .w)) (lent-lists a) (a .adjust .ensures) ∙ accepted)
+    (rewrote (table-accepted (now (s .args .directions)) (now (s .args .q)) (now (s .args .a)) (now (s .args .w)) (lent-lists a) (a .adjust .ensures) accepted (s .args .sheet) (s .pre .0 .3))
+    (then (p .put-accepted .ensures) (e .put-errors .ensures)))
 
 pub list-table-spec : {M : Type 1} → statement M
 list-table-spec =
@@ -99,6 +127,7 @@ list-table-spec =
     returns
     enum-told
     put-accepted-requires
+    put-errors-requires
     same-length-7
     same-length-8
     same-length-9
