@@ -4,7 +4,7 @@
 -- is the reply of the adjustment to the table, lent with all directions 0; K-in, R-in, u-in and Q-in are the lists of K, R, u and Q.
 -- Figure 3 is a file and its listing, byte for byte (listing's proofs/Figure3.antt). Figures 9 and 10 are the sightings of one position at a station.
 use mathlib.Core.Path.{_≡_, refl, sym, subst}
-use mathlib.Core.List.{List, [], _∷_}
+use mathlib.Core.List.{List, [], _∷_, _++_}
 use Prim.Native.Nat.{ℕ, _≤_}
 use lib.IntN.{ℤ, pos, negℤ, natAbs, _-ℤ_, _*ℤ_}
 use lib.ListN.{replicate}
@@ -16,8 +16,9 @@ use Rattle.reply.specs.declared.Reply.the-variants.{Accepted, Refused}
 use Rattle.doolittle.specs.Solution.{N}
 use Rattle.adjustment.proofs.Figures.{Figure as Table, replyTo, tableIn, K-in, R-in, u-in, Q-in, figure-1, figure-2, figure-5, figure-6, figure-7, figure-8}
 use Rattle.listing.specs.File.{fileReply}
+use Rattle.listing.specs.declared.Sheet.the-variants.{Plain, WithErrors}
 use Rattle.listing.specs.File.{listingOf}
-use Rattle.listing.proofs.Figure3.{file, listing, figure-3}
+use Rattle.listing.proofs.Figure3.{file, listing, errors-line, figure-3}
 use Rattle.station.specs.Sightings.{Book, book}
 use Rattle.station.specs.Table.{counts, readings}
 use Rattle.station.specs.Means.{g, directions, pairCounts}
@@ -78,9 +79,9 @@ Two =
     × (u-in t ≡ pos 2325 ∷ minus 2325 ∷ pos 2325 ∷ minus 2325 ∷ [])
     × (R-in t ≡ pos 0 ∷ [])
 
--- 3. "The file below."
+-- 3. "The file below." With an E line its listing is the same and that line.
 abbrev pub Three : Type 0
-Three = (fileReply file ≡ Accepted) × (listingOf file ≡ listing)
+Three = (fileReply file ≡ Accepted) × (listingOf Plain file ≡ listing) × (listingOf WithErrors file ≡ listing ++ errors-line)
 
 -- 4. "Two conditions 100, 100, equal or unequal w: 6 at row 2." So it is for every w and w' in range.
 abbrev pub Four : Type 0

@@ -5,7 +5,8 @@
 --   coefficients-shut-out        of `condition::coefficients`: a side condition is accepted, one whose second term names direction 4 of 3 refused
 --   misclosure-shuts-out         of `condition::misclosure`: the same two
 --   table-shuts-out              of `adjustment::adjust`: figure 1 is accepted, figure 7 refused
---   file-shuts-out               of `listing::adjust`: figure 3's file is accepted, one with a malformed line refused
+--   errors-shut-out              of `precision::probable_error`: one correction is accepted, none refused
+--   file-shuts-out               of `listing::adjust`, on either sheet: figure 3's file is accepted, one with a malformed line refused
 --   book-shuts-out               of `book::means`: figure 9 as a book is accepted, one with an unknown line refused
 use mathlib.Core.Path.{_≡_, refl, sym, _∙_, ap}
 use mathlib.Core.List.{List, [], _∷_}
@@ -13,6 +14,7 @@ use Prim.Native.Nat.{ℕ, _≤_, _<_}
 use native.Mathlib.Omega.{arith}
 use lib.IntN.{ℤ, pos, natAbs, _+ℤ_, _*ℤ_}
 use lib.ListN.{length, replicate, length-replicate}
+use Rattle.exact.specs.First.{first}
 use Rattle.exact.specs.Sum.{sum}
 use Rattle.exact.proofs.Sum.{sum-ext, sum-zero}
 use Rattle.exact.proofs.Identity.{letters, polynomials, ring-by}
@@ -31,12 +33,18 @@ use Rattle.condition.specs.Rules.{Lent}
 use Rattle.condition.specs.Promise.{Coefficients, Misclosed}
 use Rattle.condition.proofs.Figures.{side, triangle, zeros, side-coefficients, side-misclosure, refused-reply}
 use Rattle.doolittle.specs.Table.{Table}
+use Rattle.adjustment.specs.Refusals.{countsAmiss}
 use Rattle.adjustment.specs.Demand.{Demand3}
 use Rattle.adjustment.specs.Promise.{Answers as Lists, lists, Adjusts}
 use Rattle.adjustment.proofs.Figures.{Figure as Lent-table, figure1, figure7, figure-1, figure-7}
+use Rattle.precision.specs.declared.Errors.{Errors}
+use Rattle.precision.specs.Errors.{errors}
+use Rattle.precision.specs.Promise.{errorsReply, TellsErrors}
 use Rattle.page.specs.declared.Listed.{Listed}
 use Rattle.page.specs.Page.{inRoom}
 use Rattle.page.proofs.Printing.{roomy}
+use Rattle.listing.specs.declared.Sheet.{Sheet}
+use Rattle.listing.specs.Listing.{roomOf}
 use Rattle.listing.specs.File.{adjustFileReply, AdjustsFile}
 use Rattle.listing.specs.File.{fileReply}
 use Rattle.listing.proofs.Figure3.{file, figure-3}
@@ -120,34 +128,49 @@ refuses-figure-7 reply left a = a .answer ∙ figure-7 .0
 pub table-shuts-out : ShutsOut {Input = Lent-table} {Left = Lists} Adjusted
 table-shuts-out = shut-out Adjusted figure1 figure7 (Remainder 1) accepts-figure-1 refuses-figure-7
 
+-- ---- mean and probable error
+abbrev Told : (List ℤ × (List ℤ × ℕ)) × Errors → Reply → Errors → Type 0
+Told x reply left = TellsErrors (x .0 .0) (x .0 .1 .0) (x .0 .1 .1) (x .1) reply left
+
+-- one correction of 3 in one condition, and no correction
+abbrev one-correction : (List ℤ × (List ℤ × ℕ)) × Errors
+one-correction = ((pos 3 ∷ [], (pos 1 ∷ [], 1)), errors (pos 0) (pos 0))
+
+abbrev no-correction : (List ℤ × (List ℤ × ℕ)) × Errors
+no-correction = (([], ([], 1)), errors (pos 0) (pos 0))
+
+pub errors-shut-out : ShutsOut {Input = (List ℤ × (List ℤ × ℕ)) × Errors} {Left = Errors} Told
+unfolding errorsReply countsAmiss first
+errors-shut-out = shut-out Told one-correction no-correction (Count 0) (λ reply left a. a .answer) (λ reply left a. a .answer)
+
 -- ---- the file
 -- a buffer of n bytes
 abbrev blank : ℕ → List ℕ
 blank n = replicate n 0
 
-abbrev buffer : List ℕ
-buffer = blank 6560
+abbrev buffer : Sheet → List ℕ
+buffer sheet = blank (roomOf sheet)
 
 -- one of as many bytes as the longest listing has room for any
 in-room : (why : Refusal) (most : ℕ) (reply : Reply) → inRoom why most (length (blank most)) reply ≡ reply
 in-room why most reply = roomy why most (length (blank most)) reply (omega (arith, length-replicate {A = ℕ} most 0))
 
-roomy-file : (f : List ℕ) → adjustFileReply f (length buffer) ≡ fileReply f
+roomy-file : (sheet : Sheet) (f : List ℕ) → adjustFileReply sheet f (length (buffer sheet)) ≡ fileReply f
 unfolding adjustFileReply
-roomy-file f = in-room (Count 0) 6560 (fileReply f)
+roomy-file sheet f = in-room (Count 0) (roomOf sheet) (fileReply f)
 
-pub accepts-figure-3 : (listed : Listed) (after : List ℕ) → AdjustsFile file buffer listed after → listed .reply ≡ Accepted
-accepts-figure-3 listed after a = a .lists .answer ∙ roomy-file file ∙ figure-3 .0
+pub accepts-figure-3 : (sheet : Sheet) (listed : Listed) (after : List ℕ) → AdjustsFile sheet file (buffer sheet) listed after → listed .reply ≡ Accepted
+accepts-figure-3 sheet listed after a = a .lists .answer ∙ roomy-file sheet file ∙ figure-3 .0
 
 malformed : fileReply broken ≡ Refused (Malformed 1)
 unfolding fileReply
 malformed = rw (figures .0)
 
-pub file-shuts-out : ShutsOut {Input = List ℕ × List ℕ} {Left = ℕ × List ℕ} (λ x reply left. AdjustsFile (x .0) (x .1) (record { reply = reply; length = left .0 }) (left .1))
-file-shuts-out =
-    shut-out _ (file, buffer) (broken, buffer) (Malformed 1)
-    (λ reply left a. accepts-figure-3 (record { reply = reply; length = left .0 }) (left .1) a)
-    (λ reply left a. a .lists .answer ∙ roomy-file broken ∙ malformed)
+pub file-shuts-out : (sheet : Sheet) → ShutsOut {Input = List ℕ × List ℕ} {Left = ℕ × List ℕ} (λ x reply left. AdjustsFile sheet (x .0) (x .1) (record { reply = reply; length = left .0 }) (left .1))
+file-shuts-out sheet =
+    shut-out _ (file, buffer sheet) (broken, buffer sheet) (Malformed 1)
+    (λ reply left a. accepts-figure-3 sheet (record { reply = reply; length = left .0 }) (left .1) a)
+    (λ reply left a. a .lists .answer ∙ roomy-file sheet broken ∙ malformed)
 
 -- ---- the sighting book
 abbrev small-buffer : List ℕ

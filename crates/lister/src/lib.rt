@@ -1,10 +1,11 @@
 // Reads a file whole, has its listing made, of a network file by `listing` and of a sighting book by `book`, and writes that: what
-// `adjust` and `means` do, and the programs that run the files kept as data.
+// `adjust`, `probable` and `means` do, and the programs that run the files kept as data.
 //
 // What cannot be done is said on standard error, a line for each file that opens with the program's name, and nothing else
 // is. A program has no exit status of its own, so the command that runs it goes by these lines.
 use libc::STDERR_FILENO;
 use libc::STDOUT_FILENO;
+use listing::Sheet;
 ghost use Prim.Native.Nat.{_-_, _≤_};
 ghost use mathlib.Core.Path.{_≡_};
 ghost use lib.ListN.{length, take};
@@ -15,9 +16,10 @@ ghost use Rattle.lister.specs.Listings.{listingFor};
 // One byte more than the longest file has, so that a longer one is seen by its length, however long it is.
 const ROOM: usize = 65536;
 
-// What the files of a call are, all of them alike: nothing in a file says it.
+// What the files of a call are, all of them alike, and what is listed of them: nothing in a file says it.
 pub enum Files {
     Networks,
+    NetworksWithErrors,
     Books,
 }
 
@@ -77,14 +79,15 @@ fn list(files: Files, file: &[u8], out: &mut [u8]) -> usize
     ensures within { λ r. ⌜ r ≤ length (now (out .exit)) ⌝ }
 {
     match files {
-        Files::Networks => listing::list(file, out),
+        Files::Networks => listing::list(Sheet::Plain, file, out),
+        Files::NetworksWithErrors => listing::list(Sheet::WithErrors, file, out),
         Files::Books => book::list(file, out),
     }
 }
 
-// Writes the listing of a file. Answers whether all of it was written. The buffer is for the longest listing of all, that of a net.
+// Writes the listing of a file. Answers whether all of it was written. The buffer is for the longest listing of all, that of a net with an E line.
 fn write_listing(files: Files, file: &[u8]) -> bool {
-    let mut out = [0u8; listing::LISTING];
+    let mut out = [0u8; listing::LISTING_WITH_ERRORS];
     let n = list(files, file, &mut out);
     io::write_all(STDOUT_FILENO, &out[..n])
 }

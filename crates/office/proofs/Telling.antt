@@ -1,6 +1,7 @@
 -- What the library promises of a reply is what C is promised of the verdict on it. Assumes nothing.
 --   means-told           of station means
 --   table-told           of the adjustment of a table
+--   errors-told          of the mean and the probable error of lent lists
 --   listed-told          of any file that has been listed, and the length that was lent
 --   book-told, file-told of a sighting book, and of a network file
 use mathlib.Core.Path.{_≡_, refl, _∙_, ap, subst}
@@ -19,9 +20,12 @@ use Rattle.station.specs.Replies.{Answers}
 use Rattle.adjustment.specs.Promise.{Answers as Lists, Adjusts}
 use Rattle.page.specs.declared.Listed.{Listed}
 use Rattle.page.specs.Page.{ListedBy}
+use Rattle.precision.specs.declared.Errors.{Errors}
+use Rattle.precision.specs.Promise.{TellsErrors}
+use Rattle.listing.specs.declared.Sheet.{Sheet}
 use Rattle.listing.specs.File.{AdjustsFile}
 use Rattle.book.specs.File.{MeansOf}
-use Rattle.office.specs.Promises.{Means, Table, ToldBy, SightingBook, File}
+use Rattle.office.specs.Promises.{Means, Table, DirectionErrors, ToldBy, SightingBook, File}
 
 module _ (v : Verdict) (r : Reply) (told : v ≡ verdictOf r) where
   pub means-told : (b : Book) (d p D P : List ℤ) → Answers b d p r D P → Means b d p v D P
@@ -31,6 +35,10 @@ module _ (v : Verdict) (r : Reply) (told : v ≡ verdictOf r) where
   pub table-told : (ds qs cs ws : List ℤ) (lent left : Lists) → Adjusts ds qs cs ws lent r left → Table ds qs cs ws lent v left
   table-told ds qs cs ws lent left a =
       record { verdict = told ∙ ap verdictOf (a .answer); lists = subst (λ (r : Reply). Adjusts ds qs cs ws lent r left) (a .answer) a }
+
+  pub errors-told : (us qs : List ℤ) (n : ℕ) (lent left : Errors) → TellsErrors us qs n lent r left → DirectionErrors us qs n lent v left
+  errors-told us qs n lent left a =
+      record { verdict = told ∙ ap verdictOf (a .answer); numbers = subst (λ (r : Reply). TellsErrors us qs n lent r left) (a .answer) a }
 
 module _ {v : Verdict} {listed : Listed} {before after : List ℕ} {n m : ℕ} (told : v ≡ verdictOf (listed .reply)) (left : m ≡ leaves (listed .reply) (listed .length) n) where
   listed-told : {rule : Reply} {listing : List ℕ} → ListedBy rule listing before listed after → ToldBy rule listing before n v after m
@@ -48,6 +56,7 @@ module _ {v : Verdict} {listed : Listed} {before after : List ℕ} {n m : ℕ} (
   pub book-told : (file : List ℕ) → MeansOf file before listed after → SightingBook file before n v after m
   book-told file a = record { told = listed-told (a .lists); joined = λ f. a .joined (a .lists .answer ∙ f) }
 
-  pub file-told : (file : List ℕ) → AdjustsFile file before listed after → File file before n v after m
-  file-told file a =
-      let e = a .lists .answer in record { told = listed-told (a .lists); demand3 = λ f. a .demand3 (e ∙ f); within-minute = λ f. a .within-minute (e ∙ f) }
+  pub file-told : (sheet : Sheet) (file : List ℕ) → AdjustsFile sheet file before listed after → File sheet file before n v after m
+  file-told sheet file a =
+      let e = a .lists .answer in
+      record { told = listed-told (a .lists); demand3 = λ f. a .demand3 (e ∙ f); within-minute = λ f. a .within-minute (e ∙ f); mean-error = λ f. a .mean-error (e ∙ f) }

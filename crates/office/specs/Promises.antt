@@ -17,7 +17,10 @@ use Rattle.station.specs.Pairs.{JoinedRightly}
 use Rattle.condition.specs.declared.Kind.{Kind}
 use Rattle.condition.specs.Rules.{Lent}
 use Rattle.adjustment.specs.Promise.{Answers as Lists, adjustReply, Adjusts}
-use Rattle.listing.specs.File.{fileListing, FileDemand3, FileWithinMinute, adjustFileReply}
+use Rattle.precision.specs.declared.Errors.{Errors}
+use Rattle.precision.specs.Promise.{errorsReply, TellsErrors}
+use Rattle.listing.specs.declared.Sheet.{Sheet}
+use Rattle.listing.specs.File.{fileListing, FileDemand3, FileWithinMinute, FileMeanError, adjustFileReply}
 use Rattle.book.specs.Lines.{bookOf}
 use Rattle.book.specs.File.{bookListing, meansReply}
 use Rattle.office.specs.declared.Heading.{Heading}
@@ -39,6 +42,10 @@ pub record Table (ds qs cs ws : List ℤ) (lent : Lists) (v : Verdict) (left : L
   pub verdict : v ≡ verdictOf (adjustReply ds qs cs ws lent)
   pub lists : Adjusts ds qs cs ws lent (adjustReply ds qs cs ws lent) left
 
+pub record DirectionErrors (us qs : List ℤ) (n : ℕ) (lent : Errors) (v : Verdict) (left : Errors) : Type 0 where
+  pub verdict : v ≡ verdictOf (errorsReply us qs n)
+  pub numbers : TellsErrors us qs n lent (errorsReply us qs n) left
+
 -- ---- of a whole file, by the rules' reply to it and its listing: that stands at the start of the lent buffer, and its length in the lent number
 pub record ToldBy (rule : Reply) (listing before : List ℕ) (lengthBefore : ℕ) (v : Verdict) (after : List ℕ) (lengthAfter : ℕ) : Type 0 where
   pub verdict : v ≡ verdictOf rule
@@ -49,7 +56,8 @@ pub record SightingBook (file before : List ℕ) (lengthBefore : ℕ) (v : Verdi
   pub told : ToldBy (meansReply file (length before)) (bookListing file) before lengthBefore v after lengthAfter
   pub joined : meansReply file (length before) ≡ Accepted → JoinedRightly (bookOf file)
 
-pub record File (file before : List ℕ) (lengthBefore : ℕ) (v : Verdict) (after : List ℕ) (lengthAfter : ℕ) : Type 0 where
-  pub told : ToldBy (adjustFileReply file (length before)) (fileListing file) before lengthBefore v after lengthAfter
-  pub demand3 : adjustFileReply file (length before) ≡ Accepted → FileDemand3 file
-  pub within-minute : adjustFileReply file (length before) ≡ Accepted → FileWithinMinute file
+pub record File (sheet : Sheet) (file before : List ℕ) (lengthBefore : ℕ) (v : Verdict) (after : List ℕ) (lengthAfter : ℕ) : Type 0 where
+  pub told : ToldBy (adjustFileReply sheet file (length before)) (fileListing sheet file) before lengthBefore v after lengthAfter
+  pub demand3 : adjustFileReply sheet file (length before) ≡ Accepted → FileDemand3 file
+  pub within-minute : adjustFileReply sheet file (length before) ≡ Accepted → FileWithinMinute file
+  pub mean-error : adjustFileReply sheet file (length before) ≡ Accepted → FileMeanError file

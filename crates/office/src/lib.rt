@@ -7,14 +7,17 @@ ghost use Rattle.reply.specs.Checks.{leaves};
 ghost use Rattle.reply.specs.Verdicts.{verdictOf};
 ghost use Rattle.station.specs.Sightings.{book};
 ghost use Rattle.adjustment.specs.Promise.{lists};
+ghost use Rattle.precision.specs.Errors.{errors};
 ghost use Rattle.text.specs.Lines.{lineAt, statusAt};
 ghost use Rattle.text.specs.Written.{Wrote};
 ghost use Rattle.page.specs.Page.{refusedLineIn};
+ghost use Rattle.listing.specs.declared.Sheet.the-variants.{Plain, WithErrors};
 ghost use Rattle.listing.specs.File.{listingIn};
-ghost use Rattle.office.specs.Promises.{Means, SightingBook, Coefficients, Misclosed, Table, File};
+ghost use Rattle.office.specs.Promises.{Means, SightingBook, Coefficients, Misclosed, Table, DirectionErrors, File};
 ghost use Rattle.office.specs.Terms.{headingOf, termsOf};
 ghost use Rattle.office.specs.Statuses.{statusNumber};
 use condition::Kind;
+use listing::Sheet;
 use page::Listed;
 use reply::Figure;
 use reply::Refusal;
@@ -174,12 +177,41 @@ pub extern "C" fn molsadriu_adjust_table(
     reply::tell(reply)
 }
 
+// The mean and the probable error of a direction, of lent printed corrections, their q and the number of conditions, into two lent numbers.
+#[no_mangle]
+pub extern "C" fn molsadriu_probable_error(
+    u: &[i64],
+    q: &[i64],
+    n: usize,
+    mean: &mut i64,
+    probable: &mut i64,
+) -> Verdict
+    ensures { λ v. ⌜ DirectionErrors (now (u .entry)) (now (q .entry)) n
+        (errors (now (mean .entry)) (now (probable .entry))) v (errors (now (mean .exit)) (now (probable .exit))) ⌝ }
+{
+    let reply = precision::probable_error(u, q, n, mean, probable);
+    reply::tell(reply)
+}
+
 // Adjusts a network file: the listing of an accepted one, into a lent buffer of at least 6,560 bytes, and its length, into one lent number.
 #[no_mangle]
 pub extern "C" fn molsadriu_adjust_file(file: &[u8], out: &mut [u8], length: &mut usize) -> Verdict
-    ensures { λ v. ⌜ File (now (file .entry)) (now (out .entry)) (now (length .entry)) v (now (out .exit)) (now (length .exit)) ⌝ }
+    ensures { λ v. ⌜ File Plain (now (file .entry)) (now (out .entry)) (now (length .entry)) v (now (out .exit)) (now (length .exit)) ⌝ }
 {
-    let listed = listing::adjust(file, out);
+    let listed = listing::adjust(Sheet::Plain, file, out);
+    tell_listed(listed, length)
+}
+
+// The same with an E line at the end of the listing, the mean and the probable error of a direction, into a lent buffer of at least 6,606 bytes.
+#[no_mangle]
+pub extern "C" fn molsadriu_probable_file(
+    file: &[u8],
+    out: &mut [u8],
+    length: &mut usize,
+) -> Verdict
+    ensures { λ v. ⌜ File WithErrors (now (file .entry)) (now (out .entry)) (now (length .entry)) v (now (out .exit)) (now (length .exit)) ⌝ }
+{
+    let listed = listing::adjust(Sheet::WithErrors, file, out);
     tell_listed(listed, length)
 }
 
@@ -195,10 +227,10 @@ pub extern "C" fn molsadriu_refused_line(number: u64, place: u64, out: &mut [u8]
 // The listing of any network file, accepted or refused, into a lent buffer of at least 6,560 bytes, and how many bytes it has.
 #[no_mangle]
 pub extern "C" fn molsadriu_list_file(file: &[u8], out: &mut [u8]) -> usize
-    ensures listing { λ r. ⌜ Wrote (now (out .entry)) 0 (listingIn (now (file .entry)) (length (now (out .entry)))) (now (out .exit)) r ⌝ }
+    ensures listing { λ r. ⌜ Wrote (now (out .entry)) 0 (listingIn Plain (now (file .entry)) (length (now (out .entry)))) (now (out .exit)) r ⌝ }
     ensures within { λ r. ⌜ r ≤ length (now (out .entry)) ⌝ }
 {
-    listing::list(file, out)
+    listing::list(Sheet::Plain, file, out)
 }
 
 // The length of the line that starts at `start`, without its LF. Its bytes are the file's own, from there on.

@@ -1,14 +1,21 @@
 -- `lister::list` meets its contract: the listing is that of the kind of file. Assumes nothing.
-use mathlib.Core.Path.{sym, ap}
+use mathlib.Core.Path.{_≡_, sym, ap}
+use mathlib.Core.List.{List}
+use Prim.Native.Nat.{ℕ, _≤_}
 use native.Mathlib.Omega.{arith}
 use borrow.Author.Needs.{needs}
-use denote.Ref.{now}
 use lib.ListN.{length}
+use Rattle.text.specs.Written.{Wrote}
 use Rattle.text.proofs.Putting.{rewrote, wrote-length}
 use Rattle.lister.specs.Listings.{listingFor}
 use Rattle.lister.specs.declared.Files.{Files}
 use Rattle.lister.proofs.list.Statement.{statement}
 use Rattle.lister.proofs.list.Tie as tie
+
+-- a listing of the kind that the files are of
+of-kind : (file : List ℕ) {before after : List ℕ} {n : ℕ} (files kind : Files) → files ≡ kind → Wrote before 0 (listingFor kind file (length before)) after n × (n ≤ length before)
+    → Wrote before 0 (listingFor files file (length before)) after n × (n ≤ length after)
+of-kind file {before} files kind e w = (rewrote (ap (λ (f : Files). listingFor f file (length before)) (sym e)) (w .0), omega (arith, w .1, wrote-length (w .0)))
 
 enum-told : tie.Need-enum-told
 enum-told c = search needs
@@ -22,21 +29,29 @@ enum-told-2 c = search needs
 list-requires-2 : tie.Need-list-requires-2
 list-requires-2 c κs = search needs
 
+enum-told-3 : tie.Need-enum-told-3
+enum-told-3 c = search needs
+
+list-requires-3 : tie.Need-list-requires-3
+list-requires-3 c κs = search needs
+
 same-length : tie.Need-same-length
 same-length c = search needs
 
 returns : tie.Need-returns
-returns c =
-    let l = c .before .before in let s = c .before .before .before .before .before .before .before .before in let same = c .before .before .before .before .enum-told .given .1 in
-    (rewrote (ap (λ (f : Files). listingFor f (now (s .args .file)) (length (now (s .args .out)))) (sym same)) (l .list .ensures .0), omega (arith, l .list .ensures .1, wrote-length (l .list .ensures .0)))
+returns c = let l = c .before .before in of-kind _ _ _ (l .before .before .enum-told .given .1) (l .list .ensures)
 
 same-length-2 : tie.Need-same-length-2
 same-length-2 c = search needs
 
 returns-2 : tie.Need-returns-2
-returns-2 c =
-    let l = c .before .before in let s = c .before .before .before .before .before .before .before .before in let same = c .before .before .before .before .enum-told2 .given .1 in
-    (rewrote (ap (λ (f : Files). listingFor f (now (s .args .file)) (length (now (s .args .out)))) (sym same)) (l .list2 .ensures .0), omega (arith, l .list2 .ensures .1, wrote-length (l .list2 .ensures .0)))
+returns-2 c = let l = c .before .before in of-kind _ _ _ (l .before .before .enum-told2 .given .1) (l .list2 .ensures)
+
+same-length-3 : tie.Need-same-length-3
+same-length-3 c = search needs
+
+returns-3 : tie.Need-returns-3
+returns-3 c = let l = c .before .before in of-kind _ _ _ (l .before .before .enum-told3 .given .1) (l .list3 .ensures)
 
 pub list-spec : {M : Type 1} → statement M
 list-spec =
@@ -46,7 +61,11 @@ list-spec =
     list-requires
     enum-told-2
     list-requires-2
+    enum-told-3
+    list-requires-3
     same-length
     returns
     same-length-2
-    returns-2)
+    returns-2
+    same-length-3
+    returns-3)

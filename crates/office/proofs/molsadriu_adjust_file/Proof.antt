@@ -14,7 +14,7 @@ same-length : tie.Need-same-length
 same-length c = search needs
 
 returns : tie.Need-returns
-returns c = file-told (c .tell-listed .ensures .0) (c .tell-listed .ensures .1) _ (c .before .before .before .before .adjust .ensures)
+returns c = file-told (c .tell-listed .ensures .0) (c .tell-listed .ensures .1) _ _ (c .before .before .before .before .adjust .ensures)
 
 pub molsadriu-adjust-file-spec : {M : Type 1} → statement M
 molsadriu-adjust-file-spec = tie.close (tie.spec adjust-requires tell-listed-requires same-length returns)

@@ -79,9 +79,10 @@ module _ (c : tie.After-put-accepted) where
 
 put-errors-requires : tie.Need-put-errors-requires
 put-errors-requires c κs =
-    let p = c .before .before .before .before in let a = adjusted p in let s = s p in
-    (errors-accepted (now (s .args .directions)) (now (s .args .q)) (now (s .args .a)) (now (s .args .w)) (lent-lists a) (a .adjust .ensures) (told p .enum-told .given .1),
-    (within p, omega (arith, s .pre .0 .2, wrote-length (p .put-accepted .ensures))))
+    let p = c .before .before .before .before in let a = adjusted p in let s = s p in (
+      errors-accepted (now (s .args .directions)) (now (s .args .q)) (now (s .args .a)) (now (s .args .w)) (lent-lists a) (a .adjust .ensures) (told p .enum-told .given .1),
+      (within p, omega (arith, s .pre .0 .2, wrote-length (p .put-accepted .ensures))),
+    )
 
 same-length-7 : tie.Need-same-length-7
 same-length-7 c = search needs
