@@ -58,8 +58,11 @@ enum-told c = search needs
 
 put-accepted-requires : tie.Need-put-accepted-requires
 put-accepted-requires c κs =
-    let s = start (c .before .before .before .before .before .before .before .before .before .before .before .before .before .before) in let p = s .pre .0 in
-    (omega (arith, p .0, p .1, p .2, plain-fits (s .args .sheet)), search needs)
+    let a = c .before .before .before .before .before .before .before .before .before .before .before .before .before .before in let s = start a in
+    let p = s .pre in let k = a .adjust .kept .1 .1 .1 .1 .1 in (
+      omega (arith, p .0 .0, p .0 .1, p .0 .2, plain-fits (s .args .sheet)),
+      (omega (arith, k .0, p .1 .0 .1), (omega (arith, k .1 .0, p .1 .0 .2), (omega (arith, k .1 .1 .0, p .1 .1 .0), (omega (arith, k .1 .1 .1 .0, p .1 .1 .1), omega (arith, k .1 .1 .1 .1 .0, p .1 .1 .2))))),
+    )
 
 -- ---- the listing of an accepted table stands in the buffer
 module _ (c : tie.After-put-accepted) where

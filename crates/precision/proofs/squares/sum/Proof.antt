@@ -61,7 +61,8 @@ module _ (c : tie.After-y Inv-loop μ-loop) where
   u-most = l .before .pre .1 .0 i (omega arith)
 
 weighted-square-requires : tie.Need-weighted-square-requires Inv-loop μ-loop
-weighted-square-requires c κs = rw (q-is c, u-is c) (l c .before .pre .1 .1 (i c) (omega arith), u-most c)
+weighted-square-requires c κs =
+    (omega (arith, ap natAbs (q-is c), l c .before .pre .1 .1 (i c) (omega arith)), omega (arith, ap natAbs (u-is c), u-most c))
 
 -- the sum so far, with this direction's part
 more : (c : tie.After-weighted-square Inv-loop μ-loop) → let b = c .before in pos (l b .loop .s + c .weighted-square .result) ≡ S (i b + 1) (at (qs b)) (at (us b))
