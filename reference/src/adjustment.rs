@@ -129,12 +129,10 @@ impl Net {
     fn check(table: &ConditionTable, lengths: AnswerLengths) -> Result<Net, Refusal> {
         let m = table.directions.len();
         let n = table.w.len();
-        let counts_allowed =
-            (1..=MOST_DIRECTIONS).contains(&m) && (1..=MOST_CONDITIONS).contains(&n) && n <= m;
         let lengths_agree = table.q.len() == m
             && m.checked_mul(n) == Some(table.a.len())
             && lengths == AnswerLengths::fitting(m, n);
-        if !counts_allowed || !lengths_agree {
+        if !counts_allowed(m, n) || !lengths_agree {
             return Err(Refusal::at_zero(COUNT));
         }
         check_directions(table.directions, table.q)?;
@@ -317,12 +315,22 @@ fn printed_corrections(v: &[i128]) -> Result<Vec<i128>, (usize, i128)> {
     let mut printed = Vec::new();
     for (index, &v) in v.iter().enumerate() {
         let u = nearest(v, 100_000);
-        if !within(u, MOST_U) {
+        if !correction_allowed(u) {
             return Err((index, u));
         }
         printed.push(u);
     }
     Ok(printed)
+}
+
+/// Whether a net may have m directions and n conditions.
+pub(crate) fn counts_allowed(m: usize, n: usize) -> bool {
+    (1..=MOST_DIRECTIONS).contains(&m) && (1..=MOST_CONDITIONS).contains(&n) && n <= m
+}
+
+/// Whether a printed correction is no blunder.
+pub(crate) fn correction_allowed(u: i128) -> bool {
+    within(u, MOST_U)
 }
 
 fn dot(row: &[i128], other: &[i128]) -> i128 {
@@ -333,7 +341,7 @@ fn wide(list: &[i64]) -> Vec<i128> {
     list.iter().map(|&x| i128::from(x)).collect()
 }
 
-fn answers(list: Vec<i128>) -> Vec<i64> {
+pub(crate) fn answers(list: Vec<i128>) -> Vec<i64> {
     list.into_iter().map(answer).collect()
 }
 

@@ -1,7 +1,7 @@
 //! The sighting book: its lines, and the listing of its station means.
 
 use crate::lines::{fields, read_lines, read_number};
-use crate::refusal::{refused_line, Refusal, MALFORMED, SIGHTING_COUNT};
+use crate::refusal::{listing_or_refused, Refusal, MALFORMED, SIGHTING_COUNT};
 use crate::station::{station_means_i64, AnswerLengths, StationMeans};
 
 /// The least room that is lent for a listing: 48 bytes for the STA line, and 68 for each
@@ -22,10 +22,7 @@ struct Book {
 
 /// The listing of a sighting book: its means, or the one line of a refusal.
 pub fn listing(file: &[u8]) -> Vec<u8> {
-    match station_book(file, LISTING_ROOM) {
-        Ok(listing) => listing,
-        Err(refusal) => refused_line(refusal.number, refusal.place),
-    }
+    listing_or_refused(station_book(file, LISTING_ROOM))
 }
 
 /// The listing of a sighting book that is accepted, by a caller who lends so much room.

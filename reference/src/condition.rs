@@ -229,7 +229,11 @@ pub(crate) fn check_directions(directions: &[i64], q: &[i64]) -> Result<(), Refu
 }
 
 pub(crate) fn direction_allowed(direction: i64, q: i64) -> bool {
-    (0..CIRCLE).contains(&i128::from(direction)) && (1..=10).contains(&q)
+    (0..CIRCLE).contains(&i128::from(direction)) && inverse_weight_allowed(q)
+}
+
+pub(crate) fn inverse_weight_allowed(q: i64) -> bool {
+    (1..=10).contains(&q)
 }
 
 pub(crate) fn target_allowed(target: i64) -> bool {

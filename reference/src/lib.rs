@@ -12,5 +12,6 @@ pub mod generate;
 pub mod lines;
 pub mod network;
 mod numeric;
+pub mod precision;
 pub mod refusal;
 pub mod station;

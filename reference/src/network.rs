@@ -1,22 +1,28 @@
 //! The network file: its lines, its checks, and the listing it ends in.
 
-use crate::adjustment::{Adjustment, Net, MOST_CONDITIONS};
+use crate::adjustment::{answers, Adjustment, Net, MOST_CONDITIONS};
 use crate::condition::{
     direction_allowed, sum_coefficients, sum_misclosure, target_allowed, ConditionKind, Side, Term,
     MOST_DIRECTIONS, MOST_TERMS,
 };
 use crate::lines::{fields, read_lines, read_number};
-use crate::refusal::{place, refused_line, Refusal, COUNT, MALFORMED, RANGE};
+use crate::precision::{probable_error, Errors};
+use crate::refusal::{listing_or_refused, place, Refusal, COUNT, MALFORMED, RANGE};
 
 /// The least room that is lent for a listing: it holds the longest one.
 pub const LISTING_ROOM: usize = 6_560;
 
+/// The same for a listing with its E line.
+pub const PROBABLE_ROOM: usize = 6_606;
+
 /// The listing of a network file: the adjustment, or the one line of a refusal.
 pub fn listing(file: &[u8]) -> Vec<u8> {
-    match adjust_file(file, LISTING_ROOM) {
-        Ok(listing) => listing,
-        Err(refusal) => refused_line(refusal.number, refusal.place),
-    }
+    listing_or_refused(adjust_file(file, LISTING_ROOM))
+}
+
+/// The listing of a network file with its E line, or the one line of a refusal.
+pub fn probable_listing(file: &[u8]) -> Vec<u8> {
+    listing_or_refused(probable_file(file, PROBABLE_ROOM))
 }
 
 /// The listing of a network file that is accepted, by a caller who lends so much room.
@@ -27,6 +33,20 @@ pub fn adjust_file(file: &[u8], room: usize) -> Result<Vec<u8>, Refusal> {
     }
     let adjustment = adjust_network(file)?;
     Ok(adjustment_text(&adjustment).into_bytes())
+}
+
+/// The listing of a network file that is accepted, with the errors of a direction in an
+/// E line at its end; the room is seen first, as above.
+pub fn probable_file(file: &[u8], room: usize) -> Result<Vec<u8>, Refusal> {
+    if room < PROBABLE_ROOM {
+        return Err(Refusal::at_zero(COUNT));
+    }
+    let net = sound_net(file)?;
+    let adjustment = net.adjust()?;
+    // Whatever this could refuse, the net has been refused for before.
+    let errors = probable_error(&adjustment.u, &answers(net.q), adjustment.k.len())?;
+    let text = adjustment_text(&adjustment) + &errors_text(errors);
+    Ok(text.into_bytes())
 }
 
 /// The adjustment of a network file.
@@ -57,6 +77,10 @@ fn adjustment_text(adjustment: &Adjustment) -> String {
         text += &format!("K\t{}\t{k}\t{r}\t{q}\n", index + 1);
     }
     text
+}
+
+fn errors_text(errors: Errors) -> String {
+    format!("E\t{}\t{}\n", errors.mean, errors.probable)
 }
 
 /// What a well-formed line says, before any count or range is tested.

@@ -52,6 +52,11 @@ impl Refusal {
     }
 }
 
+/// What a program prints of a reply: the listing, or the one line of a refusal.
+pub(crate) fn listing_or_refused(reply: Result<Vec<u8>, Refusal>) -> Vec<u8> {
+    reply.unwrap_or_else(|refusal| refused_line(refusal.number, refusal.place))
+}
+
 /// The one line of a refusal.
 pub fn refused_line(number: impl Display, place: impl Display) -> Vec<u8> {
     format!("REFUSED\t{number}\t{place}\n").into_bytes()

@@ -1,6 +1,7 @@
-//! Writes the listing of the network file on standard input; with the argument `means`,
-//! that of the sighting book there; or, with `census` (and a number of cases and a seed),
-//! how often each reply occurs among the generated inputs.
+//! Writes the listing of the network file on standard input; with the argument `probable`,
+//! that with its E line; with `means`, that of the sighting book there; or, with `census`
+//! (and a number of cases and a seed), how often each reply occurs among the generated
+//! inputs.
 
 use std::env;
 use std::io::{self, Read, Write};
@@ -12,10 +13,12 @@ fn main() -> ExitCode {
     let arguments: Vec<String> = env::args().skip(1).collect();
     let done = match arguments.first().map(String::as_str) {
         None => write_listing(network::listing),
+        Some("probable") if arguments.len() == 1 => write_listing(network::probable_listing),
         Some("means") if arguments.len() == 1 => write_listing(book::listing),
         Some("census") => write_census(&arguments[1..]),
         Some(_) => Err(io::Error::other(
-            "use: reference < net, reference means < book, or reference census [cases [seed]]",
+            "use: reference < net, reference probable < net, reference means < book, \
+             or reference census [cases [seed]]",
         )),
     };
     match done {
