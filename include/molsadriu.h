@@ -13,13 +13,13 @@
  * where the verdict refuses, all that was lent stays as it was. docs/COSTS.md says how much stack a call takes.
  *
  * WHAT CANNOT BE SEEN, and is up to the caller: that a list has as many numbers as its length says, where that length agrees with the
- * others (a null pointer with a length above 0 has not), that a pointer to one number, `w` or `length`, is not null, that each pointer is
- * aligned for its type, and that what is lent for an answer shares no place with anything else lent in the same call. Lists that are
- * only read may overlap.
+ * others (a null pointer with a length above 0 has not), that a pointer to one number, `w`, `length`, `mean` or `probable`, is not null, that
+ * each pointer is aligned for its type, and that what is lent for an answer shares no place with anything else lent in the same call.
+ * Lists that are only read may overlap.
  *
- * UNITS. Directions, readings and printed corrections u are in 0.001 second, coefficients a in hundredths, misclosures w in
- * thousandths of the condition's unit, correlates K in millionths, corrections V in 10^-8 second, remainders R and Q in 10^-10 of the
- * condition's unit.
+ * UNITS. Directions, readings, printed corrections u, mean error and probable error are in 0.001 second, coefficients a in hundredths,
+ * misclosures w in thousandths of the condition's unit, correlates K in millionths, corrections V in 10^-8 second, remainders R and Q in
+ * 10^-10 of the condition's unit.
  *
  * That each function does this for every input is proved, from its pointers and lengths inward; see docs/PROMISES.md. */
 #ifndef MOLSADRIU_H
@@ -32,23 +32,24 @@
 extern "C" {
 #endif
 
-/* The version of this header. Each request that changes a number of the table of refusals, a limit, a unit or a function's parameters
- * raises it by one. The archive holds no version: header and archive go together, from one state of the project. */
-#define MOLSADRIU_VERSION 2
+/* The version of this header. Each request that changes a number of the table of refusals, a limit, a unit or a function's parameters, or
+ * adds a function, raises it by one. The archive holds no version: header and archive go together, from one state of the project. */
+#define MOLSADRIU_VERSION 3
 
 /* The archive is made for computers whose lengths have 64 bits; a compiler for another one stops here. */
 typedef char molsadriu_lengths_have_64_bits[sizeof(size_t) == 8 ? 1 : -1];
 
-#define MOLSADRIU_CIRCLE 1296000000    /* C: the circle, in 0.001 second */
-#define MOLSADRIU_SIGHTINGS 512        /* most sightings at a station */
-#define MOLSADRIU_OBJECTS 16           /* objects of a station: the length of its two answer lists */
-#define MOLSADRIU_DIRECTIONS 64        /* most directions, m */
-#define MOLSADRIU_CONDITIONS 24        /* most conditions, n; also not above m */
-#define MOLSADRIU_TERMS 12             /* most terms of a condition */
-#define MOLSADRIU_FILE 65535           /* most bytes of a file, network file or sighting book */
-#define MOLSADRIU_LISTING 6560         /* bytes that hold the listing of any network file */
-#define MOLSADRIU_STATION_LISTING 1136 /* bytes that hold the listing of any sighting book */
-#define MOLSADRIU_REFUSED_LINE 52      /* bytes that hold any REFUSED line */
+#define MOLSADRIU_CIRCLE 1296000000     /* C: the circle, in 0.001 second */
+#define MOLSADRIU_SIGHTINGS 512         /* most sightings at a station */
+#define MOLSADRIU_OBJECTS 16            /* objects of a station: the length of its two answer lists */
+#define MOLSADRIU_DIRECTIONS 64         /* most directions, m */
+#define MOLSADRIU_CONDITIONS 24         /* most conditions, n; also not above m */
+#define MOLSADRIU_TERMS 12              /* most terms of a condition */
+#define MOLSADRIU_FILE 65535            /* most bytes of a file, network file or sighting book */
+#define MOLSADRIU_LISTING 6560          /* bytes that hold the listing of any network file */
+#define MOLSADRIU_PROBABLE_LISTING 6606 /* bytes that hold the listing of any network file with its E line */
+#define MOLSADRIU_STATION_LISTING 1136  /* bytes that hold the listing of any sighting book */
+#define MOLSADRIU_REFUSED_LINE 52       /* bytes that hold any REFUSED line */
 
 /* What a caller is told: number 0 and place 0 where the input is accepted, else the number and the place of the refusal.
  *
@@ -87,6 +88,7 @@ typedef struct molsadriu_verdict {
  *   K    condition  K  R  Q    for each condition, 1 to n: its number, its correlate K in millionths, and what is left of it, by the
  *                              unrounded corrections (R) and by the printed ones (Q), both in 10^-10 of the condition's unit: of a
  *                              second under A, of the sixth decimal of a logarithm under S
+ *   E    mean  probable        one line, by molsadriu_probable_file alone: mean error and probable error of a direction, in 0.001 second
  * Of a sighting book:
  *   STA  sightings  objects    one line: how many sightings, how many objects were seen
  *   O    object  direction  P  for each object that was seen, in their order: its number, its direction from the initial (0 to C - 1), in
@@ -179,14 +181,35 @@ molsadriu_verdict molsadriu_adjust_file(
     uint8_t *out, size_t out_room,
     size_t *length);
 
+/* Mean error and probable error of a direction, from the corrections of an adjustment. In: the printed corrections u of directions 1 to m
+ * (m from 1 to 64; each -60,000 to 60,000), their inverse weights q (1 to 10; m of them), and n, how many conditions were adjusted (1 to 24,
+ * and not above m). With S, the sum of 2,520*u*u/q, the mean error is the largest whole e with e*e*2,520*n not above S, and the probable
+ * error is the nearest whole number to 6,745*e / 10,000, halves upward.
+ * Out: e in the one number at `mean`, the probable error in the one at `probable`; neither may be null.
+ * Comes back: the verdict, 2 or 3 where it refuses, and then both numbers stay as they were. 2 at 0 is for counts and lengths;
+ * then 3 goes by direction number, u and q together, also for a u past one minute, which is 9 only in an adjustment. */
+molsadriu_verdict molsadriu_probable_error(
+    const int64_t *u, size_t u_length,
+    const int64_t *q, size_t q_length,
+    size_t n,
+    int64_t *mean, int64_t *probable);
+
+/* Adjusts a network file, with the E line at the end of its listing. In, out and comes back: all as of molsadriu_adjust_file, and the same
+ * verdict, but that the room must be MOLSADRIU_PROBABLE_LISTING: a smaller one is 2 at 0 before all else. A file that is refused has no
+ * E line. */
+molsadriu_verdict molsadriu_probable_file(
+    const uint8_t *file, size_t file_length,
+    uint8_t *out, size_t out_room,
+    size_t *length);
+
 /* The REFUSED line of a verdict. In: its number and place; any two numbers are written. Out: the line, in the first bytes of `out`; those
  * after it stay as they were. Comes back: how many bytes it has; 0 where the room is below MOLSADRIU_REFUSED_LINE, and then `out` stays
  * as it was. */
 size_t molsadriu_refused_line(uint64_t number, uint64_t place, uint8_t *out, size_t out_room);
 
-/* The two above in one, for programs that only pass the listing on. In: the bytes of a network file. Out: its listing, or its REFUSED
- * line, in the first bytes of `out`; those after it stay as they were. Comes back: how many bytes it has; 0 where the room is below
- * MOLSADRIU_LISTING, and then `out` stays as it was. */
+/* molsadriu_adjust_file and the REFUSED line in one, for programs that only pass the listing on. In: the bytes of a network file. Out: its
+ * listing, or its REFUSED line, in the first bytes of `out`; those after it stay as they were. Comes back: how many bytes it has; 0 where
+ * the room is below MOLSADRIU_LISTING, and then `out` stays as it was. */
 size_t molsadriu_list_file(const uint8_t *file, size_t file_length, uint8_t *out, size_t out_room);
 
 /* The line reader. The line at `start` is the caller's own bytes: it begins at file + start, and what comes back is its length, without
