@@ -13,8 +13,8 @@
  * where the verdict refuses, all that was lent stays as it was. docs/COSTS.md says how much stack a call takes.
  *
  * WHAT CANNOT BE SEEN, and is up to the caller: that a list has as many numbers as its length says, where that length agrees with the
- * others (a null pointer with a length above 0 has not), that a pointer to one number, `w`, `length`, `mean` or `probable`, is not null, that
- * each pointer is aligned for its type, and that what is lent for an answer shares no place with anything else lent in the same call.
+ * others (a null pointer with a length above 0 has not), that a pointer to one number, `w`, `length`, `mean` or `probable`, is not null,
+ * that each pointer is aligned for its type, and that what is lent for an answer shares no place with anything else lent in the same call.
  * Lists that are only read may overlap.
  *
  * UNITS. Directions, readings, printed corrections u, mean error and probable error are in 0.001 second, coefficients a in hundredths,
@@ -182,9 +182,9 @@ molsadriu_verdict molsadriu_adjust_file(
     size_t *length);
 
 /* Mean error and probable error of a direction, from the corrections of an adjustment. In: the printed corrections u of directions 1 to m
- * (m from 1 to 64; each -60,000 to 60,000), their inverse weights q (1 to 10; m of them), and n, how many conditions were adjusted (1 to 24,
- * and not above m). With S, the sum of 2,520*u*u/q, the mean error is the largest whole e with e*e*2,520*n not above S, and the probable
- * error is the nearest whole number to 6,745*e / 10,000, halves upward.
+ * (m from 1 to 64; each -60,000 to 60,000), their inverse weights q (1 to 10; m of them), and n, how many conditions were adjusted (1 to
+ * 24, and not above m). With S, the sum of 2,520*u*u/q, the mean error is the largest whole e with e*e*2,520*n not above S, and the
+ * probable error is the nearest whole number to 6,745*e / 10,000, halves upward.
  * Out: e in the one number at `mean`, the probable error in the one at `probable`; neither may be null.
  * Comes back: the verdict, 2 or 3 where it refuses, and then both numbers stay as they were. 2 at 0 is for counts and lengths;
  * then 3 goes by direction number, u and q together, also for a u past one minute, which is 9 only in an adjustment. */

@@ -242,6 +242,114 @@ static void table(void)
     give_back(l, 10);
 }
 
+/* ---- mean error and probable error of lent lists: figure 3's corrections */
+static size_t conditions;
+static int64_t mean, probable;
+
+static molsadriu_verdict errors(const list *l)
+{
+    return molsadriu_probable_error(l[0].at, l[0].length, l[1].at, l[1].length, conditions, &mean, &probable);
+}
+
+/* A refusal leaves the two numbers as they were. */
+static void errors_refuse(const list *l, uint64_t number, uint64_t place)
+{
+    mean = 4711;
+    probable = -4711;
+    CHECK(is(errors(l), number, place));
+    CHECK(mean == 4711 && probable == -4711);
+}
+
+static void errors_are(const list *l, int64_t e, int64_t p)
+{
+    mean = probable = -1;
+    CHECK(is(errors(l), 0, 0));
+    CHECK(mean == e && probable == p);
+}
+
+/* So many directions of correction u and q = 1, with n conditions: this refusal, or these errors. */
+static void directions_alike(size_t m, size_t n, int64_t u, uint64_t number, int64_t e, int64_t p)
+{
+    list l[2] = {{malloc(m * sizeof(int64_t)), m, {0}}, {malloc(m * sizeof(int64_t)), m, {0}}};
+    for (size_t j = 0; j < m; j++) {
+        if (l[0].at == NULL || l[1].at == NULL) exit(2);
+        l[0].at[j] = u;
+        l[1].at[j] = 1;
+    }
+    conditions = n;
+    if (number != 0)
+        errors_refuse(l, number, 0);
+    else
+        errors_are(l, e, p);
+    give_back(l, 2);
+}
+
+static void precision(void)
+{
+    const int64_t u[3] = {-2000, -1000, 1000}, q[3] = {1, 1, 1};
+    const int64_t beyond[2][6] = {{60001, -60001, 60000 + (INT64_C(1) << 32), -(INT64_C(1) << 32), INT64_MIN, INT64_MAX},
+                                  {0, 11, -1, 1 + (INT64_C(1) << 32), INT64_MIN, INT64_MAX}};
+    const int64_t within[2][2] = {{60000, -60000}, {1, 10}};
+    list l[2] = {lend(u, 3), lend(q, 3)};
+    const size_t right[2] = {3, 3};
+    conditions = 2;
+    mean = 4711;
+    probable = -4711;
+    wrong_lengths(errors, l, 2, 0, 2);
+    CHECK(mean == 4711 && probable == -4711);
+    /* n from 1 to m */
+    const size_t counts[6] = {0, 4, 25, (size_t)1 << 32, ((size_t)1 << 32) + 1, SIZE_MAX};
+    for (size_t j = 0; j < 6; j++) {
+        conditions = counts[j];
+        errors_refuse(l, 2, 0);
+    }
+    conditions = 2;
+    /* u and q at each direction, both sides of their limits */
+    for (size_t j = 0; j < 2; j++)
+        for (size_t n = 0; n < 3; n++) {
+            for (size_t b = 0; b < 6; b++) {
+                l[j].at[n] = beyond[j][b];
+                errors_refuse(l, 3, n + 1);
+            }
+            for (size_t b = 0; b < 2; b++) {
+                l[j].at[n] = within[j][b];
+                CHECK(is(errors(l), 0, 0));
+            }
+            l[j].at[n] = l[j].before[n];
+        }
+    /* 2 before 3; the lower direction before the higher, whether u or q is at fault there */
+    l[0].at[1] = 60001;
+    l[1].at[0] = 11;
+    errors_refuse(l, 3, 1);
+    conditions = 4;
+    errors_refuse(l, 2, 0);
+    conditions = 2;
+    l[1].at[0] = 1;
+    l[1].at[2] = 0;
+    errors_refuse(l, 3, 2);
+    l[0].at[1] = u[1];
+    l[1].at[2] = 1;
+    errors_are(l, 1732, 1168);
+    CHECK(unchanged(l, 0, 2, right));
+    /* u and q may be the same list: they are only read */
+    l[1].at[0] = 7;
+    l[1].at[1] = 8;
+    l[1].at[2] = 9;
+    const list same[2] = {l[1], l[1]};
+    conditions = 1;
+    errors_are(same, 4, 3);
+    give_back(l, 2);
+    /* the counts of directions and of conditions; the largest errors */
+    directions_alike(0, 1, 0, 2, 0, 0);
+    directions_alike(1, 1, 0, 0, 0, 0);
+    directions_alike(MOLSADRIU_DIRECTIONS, 1, 60000, 0, 480000, 323760);
+    directions_alike(MOLSADRIU_DIRECTIONS, MOLSADRIU_CONDITIONS, -60000, 0, 97979, 66087);
+    directions_alike(MOLSADRIU_DIRECTIONS, MOLSADRIU_CONDITIONS + 1, 0, 2, 0, 0);
+    directions_alike(MOLSADRIU_DIRECTIONS + 1, 1, 0, 2, 0, 0);
+    /* a half goes upward */
+    directions_alike(1, 1, -1000, 0, 1000, 675);
+}
+
 /* ---- the line reader */
 static void lines(void)
 {
@@ -319,6 +427,7 @@ typedef struct {
 } operation;
 
 static const operation adjusting = {molsadriu_adjust_file, MOLSADRIU_LISTING, 2},
+                       estimating = {molsadriu_probable_file, MOLSADRIU_PROBABLE_LISTING, 2},
                        averaging = {molsadriu_station_book, MOLSADRIU_STATION_LISTING, 21};
 
 /* A file in a block of exactly its length. */
@@ -392,13 +501,23 @@ static int lists(const uint8_t *file, size_t length, size_t room, const char *ex
     return right;
 }
 
-/* A refused network file, by both operations. */
+/* An accepted network file, without its E line and with it. */
+static void accepted_net(const char *text, const char *expected, const char *e_line)
+{
+    char whole[512];
+    accepted_file(&adjusting, text, expected);
+    CHECK((size_t)snprintf(whole, sizeof whole, "%s%s", expected, e_line) < sizeof whole);
+    accepted_file(&estimating, text, whole);
+}
+
+/* A refused network file, by all three operations. */
 static void refused_net(const char *text, uint64_t number, uint64_t place)
 {
     char line[64];
     uint8_t *file = copy(text);
     refusal(line, number, place);
     refused_file(&adjusting, text, number, place);
+    refused_file(&estimating, text, number, place);
     CHECK(lists(file, strlen(text), MOLSADRIU_LISTING, line));
     CHECK(lists(file, strlen(text), MOLSADRIU_LISTING - 1, ""));
     free(file);
@@ -409,7 +528,9 @@ static void network(void)
     static const char too_long[] = "REFUSED\t2\t0\n";
     const size_t length = strlen(net);
     uint8_t *file = copy(net);
-    accepted_file(&adjusting, net, listing);
+    accepted_net(net, listing, "E\t1732\t1168\n");
+    /* the room of a listing without an E line is not enough for one with it */
+    CHECK(refuses(&estimating, file, length, MOLSADRIU_LISTING, 2, 0));
     const size_t small[4] = {0, 1, 100, MOLSADRIU_LISTING - 1};
     for (size_t j = 0; j < 4; j++) CHECK(lists(file, length, small[j], ""));
     CHECK(molsadriu_list_file(file, length, NULL, 0) == 0);
@@ -432,8 +553,8 @@ static void network(void)
                 "L\t2\t2000\t0\t1\nL\t0\t2000\t0\t2\nL\t0\t2000\t0\t3\nL\t0\t2000\t0\t4\n", 8, 1);
     refused_net("D\t1\t1000\t1\nD\t2\t60001\t1\nC\tA\t0\nP\t0\t1\nC\tA\t0\nP\t0\t2\n", 9, 2);
     /* one minute itself is no blunder */
-    accepted_file(&adjusting, "D\t1\t1000\t1\nD\t2\t60000\t1\nC\tA\t0\nP\t0\t1\nC\tA\t0\nP\t0\t2\n",
-                  "ADJ\t2\t2\nV\t1\t-1000\t0\nV\t2\t-60000\t0\nK\t1\t-1000000\t0\t0\nK\t2\t-60000000\t0\t0\n");
+    accepted_net("D\t1\t1000\t1\nD\t2\t60000\t1\nC\tA\t0\nP\t0\t1\nC\tA\t0\nP\t0\t2\n",
+                 "ADJ\t2\t2\nV\t1\t-1000\t0\nV\t2\t-60000\t0\nK\t1\t-1000000\t0\t0\nK\t2\t-60000000\t0\t0\n", "E\t42432\t28620\n");
 }
 
 /* ---- a sighting book: figure 9 */
@@ -468,6 +589,7 @@ int main(void)
     station();
     terms();
     table();
+    precision();
     lines();
     refused_lines();
     network();

@@ -41,14 +41,29 @@ static void adjust_table(void)
     answered = molsadriu_adjust_table(directions, M, q, M, a, N * M, w, N, v, M, u, M, adjusted, M, k, N, r, N, misses, N).number;
 }
 
+/* the largest corrections */
+static int64_t minutes[M], mean, probable;
+
+static void probable_error(void)
+{
+    HERE;
+    answered = molsadriu_probable_error(minutes, M, q, M, 1, &mean, &probable).number;
+}
+
 /* the network file */
-static uint8_t file[MOLSADRIU_FILE + 1], out[MOLSADRIU_LISTING];
+static uint8_t file[MOLSADRIU_FILE + 1], out[MOLSADRIU_PROBABLE_LISTING];
 static size_t file_length, length;
 
 static void adjust_file(void)
 {
     HERE;
     answered = molsadriu_adjust_file(file, file_length, out, sizeof out, &length).number;
+}
+
+static void probable_file(void)
+{
+    HERE;
+    answered = molsadriu_probable_file(file, file_length, out, sizeof out, &length).number;
 }
 
 static void list_file(void)
@@ -117,6 +132,7 @@ static void fill(const char *name)
     for (int64_t i = 0; i < M; i++) {
         directions[i] = 20000000 * i;
         q[i] = i % 10 + 1;
+        minutes[i] = 60000;
     }
     for (int64_t j = 0; j < N; j++) {
         w[j] = 100 * j - 1200;
@@ -194,6 +210,8 @@ int main(int count, char **words)
     measure("molsadriu_misclosure", misclosure, stack);
     measure("molsadriu_adjust_table", adjust_table, stack);
     measure("molsadriu_adjust_file", adjust_file, stack);
+    measure("molsadriu_probable_error", probable_error, stack);
+    measure("molsadriu_probable_file", probable_file, stack);
     measure("molsadriu_refused_line", refused_line, stack);
     measure("molsadriu_list_file", list_file, stack);
     measure("molsadriu_line", line, stack);
