@@ -6,10 +6,11 @@ use std::fmt::Debug;
 
 use crate::adjustment::Adjustment;
 use crate::generate::{
-    book_case, line_case, network_case, number_case, station_case, table_case, terms_case, Rng,
+    book_case, line_case, network_case, number_case, precision_case, station_case, table_case,
+    terms_case, PrecisionCase, Rng,
 };
 use crate::refusal::{Refusal, CORRECTION};
-use crate::{adjustment, book, condition, lines, network, station};
+use crate::{adjustment, book, condition, lines, network, precision, station};
 
 /// Replies by number, 0 for acceptance, with how often each occurred.
 pub type Replies = BTreeMap<i64, usize>;
@@ -22,10 +23,18 @@ pub struct Census {
     pub misclosure: Replies,
     pub table: Replies,
     pub network: Replies,
+    pub probable_error: Replies,
+    pub probable_file: Replies,
     pub book: Replies,
     /// Accepted tables of n = 24, of m = 64, and of both; then the same of networks.
     pub largest_tables: [usize; 3],
     pub largest_networks: [usize; 3],
+    /// Accepted lists of corrections of n = 24, of m = 64, and of both.
+    pub largest_corrections: [usize; 3],
+    /// Those whose S is one below a square times 2,520*n, just that, and one above it.
+    pub squares: [usize; 3],
+    /// Those whose probable error is a half, before it is rounded.
+    pub halves: usize,
     /// Accepted books of 512 sightings, of 16 objects, and of one pair alone.
     pub book_sizes: [usize; 3],
     /// Books that are just as long as a file may be, and just one byte longer.
@@ -51,6 +60,7 @@ pub fn take(seed: u64, cases: usize) -> Census {
         count_terms(&mut rng, &mut census);
         count_table(&mut rng, &mut census);
         count_network(&mut rng, &mut census);
+        count_probable(&mut rng, &mut census);
         count_book(&mut rng, &mut census);
         let case = line_case(&mut rng);
         let status = lines::line_status(&case.file, case.start);
@@ -99,7 +109,8 @@ fn count_table(rng: &mut Rng, census: &mut Census) {
     count_minutes(&mut census.table_minutes, &reply, blunder);
     match reply {
         Ok(adjustment) => {
-            add(&mut census.largest_tables, largest(&adjustment));
+            let largest = largest(adjustment.v.len(), adjustment.k.len());
+            add(&mut census.largest_tables, largest);
             let met = |list: &[i64], limit: i64| list.iter().any(|x| x.abs() == limit);
             let limits = [
                 met(&adjustment.k, 100_000_000),
@@ -123,8 +134,11 @@ fn count_network(rng: &mut Rng, census: &mut Census) {
         network::blunder(&file)
     });
     if let Ok(adjustment) = reply {
-        add(&mut census.largest_networks, largest(&adjustment));
+        let largest = largest(adjustment.v.len(), adjustment.k.len());
+        add(&mut census.largest_networks, largest);
     }
+    let probable = network::probable_file(&file, network::PROBABLE_ROOM);
+    count(&mut census.probable_file, &probable);
 }
 
 fn count_minutes(
@@ -138,6 +152,23 @@ fn count_minutes(
     };
     for u in [-60_001, -60_000, 60_000, 60_001].into_iter().filter(met) {
         *minutes.entry(u).or_default() += 1;
+    }
+}
+
+fn count_probable(rng: &mut Rng, census: &mut Census) {
+    let PrecisionCase { u, q, n } = precision_case(rng);
+    let reply = precision::probable_error(&u, &q, n);
+    count(&mut census.probable_error, &reply);
+    if let Ok(errors) = reply {
+        add(&mut census.largest_corrections, largest(u.len(), n));
+        let s = precision::weighted_squares(&u, &q);
+        let square = |e: i64| i128::from(e).pow(2) * precision::WHOLE * n as i128;
+        let (below, above) = (square(errors.mean), square(errors.mean + 1));
+        add(
+            &mut census.squares,
+            [s + 1 == above, s == below, s - 1 == below],
+        );
+        census.halves += usize::from(6_745 * errors.mean % 10_000 == 5_000);
     }
 }
 
@@ -159,14 +190,8 @@ fn count_book(rng: &mut Rng, census: &mut Census) {
 }
 
 /// Whether n is 24, m is 64, and both.
-fn largest(adjustment: &Adjustment) -> [bool; 3] {
-    let most_conditions = adjustment.k.len() == 24;
-    let most_directions = adjustment.v.len() == 64;
-    [
-        most_conditions,
-        most_directions,
-        most_conditions && most_directions,
-    ]
+fn largest(m: usize, n: usize) -> [bool; 3] {
+    [n == 24, m == 64, n == 24 && m == 64]
 }
 
 fn add<const N: usize>(totals: &mut [usize; N], seen: [bool; N]) {
@@ -181,6 +206,7 @@ pub fn report(census: &Census) -> String {
         format!("{name} accepted: n = 24 {conditions}, m = 64 {directions}, both {both}\n")
     };
     let [k, r] = census.limits_met;
+    let [below, at, above] = census.squares;
     let [sightings, objects, pair] = census.book_sizes;
     let [longest, too_long] = census.book_lengths;
     [
@@ -189,9 +215,14 @@ pub fn report(census: &Census) -> String {
         describe("misclosure", &census.misclosure),
         describe("table", &census.table),
         describe("network", &census.network),
+        describe("probable error", &census.probable_error),
+        describe("probable file", &census.probable_file),
         describe("book", &census.book),
         sizes("tables", census.largest_tables),
         sizes("networks", census.largest_networks),
+        sizes("corrections", census.largest_corrections),
+        format!("squares in accepted corrections: S below {below}, at {at}, above {above}\n"),
+        format!("probable errors of a half {}\n", census.halves),
         format!(
             "books accepted: 512 sightings {sightings}, 16 objects {objects}, one pair {pair}\n"
         ),

@@ -3,6 +3,7 @@
 
 mod book;
 mod network;
+mod precision;
 mod station;
 mod table;
 mod terms;
@@ -10,6 +11,7 @@ mod text;
 
 pub use book::{book_case, BookCase};
 pub use network::{line_case, network_case, number_case, LineCase, NetworkCase, NumberCase};
+pub use precision::{precision_case, PrecisionCase};
 pub use station::{station_case, StationCase};
 pub use table::{table_case, TableCase};
 pub use terms::{terms_case, TermsCase};
@@ -152,6 +154,14 @@ impl Rng {
     }
 }
 
+/// Puts a value into some place of a list that has one.
+fn set(rng: &mut Rng, list: &mut [i64], value: i64) {
+    let index = rng.below(list.len());
+    if let Some(place) = list.get_mut(index) {
+        *place = value;
+    }
+}
+
 /// A list made one too short or one too long.
 fn spoil_length(rng: &mut Rng, list: &mut Vec<i64>) {
     match list.pop() {
@@ -203,6 +213,7 @@ mod tests {
         for _ in 0..50 {
             assert_eq!(network_case(&mut one).file, network_case(&mut other).file);
             assert_eq!(book_case(&mut one).file, book_case(&mut other).file);
+            assert_eq!(precision_case(&mut one), precision_case(&mut other));
         }
     }
 

@@ -1,7 +1,7 @@
 //! Condition tables: nets that close, nets that hardly do, and nets at the edge of
 //! each test of the solution.
 
-use super::{direction_count, inverse_weights, minute_misclosure, spoil_length, Rng, CIRCLE};
+use super::{direction_count, inverse_weights, minute_misclosure, set, spoil_length, Rng, CIRCLE};
 use crate::adjustment::{AnswerLengths, ConditionTable};
 
 /// A lent table, and the lengths of the six lists lent for the answer.
@@ -69,7 +69,8 @@ pub fn table_case(rng: &mut Rng) -> TableCase {
     case
 }
 
-fn condition_count(rng: &mut Rng, m: usize) -> usize {
+/// A number of conditions for m directions, the most that they allow among them.
+pub(super) fn condition_count(rng: &mut Rng, m: usize) -> usize {
     let most = m.min(24);
     match rng.below(4) {
         0 => most,
@@ -409,13 +410,6 @@ fn damage_range(rng: &mut Rng, case: &mut TableCase) {
             let value = edge(rng, 1_000_000);
             set(rng, &mut case.w, value);
         }
-    }
-}
-
-fn set(rng: &mut Rng, list: &mut [i64], value: i64) {
-    let index = rng.below(list.len());
-    if let Some(place) = list.get_mut(index) {
-        *place = value;
     }
 }
 

@@ -1,9 +1,9 @@
 //! What the generator reaches, and that nothing panics on what no generator would send.
 
 use super::*;
-use reference::book;
 use reference::census::{self, Replies};
 use reference::generate::Rng;
+use reference::{book, precision};
 
 fn assert_frequent(name: &str, replies: &Replies, numbers: &[i64], cases: usize) {
     for number in numbers {
@@ -34,12 +34,17 @@ fn every_reply_occurs_often() {
     assert_frequent("table", &census.table, &table, cases);
     let network = [0, 1, 2, 3, 4, 5, 6, 7, 8, 9];
     assert_frequent("network", &census.network, &network, cases);
+    assert_frequent("probable error", &census.probable_error, &[0, 2, 3], cases);
+    assert_eq!(census.probable_file, census.network);
     let book = [0, 1, 2, 21, 22, 23, 24, 25, 26];
     assert_frequent("book", &census.book, &book, cases);
     assert_eq!(census.weaknesses.len(), 4);
     assert_eq!(census.line_statuses.len(), 3);
     assert!(census.largest_tables.iter().all(|&count| count > 0));
     assert!(census.largest_networks.iter().all(|&count| count > 0));
+    assert!(census.largest_corrections.iter().all(|&count| count > 0));
+    assert!(census.squares.iter().all(|&count| 50 * count >= cases));
+    assert!(100 * census.halves >= cases);
     assert!(census.book_sizes.iter().all(|&count| count > 0));
     assert!(census.book_lengths.iter().all(|&count| count > 0));
     assert!(census.limits_met.iter().all(|&count| count > 0));
@@ -97,12 +102,15 @@ fn no_input_panics() {
         let _ = adjustment::adjust(&table, adjustment::AnswerLengths::fitting(m, n));
         let _ = adjustment::weakness(&table);
         let _ = adjustment::blunder(&table);
+        let n = rng.pick(&[n, usize::MAX]);
+        let _ = precision::probable_error(&directions, &q, n);
         let fitting = station::AnswerLengths::fitting();
         let _ = station::station_means_i64(&kinds, &values, &d, &i, fitting);
         let bytes: Vec<u8> = (0..rng.below(60))
             .map(|_| rng.range(0, 255) as u8)
             .collect();
         let _ = network::listing(&bytes);
+        let _ = network::probable_listing(&bytes);
         let _ = network::blunder(&bytes);
         let _ = book::listing(&bytes);
         let _ = lines::line(&bytes, rng.below(70));
