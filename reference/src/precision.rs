@@ -52,3 +52,21 @@ fn mean_error(s: i128, n: i128) -> i128 {
     }
     e
 }
+
+#[cfg(test)]
+mod tests {
+    use super::*;
+
+    #[test]
+    fn the_rule_puts_right_what_a_float_rounds() {
+        // Far past any S of a net, where floats no longer tell neighbours apart.
+        for e in [1_000_000_000, (1 << 55) - 5, (1 << 55) + 3] {
+            for n in [1, 24] {
+                let s = e * e * WHOLE * n;
+                assert_eq!(mean_error(s - 1, n), e - 1);
+                assert_eq!(mean_error(s, n), e);
+                assert_eq!(mean_error(s + 1, n), e);
+            }
+        }
+    }
+}

@@ -4,6 +4,7 @@
 mod book;
 mod census;
 mod figures;
+mod precision;
 mod readings;
 mod refusals;
 
