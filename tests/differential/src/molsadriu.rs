@@ -5,6 +5,9 @@ use crate::lent::Lent;
 /// The header's MOLSADRIU_LISTING: bytes that hold the listing of any network file.
 pub const LISTING: usize = 6_560;
 
+/// Bytes that hold the listing of any network file with its E line.
+pub const PROBABLE_LISTING: usize = 6_606;
+
 /// The header's MOLSADRIU_STATION_LISTING: bytes that hold the listing of any sighting book.
 pub const STATION_LISTING: usize = 1_136;
 
@@ -100,6 +103,24 @@ extern "C" {
     ) -> Verdict;
 
     fn molsadriu_adjust_file(
+        file: *const u8,
+        file_length: usize,
+        out: *mut u8,
+        out_room: usize,
+        length: *mut usize,
+    ) -> Verdict;
+
+    fn molsadriu_probable_error(
+        u: *const i64,
+        u_length: usize,
+        q: *const i64,
+        q_length: usize,
+        n: usize,
+        mean: *mut i64,
+        probable: *mut i64,
+    ) -> Verdict;
+
+    fn molsadriu_probable_file(
         file: *const u8,
         file_length: usize,
         out: *mut u8,
@@ -245,6 +266,22 @@ pub fn adjust_table(
     }
 }
 
+/// Lists in the header's order: u, q; then e and the probable error, of just one place each.
+pub fn probable_error(n: usize, [u, q, mean, probable]: &mut [Numbers; 4]) -> Verdict {
+    assert_eq!([mean.length(), probable.length()], [1, 1]);
+    unsafe {
+        molsadriu_probable_error(
+            u.pointer(),
+            u.length(),
+            q.pointer(),
+            q.length(),
+            n,
+            mean.pointer(),
+            probable.pointer(),
+        )
+    }
+}
+
 /// An operation on a file: the file, the buffer for its listing, and the listing's length,
 /// a list of just one place, of 64 bits as a `usize` has.
 pub type OnFile = fn(&mut Lent<u8>, &mut Lent<u8>, &mut Numbers) -> Verdict;
@@ -253,6 +290,19 @@ pub fn adjust_file(file: &mut Lent<u8>, out: &mut Lent<u8>, length: &mut Numbers
     assert_eq!(length.length(), 1);
     unsafe {
         molsadriu_adjust_file(
+            file.pointer(),
+            file.length(),
+            out.pointer(),
+            out.length(),
+            length.pointer().cast(),
+        )
+    }
+}
+
+pub fn probable_file(file: &mut Lent<u8>, out: &mut Lent<u8>, length: &mut Numbers) -> Verdict {
+    assert_eq!(length.length(), 1);
+    unsafe {
+        molsadriu_probable_file(
             file.pointer(),
             file.length(),
             out.pointer(),

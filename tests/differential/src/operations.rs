@@ -7,23 +7,28 @@ use reference::adjustment::{self, AnswerLengths};
 use reference::book;
 use reference::condition::{self, ConditionKind, LentCondition};
 use reference::generate::{
-    book_case, line_case, network_case, station_case, table_case, terms_case, LineCase, Rng,
-    StationCase, TableCase, TermsCase,
+    book_case, line_case, network_case, precision_case, station_case, table_case, terms_case,
+    LineCase, PrecisionCase, Rng, StationCase, TableCase, TermsCase,
 };
 use reference::lines::{self, LineStatus};
 use reference::network;
+use reference::precision;
 use reference::refusal::{refused_line, Refusal};
 use reference::station;
 
 use crate::compare::{Operation, Outcome, Reply};
 use crate::lent::{Lent, Mark};
-use crate::molsadriu::{self, OnFile, Verdict, LISTING, REFUSED_LINE, STATION_LISTING};
+use crate::molsadriu::{
+    self, OnFile, Verdict, LISTING, PROBABLE_LISTING, REFUSED_LINE, STATION_LISTING,
+};
 
 pub struct StationMeans;
 pub struct Coefficients;
 pub struct Misclosure;
 pub struct AdjustTable;
 pub struct AdjustFile;
+pub struct ProbableError;
+pub struct ProbableFile;
 pub struct StationBook;
 pub struct RefusedLine;
 pub struct ListFile;
@@ -331,6 +336,51 @@ impl Operation for AdjustTable {
     }
 }
 
+/// Corrections and inverse weights, and the two numbers for the answer.
+fn precision_lists(drawn: &Drawn<PrecisionCase>) -> [Lent<i64>; 4] {
+    let PrecisionCase { u, q, .. } = &drawn.case;
+    [
+        drawn.holding(u),
+        drawn.holding(q),
+        drawn.blank(1),
+        drawn.blank(1),
+    ]
+}
+
+impl Operation for ProbableError {
+    type Case = Drawn<PrecisionCase>;
+    const NAME: &'static str = "probable error";
+
+    fn draw(rng: &mut Rng) -> Self::Case {
+        let mut case = precision_case(rng);
+        if is_wild(rng) {
+            let most = rng.pick(&[2, 12, 70]);
+            case.u = wild(rng, most);
+            case.q = wild(rng, most);
+            case.n = rng.pick(&[0, 1, 2, most, usize::MAX]);
+        }
+        Drawn::new(case, rng)
+    }
+
+    fn library(drawn: &Self::Case) -> Outcome {
+        let mut lists = precision_lists(drawn);
+        of_verdict(molsadriu::probable_error(drawn.case.n, &mut lists), lists)
+    }
+
+    fn reference(drawn: &Self::Case) -> Outcome {
+        let PrecisionCase { u, q, n } = &drawn.case;
+        let reply = precision::probable_error(u, q, *n);
+        let reply = reply.map(|errors| [[errors.mean], [errors.probable]]);
+        expected(reply, precision_lists(drawn), |[mean, probable]| {
+            vec![mean, probable]
+        })
+    }
+
+    fn reply(outcome: &Outcome) -> Reply {
+        verdict_reply(outcome)
+    }
+}
+
 /// A network file or a sighting book, and the room lent for its listing.
 pub struct FileCase {
     pub file: Vec<u8>,
@@ -362,8 +412,8 @@ fn draw_file(rng: &mut Rng, draw: fn(&mut Rng) -> Vec<u8>, least: usize) -> Draw
     Drawn::new(FileCase { file, room }, rng)
 }
 
-fn draw_net(rng: &mut Rng) -> Drawn<FileCase> {
-    draw_file(rng, |rng| network_case(rng).file, LISTING)
+fn draw_net(rng: &mut Rng, least: usize) -> Drawn<FileCase> {
+    draw_file(rng, |rng| network_case(rng).file, least)
 }
 
 /// Room for an answer that asks `least`: seldom less, seldom more.
@@ -407,7 +457,7 @@ impl Operation for AdjustFile {
     const NAME: &'static str = "adjust file";
 
     fn draw(rng: &mut Rng) -> Self::Case {
-        draw_net(rng)
+        draw_net(rng, LISTING)
     }
 
     fn library(drawn: &Self::Case) -> Outcome {
@@ -417,6 +467,28 @@ impl Operation for AdjustFile {
     fn reference(drawn: &Self::Case) -> Outcome {
         let FileCase { file, room } = &drawn.case;
         expected_of_file(drawn, network::adjust_file(file, *room))
+    }
+
+    fn reply(outcome: &Outcome) -> Reply {
+        verdict_reply(outcome)
+    }
+}
+
+impl Operation for ProbableFile {
+    type Case = Drawn<FileCase>;
+    const NAME: &'static str = "probable file";
+
+    fn draw(rng: &mut Rng) -> Self::Case {
+        draw_net(rng, PROBABLE_LISTING)
+    }
+
+    fn library(drawn: &Self::Case) -> Outcome {
+        of_file(drawn, molsadriu::probable_file)
+    }
+
+    fn reference(drawn: &Self::Case) -> Outcome {
+        let FileCase { file, room } = &drawn.case;
+        expected_of_file(drawn, network::probable_file(file, *room))
     }
 
     fn reply(outcome: &Outcome) -> Reply {
@@ -523,7 +595,7 @@ impl Operation for ListFile {
     const NAME: &'static str = "list file";
 
     fn draw(rng: &mut Rng) -> Self::Case {
-        draw_net(rng)
+        draw_net(rng, LISTING)
     }
 
     fn library(drawn: &Self::Case) -> Outcome {

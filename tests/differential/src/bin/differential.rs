@@ -7,11 +7,11 @@ use std::process::ExitCode;
 
 use differential::compare::{run, show, Operation, Tally};
 use differential::operations::{
-    AdjustFile, AdjustTable, Coefficients, Line, LineStatusAt, ListFile, Misclosure, RefusedLine,
-    StationBook, StationMeans,
+    AdjustFile, AdjustTable, Coefficients, Line, LineStatusAt, ListFile, Misclosure, ProbableError,
+    ProbableFile, RefusedLine, StationBook, StationMeans,
 };
 
-const CASES: u64 = 90_000;
+const CASES: u64 = 75_000;
 const SEED: u64 = 138;
 
 /// An operation's name, the run of its cases, and one case alone.
@@ -42,6 +42,8 @@ fn reply(words: &[&str]) -> Option<bool> {
         row::<Misclosure>(),
         row::<AdjustTable>(),
         row::<AdjustFile>(),
+        row::<ProbableError>(),
+        row::<ProbableFile>(),
         row::<StationBook>(),
         row::<RefusedLine>(),
         row::<ListFile>(),

@@ -11,10 +11,11 @@ use std::time::Instant;
 
 use differential::book::fullest_book;
 use differential::lent::Lent;
-use differential::molsadriu::{self, OnFile, Verdict, LISTING, STATION_LISTING};
+use differential::molsadriu::{self, OnFile, Verdict, LISTING, PROBABLE_LISTING, STATION_LISTING};
 use differential::net::{self, Net};
+use reference::precision::Errors;
 use reference::refusal::Refusal;
-use reference::{adjustment, book, network};
+use reference::{adjustment, book, network, precision};
 
 /// Nets, or books, in rotation. One net over and over would flatter: the processor learns
 /// its branches.
@@ -55,9 +56,14 @@ fn main() -> ExitCode {
         return usage();
     }
     let mut tables: Vec<Table> = nets.iter().map(Table::of).collect();
+    let mut corrections: Vec<Corrections> = nets.iter().map(Corrections::of).collect();
+    // The second reading is lent the same once more: the two are called in turn.
+    let also_lent: Vec<Corrections> = nets.iter().map(Corrections::of).collect();
     let lent_net = |net: &Net| File::of(&net.file, LISTING, molsadriu::adjust_file);
+    let with_errors = |net: &Net| File::of(&net.file, PROBABLE_LISTING, molsadriu::probable_file);
     let lent_book = |book: &Vec<u8>| File::of(book, STATION_LISTING, molsadriu::station_book);
     let mut files: Vec<File> = nets.iter().map(lent_net).collect();
+    let mut probable_files: Vec<File> = nets.iter().map(with_errors).collect();
     let mut lent_books: Vec<File> = books.iter().map(lent_book).collect();
 
     // Both sides are timed on the same work only if they agree on it.
@@ -66,6 +72,13 @@ fn main() -> ExitCode {
         table.agrees(net) && file.agrees(network::adjust_file(&net.file, LISTING))
     }) {
         eprintln!("the two sides do not agree on a net");
+        return ExitCode::FAILURE;
+    }
+    let mut lent = corrections.iter_mut().zip(&mut probable_files).zip(&nets);
+    if !lent.all(|((corrections, file), net)| {
+        corrections.agrees() && file.agrees(network::probable_file(&net.file, PROBABLE_LISTING))
+    }) {
+        eprintln!("the two sides do not agree on the errors of a net");
         return ExitCode::FAILURE;
     }
     let mut lent = lent_books.iter_mut().zip(&books);
@@ -99,6 +112,29 @@ fn main() -> ExitCode {
         },
         |net| {
             let _ = black_box(network::adjust_file(black_box(&nets[net].file), LISTING));
+        },
+    );
+    report(
+        "probable error from the corrections of a net",
+        blocks,
+        repeats,
+        |net| {
+            black_box(black_box(&mut corrections[net]).errors());
+        },
+        |net| {
+            let _ = black_box(black_box(&also_lent[net]).reference_errors());
+        },
+    );
+    report(
+        "the same network files, listed with the E line",
+        blocks,
+        repeats,
+        |net| {
+            black_box(black_box(&mut probable_files[net]).list());
+        },
+        |net| {
+            let file = black_box(&nets[net].file);
+            let _ = black_box(network::probable_file(file, PROBABLE_LISTING));
         },
     );
     let bytes: usize = books.iter().map(Vec::len).sum();
@@ -171,6 +207,51 @@ impl Table {
     }
 }
 
+/// A net's printed corrections and inverse weights as they are lent to the library, with
+/// the two numbers for the answer.
+struct Corrections {
+    lists: [Lent<i64>; 4],
+    n: usize,
+}
+
+impl Corrections {
+    /// All nets here are accepted; a net that is not would have no corrections.
+    fn of(net: &Net) -> Self {
+        let table = &net.table;
+        let adjusted = adjustment::adjust(&table.table(), table.lengths);
+        let u = adjusted.map_or(Vec::new(), |all| all.u);
+        Corrections {
+            lists: [
+                Lent::holding(&u),
+                Lent::holding(&table.q),
+                Lent::blank(1),
+                Lent::blank(1),
+            ],
+            n: table.w.len(),
+        }
+    }
+
+    fn errors(&mut self) -> Verdict {
+        molsadriu::probable_error(self.n, &mut self.lists)
+    }
+
+    fn reference_errors(&self) -> Result<Errors, Refusal> {
+        let [u, q, ..] = &self.lists;
+        precision::probable_error(u.list(), q.list(), self.n)
+    }
+
+    /// Whether both sides accept the corrections and give the same errors.
+    fn agrees(&mut self) -> bool {
+        let verdict = self.errors();
+        let [_, _, mean, probable] = &self.lists;
+        self.reference_errors().is_ok_and(|errors| {
+            verdict == ACCEPTED
+                && mean.list() == [errors.mean]
+                && probable.list() == [errors.probable]
+        })
+    }
+}
+
 /// A file as it is lent to an operation of the library, with what its listing goes into.
 struct File {
     bytes: Lent<u8>,
@@ -232,11 +313,11 @@ fn report(
     }
     let [(least, middle), (other_least, other_middle)] = all.map(least_and_median);
     println!(
-        "  least:  library {least:.1}, reference {other_least:.1}, reference / library {:.2}",
+        "  least:  library {least:.2}, reference {other_least:.2}, reference / library {:.2}",
         other_least / least
     );
     println!(
-        "  median: library {middle:.1}, reference {other_middle:.1}, reference / library {:.2}",
+        "  median: library {middle:.2}, reference {other_middle:.2}, reference / library {:.2}",
         other_middle / middle
     );
 }
