@@ -69,7 +69,7 @@ fn lone_direction(rng: &mut Rng) -> PrecisionCase {
     }
 }
 
-/// S is e*e*2,520*n, or mostly one less or one more.
+/// S is e*e*2,520*n or next to it, mostly one less or one more.
 fn next_to_a_square(rng: &mut Rng) -> PrecisionCase {
     let n = rng.pick(&[1, 1, 2, 3, 7, 12, 23, 24]);
     let most = (MOST_SQUARES as f64 / n as f64).sqrt() as i64;
