@@ -1,5 +1,5 @@
-/* Adjusts a network file and prints its listing; then adjusts one small condition table that is lent as lists. Status 1 where one of
- * them is refused. */
+/* Adjusts a network file and prints its listing; then adjusts one small condition table that is lent as lists, and prints its corrections
+ * and the errors of a direction. Status 1 where one of them is refused. */
 #include <inttypes.h>
 #include <stdio.h>
 
@@ -40,15 +40,17 @@ static int adjust_table(void)
     const int64_t q[3] = {1, 1, 1};
     const int64_t a[3] = {-306, 694, -1058};
     const int64_t w[1] = {-79200};
-    int64_t v[3], u[3], adjusted[3], correlates[1], remainders[1], misses[1];
+    int64_t v[3], u[3], adjusted[3], correlates[1], remainders[1], misses[1], mean, probable;
     molsadriu_verdict verdict = molsadriu_adjust_table(
         directions, 3, q, 3, a, 3, w, 1,
         v, 3, u, 3, adjusted, 3, correlates, 1, remainders, 1, misses, 1);
+    if (verdict.number == 0) verdict = molsadriu_probable_error(u, 3, q, 3, 1, &mean, &probable);
     if (verdict.number != 0) {
         printf("refused: %" PRIu64 " at %" PRIu64 "\n", verdict.number, verdict.place);
         return 1;
     }
     printf("u = %" PRId64 ", %" PRId64 ", %" PRId64 "\n", u[0], u[1], u[2]);
+    printf("mean error %" PRId64 ", probable error %" PRId64 "\n", mean, probable);
     return 0;
 }
 

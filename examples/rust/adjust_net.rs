@@ -1,5 +1,5 @@
-//! Adjusts a network file and prints its listing; then adjusts one small condition table that is lent as lists. Status 1 where one of
-//! them is refused.
+//! Adjusts a network file and prints its listing; then adjusts one small condition table that is lent as lists, and prints its corrections
+//! and the errors of a direction. Status 1 where one of them is refused.
 use std::io::Write;
 use std::process::ExitCode;
 
@@ -45,6 +45,15 @@ mod molsadriu {
             remainders_room: usize,
             misses: *mut i64,
             misses_room: usize,
+        ) -> Verdict;
+        fn molsadriu_probable_error(
+            u: *const i64,
+            u_length: usize,
+            q: *const i64,
+            q_length: usize,
+            n: usize,
+            mean: *mut i64,
+            probable: *mut i64,
         ) -> Verdict;
     }
 
@@ -120,6 +129,20 @@ mod molsadriu {
             Err(verdict)
         }
     }
+
+    /// The mean and the probable error of a direction, or the verdict that refuses them.
+    pub fn probable_error(u: &[i64], q: &[i64], n: usize) -> Result<(i64, i64), Verdict> {
+        let (mut mean, mut probable) = (0, 0);
+        // Sound, as above.
+        let verdict = unsafe {
+            molsadriu_probable_error(u.as_ptr(), u.len(), q.as_ptr(), q.len(), n, &mut mean, &mut probable)
+        };
+        if verdict.number == 0 {
+            Ok((mean, probable))
+        } else {
+            Err(verdict)
+        }
+    }
 }
 
 fn main() -> ExitCode {
@@ -149,16 +172,22 @@ fn main() -> ExitCode {
         return ExitCode::FAILURE;
     }
 
-    // Three directions and one condition between them.
-    match molsadriu::adjust_table(&[0, 0, 0], &[1, 1, 1], &[-306, 694, -1058], &[-79_200]) {
-        Ok(answers) => {
-            let u: Vec<String> = answers.printed.iter().map(i64::to_string).collect();
-            println!("u = {}", u.join(", "));
-            ExitCode::SUCCESS
-        }
+    match adjust_table() {
+        Ok(()) => ExitCode::SUCCESS,
         Err(verdict) => {
             println!("refused: {} at {}", verdict.number, verdict.place);
             ExitCode::FAILURE
         }
     }
+}
+
+/// Three directions and one condition between them.
+fn adjust_table() -> Result<(), molsadriu::Verdict> {
+    let q = [1, 1, 1];
+    let answers = molsadriu::adjust_table(&[0, 0, 0], &q, &[-306, 694, -1058], &[-79_200])?;
+    let u: Vec<String> = answers.printed.iter().map(i64::to_string).collect();
+    println!("u = {}", u.join(", "));
+    let (mean, probable) = molsadriu::probable_error(&answers.printed, &q, 1)?;
+    println!("mean error {mean}, probable error {probable}");
+    Ok(())
 }

@@ -339,6 +339,14 @@ static void precision(void)
     conditions = 1;
     errors_are(same, 4, 3);
     give_back(l, 2);
+    /* the adopted v of Special Publication 138, page 127: 24 angles, 12 conditions, "1.8" seconds (examples/README.md) */
+    static int64_t v[24] = {-100, 800, 1600, -400, 1800, 1300, -1100, 700, 300, -900, 100, -200,
+                            -3000, -300, -2100, -2400, 300, -800, -2400, 2500, 0, -6400, 1800, 1300};
+    static int64_t ones[24];
+    for (size_t j = 0; j < 24; j++) ones[j] = 1;
+    const list angles[2] = {{v, 24, {0}}, {ones, 24, {0}}};
+    conditions = 12;
+    errors_are(angles, 2720, 1835);
     /* the counts of directions and of conditions; the largest errors */
     directions_alike(0, 1, 0, 2, 0, 0);
     directions_alike(1, 1, 0, 0, 0, 0);
