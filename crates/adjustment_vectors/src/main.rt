@@ -2,21 +2,10 @@
 // numbers past a file's eleven digits. It prints the reply and the six answer lists as they are left (they held 7 everywhere): of an accepted table
 // the unrounded corrections with them, which no listing has. What it must print was worked out apart from it. What a file can say is run by `figures`.
 ghost use Prim.Native.Nat.{_≤_};
-use reply::Reply;
 
 const LEAST: i64 = -9_223_372_036_854_775_808;
 
 const MOST: i64 = 9_223_372_036_854_775_807;
-
-fn tell(reply: Reply) {
-    match reply {
-        Reply::Accepted => vectors::text(b": accepted"),
-        Reply::Refused(why) => {
-            vectors::text(b":");
-            vectors::refusal(why);
-        }
-    }
-}
 
 fn numbers(xs: &[i64]) {
     vectors::text(b";");
@@ -48,7 +37,8 @@ fn show(
         remainders,
         misses,
     );
-    tell(reply);
+    vectors::text(b": ");
+    vectors::told(reply);
     numbers(corrections);
     numbers(printed);
     numbers(adjusted);

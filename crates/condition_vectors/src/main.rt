@@ -3,7 +3,6 @@
 // 7 everywhere), then the misclosure. What it must print was worked out apart from it. What a file can say is run by `figures`.
 use condition::Kind;
 use reply::Figure;
-use reply::Reply;
 ghost use Prim.Native.Nat.{_≤_};
 
 const LEAST: i64 = -9_223_372_036_854_775_808;
@@ -29,21 +28,13 @@ fn print_kind(kind: Kind) {
     }
 }
 
-fn tell(reply: Reply) {
-    match reply {
-        Reply::Accepted => vectors::text(b": accepted:"),
-        Reply::Refused(why) => {
-            vectors::text(b":");
-            vectors::refusal(why);
-            vectors::text(b":");
-        }
-    }
-}
-
 fn tell_misclosure(w: Figure) {
     match w {
         Figure::Value(v) => vectors::signed(v),
-        Figure::Refused(why) => vectors::refusal(why),
+        Figure::Refused(why) => {
+            vectors::text(b" ");
+            vectors::refusal(why);
+        }
     }
 }
 
@@ -60,7 +51,9 @@ fn show(
     k: &[i64],
     a: &mut [i64],
 ) {
-    tell(condition::coefficients(directions, q, kind, target, kinds, values, d, i, k, a));
+    vectors::text(b": ");
+    vectors::told(condition::coefficients(directions, q, kind, target, kinds, values, d, i, k, a));
+    vectors::text(b":");
     vectors::list(a);
     vectors::text(b"; w");
     tell_misclosure(condition::misclosure(directions, q, kind, target, kinds, values, d, i, k));

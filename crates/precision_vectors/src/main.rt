@@ -2,7 +2,6 @@
 // corrections that no adjustment gives. It prints the reply and the two lent numbers as they are left, which held 7 and 8. What it must print
 // was worked out apart from it. What a file can say is run by `cards`.
 ghost use Prim.Native.Nat.{_≤_};
-use reply::Reply;
 
 const LEAST: i64 = -9_223_372_036_854_775_808;
 
@@ -10,23 +9,14 @@ const MOST: i64 = 9_223_372_036_854_775_807;
 
 const MINUTE: i64 = 60_000;
 
-fn tell(reply: Reply) {
-    match reply {
-        Reply::Accepted => vectors::text(b": accepted;"),
-        Reply::Refused(why) => {
-            vectors::text(b":");
-            vectors::refusal(why);
-            vectors::text(b";");
-        }
-    }
-}
-
 // The reply, and what the two lent numbers hold.
 fn show(u: &[i64], q: &[i64], n: usize) {
     let mut mean: i64 = 7;
     let mut probable: i64 = 8;
     let reply = precision::probable_error(u, q, n, &mut mean, &mut probable);
-    tell(reply);
+    vectors::text(b": ");
+    vectors::told(reply);
+    vectors::text(b";");
     vectors::signed(mean);
     vectors::signed(probable);
     vectors::text(b"\n");

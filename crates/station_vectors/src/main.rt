@@ -1,22 +1,11 @@
 // Lends `station::means` what no sighting book can say: lists of unequal length, answer lists of another length than 16, and fields past a file's
 // eleven digits. It prints the reply and the answer lists as they are left, which held 7 everywhere: a refusal changes neither, and an answer fills
 // the 16 places of both, with 0 and 0 for an object never seen. What it must print was worked out apart from it. What a book can say is run by `books`.
-use reply::Reply;
 ghost use Prim.Native.Nat.{_≤_};
 
 const LEAST: i64 = -9_223_372_036_854_775_808;
 
 const MOST: i64 = 9_223_372_036_854_775_807;
-
-fn tell(reply: Reply) {
-    match reply {
-        Reply::Accepted => vectors::text(b"accepted"),
-        Reply::Refused(why) => {
-            vectors::text(b"refused");
-            vectors::number_and_place(why);
-        }
-    }
-}
 
 // An answer list, with the places behind what was lent of it.
 fn numbers(xs: &[i64; 17]) {
@@ -54,7 +43,7 @@ fn lend(
         &mut direction[..directions],
         &mut pairs[..counts],
     );
-    tell(reply);
+    vectors::told(reply);
     numbers(&direction);
     numbers(&pairs);
     vectors::text(b"\n");

@@ -1,6 +1,7 @@
-// What the programs that run vectors print with: words, numbers, lists and refusals.
+// What the programs that run vectors print with: words, numbers, lists and replies.
 use libc::STDOUT_FILENO;
 use reply::Refusal;
+use reply::Reply;
 
 pub fn text(words: &[u8]) {
     io::write_all(STDOUT_FILENO, words);
@@ -35,7 +36,7 @@ pub fn list(xs: &[i64]) {
 }
 
 // The number and the place of a refusal, each after a blank.
-pub fn number_and_place(why: Refusal) {
+fn number_and_place(why: Refusal) {
     text(b" ");
     natural(reply::number(why));
     text(b" ");
@@ -43,6 +44,13 @@ pub fn number_and_place(why: Refusal) {
 }
 
 pub fn refusal(why: Refusal) {
-    text(b" refused");
+    text(b"refused");
     number_and_place(why);
+}
+
+pub fn told(reply: Reply) {
+    match reply {
+        Reply::Accepted => text(b"accepted"),
+        Reply::Refused(why) => refusal(why),
+    }
 }

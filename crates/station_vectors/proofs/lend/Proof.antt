@@ -45,8 +45,8 @@ slice-aggregate-means-6 c = sym (length-take-le _ _ (omega arith))
 means-requires : tie.Need-means-requires
 means-requires c κs = search needs
 
-tell-requires : tie.Need-tell-requires
-tell-requires c κs = search needs
+told-requires : tie.Need-told-requires
+told-requires c κs = search needs
 
 numbers-requires : tie.Need-numbers-requires
 numbers-requires c κs = search needs
@@ -80,7 +80,7 @@ lend-spec =
     array-borrow-prefix-pairs
     slice-aggregate-means-6
     means-requires
-    tell-requires
+    told-requires
     numbers-requires
     numbers-requires-2
     slice-aggregate-text
