@@ -2,10 +2,8 @@
 --   table-admitted       its u, q and n are never refused: every accepted table has its errors
 --   table-mean-error     its mean error, by demand 3's weighted sum of the printed corrections
 use mathlib.Core.Path.{_≡_, refl, sym, _∙_, ap, subst}
-use mathlib.Core.Bool.{_||_, not}
 use mathlib.Core.List.{List}
-use Prim.Native.Nat.{ℕ, _+_, _≤_, _<_}
-use native.Mathlib.Omega.{arith}
+use Prim.Native.Nat.{ℕ, _+_, _<_}
 use borrow.Author.Tests.{le-ltb, eq-eqb}
 use lib.ListN.{length}
 use lib.IntN.{ℤ, pos, natAbs}
@@ -23,7 +21,7 @@ use Rattle.adjustment.proofs.Promising.{accepted-counts, accepted-weights, acce
 use Rattle.precision.specs.Errors.{S, S-of, meanError, errorsOf}
 use Rattle.precision.specs.Promise.{outOfRangeAt, errorsReply, MeanError}
 use Rattle.precision.proofs.Squaring.{S-from-0, S-ext, S-weighted}
-use Rattle.precision.proofs.Admitting.{Admitted, admitted}
+use Rattle.precision.proofs.Admitting.{admitted}
 use Rattle.precision.proofs.Meaning.{mean-error}
 
 module _ (ds qs cs ws : List ℤ) (lent : Answers) (e : adjustReply ds qs cs ws lent ≡ Accepted) where

@@ -1,11 +1,11 @@
 -- What the checks of lent lists leave known where they accept. Assumes nothing.
 --   Admitted, admitted     counts, lengths and ranges
-use mathlib.Core.Path.{_≡_, sym, _∙_}
-use mathlib.Core.Bool.{Bool, false, _||_, not}
+use mathlib.Core.Path.{_≡_}
+use mathlib.Core.Bool.{false, _||_, not}
 use mathlib.Core.List.{List, [], _∷_}
 use Prim.Native.Nat.{ℕ, _+_, _≤_, _<_}
 use native.Mathlib.Omega.{arith}
-use borrow.Author.Tests.{ltb-false, le-ltb, eqb-true, eq-eqb, not-false}
+use borrow.Author.Tests.{ltb-false, eqb-true, not-false}
 use lib.Dec.{eqb}
 use lib.ListN.{length}
 use lib.IntN.{ℤ, pos, natAbs}
@@ -15,7 +15,7 @@ use Rattle.exact.proofs.Searching.{neither}
 use Rattle.reply.specs.declared.Refusal.the-variants.{Count, OutOfRange}
 use Rattle.reply.specs.declared.Reply.the-variants.{Accepted}
 use Rattle.reply.specs.Checks.{refuseIf}
-use Rattle.reply.proofs.Checking.{both-accepted, if-accepted, none-refused, refuse-none}
+use Rattle.reply.proofs.Checking.{both-accepted, if-accepted, none-refused}
 use Rattle.direction.specs.Ranges.{weightOutOfRange}
 use Rattle.doolittle.specs.Table.{at}
 use Rattle.adjustment.specs.Refusals.{countsAmiss, pastMinute}

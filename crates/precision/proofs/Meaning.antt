@@ -3,12 +3,12 @@
 --   mean-found               a number that has both, by computation, is the mean error
 --   one-mean                 two numbers that are the mean error of one S and n are equal
 --   mean-0, only-mean-0      it is 0 where S is below 2,520*n, and nowhere else
-use mathlib.Core.Path.{_≡_, refl, sym, _∙_, ap, subst}
-use Prim.Native.Nat.{ℕ, _+_, _*_, _≤_, _<_, zero-le}
+use mathlib.Core.Path.{_≡_, sym, ap, subst}
+use Prim.Native.Nat.{ℕ, _+_, _*_, _<_, zero-le}
 use native.Mathlib.Nat.{one-mul, zero-mul}
 use native.Mathlib.Omega.{arith}
 use lib.Dec.{T, leb, ltb, le→leb, leb→le, lt→ltb, ltb→lt}
-use lib.IntN.{ℤ, pos, negsuc, natAbs, _+ℤ_, _*ℤ_}
+use lib.IntN.{ℤ, pos, negsuc, _+ℤ_}
 use lib.Signed.{_≤ℤ_, _<ℤ_}
 use Rattle.precision.specs.Errors.{root, meanError}
 use Rattle.precision.specs.Promise.{square, MeanError}

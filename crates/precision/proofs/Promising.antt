@@ -21,8 +21,8 @@ use Rattle.reply.proofs.Checking.{never}
 use Rattle.doolittle.specs.Table.{at}
 use Rattle.adjustment.specs.Refusals.{countsAmiss}
 use Rattle.precision.specs.declared.Errors.{Errors}
-use Rattle.precision.specs.Errors.{S-of, meanError, errorsOf}
-use Rattle.precision.specs.Promise.{rangesReply, errorsReply, MeanError, TellsErrors}
+use Rattle.precision.specs.Errors.{S-of, errorsOf}
+use Rattle.precision.specs.Promise.{rangesReply, errorsReply, TellsErrors}
 use Rattle.precision.proofs.Squaring.{S-from-0}
 use Rattle.precision.proofs.Admitting.{admitted}
 use Rattle.precision.proofs.Meaning.{mean-error}

@@ -4,16 +4,15 @@
 --   S-none, S-more           of no directions, and of one more
 --   S-from-0                 S is not below 0
 --   S-weighted               S is demand 3's weighted sum of the same corrections
---   S-ext, S-reversed        S reads the numbers of the m directions alone, and not their signs
-use mathlib.Core.Path.{_≡_, refl, sym, _∙_, ap, ap₂}
-use Prim.Native.Nat.{ℕ, zero, suc, _+_, _*_, _/_, _≤_, _<_, zero-le}
+--   S-ext                    S reads the q and the sizes of u of the m directions alone
+use mathlib.Core.Path.{_≡_, refl, _∙_, ap, ap₂}
+use Prim.Native.Nat.{ℕ, _+_, _*_, _/_, _≤_, _<_, zero-le}
 use native.Mathlib.Nat.{le-refl, le-trans, div-le-self, mul-div-cancel-left}
 use native.Mathlib.Omega.{arith}
 use lib.Dec.{le→leb}
-use lib.IntN.{ℤ, pos, negsuc, negℤ, natAbs, _+ℤ_, _*ℤ_}
+use lib.IntN.{ℤ, pos, negsuc, natAbs, _+ℤ_, _*ℤ_}
 use lib.Signed.{_≤ℤ_}
-use Rattle.exact.specs.Sum.{sum}
-use Rattle.exact.proofs.Bound.{abs-neg, mul-le}
+use Rattle.exact.proofs.Bound.{mul-le}
 use Rattle.exact.proofs.Sum.{sum-none, sum-more, sum-ext, sum-nonneg}
 use Rattle.exact.proofs.Weights.{weight-exact}
 use Rattle.doolittle.specs.Table.{Table}

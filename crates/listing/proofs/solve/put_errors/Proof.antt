@@ -6,10 +6,9 @@ use native.Mathlib.Omega.{arith}
 use borrow.Author.Needs.{needs}
 use denote.Ref.{now}
 use lib.ListN.{length}
-use lib.IntN.{ℤ}
 use Rattle.exact.proofs.Bound.{read-at}
 use Rattle.precision.specs.declared.Errors.{Errors}
-use Rattle.precision.specs.Errors.{errors, errorsOf}
+use Rattle.precision.specs.Errors.{errors}
 use Rattle.text.specs.Written.{Wrote}
 use Rattle.text.proofs.Putting.{rewrote}
 use Rattle.listing.specs.declared.Sheet.{Sheet}
