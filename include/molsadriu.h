@@ -46,7 +46,7 @@ typedef char molsadriu_lengths_have_64_bits[sizeof(size_t) == 8 ? 1 : -1];
 #define MOLSADRIU_CONDITIONS 24         /* most conditions, n; also not above m */
 #define MOLSADRIU_TERMS 12              /* most terms of a condition */
 #define MOLSADRIU_FILE 65535            /* most bytes of a file, network file or sighting book */
-#define MOLSADRIU_LISTING 6560          /* bytes that hold the listing of any network file */
+#define MOLSADRIU_LISTING 6560          /* bytes that hold the listing of any network file, without an E line */
 #define MOLSADRIU_PROBABLE_LISTING 6606 /* bytes that hold the listing of any network file with its E line */
 #define MOLSADRIU_STATION_LISTING 1136  /* bytes that hold the listing of any sighting book */
 #define MOLSADRIU_REFUSED_LINE 52       /* bytes that hold any REFUSED line */
@@ -184,7 +184,7 @@ molsadriu_verdict molsadriu_adjust_file(
 /* Mean error and probable error of a direction, from the corrections of an adjustment. In: the printed corrections u of directions 1 to m
  * (m from 1 to 64; each -60,000 to 60,000), their inverse weights q (1 to 10; m of them), and n, how many conditions were adjusted (1 to
  * 24, and not above m). With S, the sum of 2,520*u*u/q, the mean error is the largest whole e with e*e*2,520*n not above S, and the
- * probable error is the nearest whole number to 6,745*e / 10,000, halves upward.
+ * probable error is the nearest whole number to 6,745*e / 10,000, halves away from zero.
  * Out: e in the one number at `mean`, the probable error in the one at `probable`; neither may be null.
  * Comes back: the verdict, 2 or 3 where it refuses, and then both numbers stay as they were. 2 at 0 is for counts and lengths;
  * then 3 goes by direction number, u and q together, also for a u past one minute, which is 9 only in an adjustment. */
@@ -195,8 +195,8 @@ molsadriu_verdict molsadriu_probable_error(
     int64_t *mean, int64_t *probable);
 
 /* Adjusts a network file, with the E line at the end of its listing. In, out and comes back: all as of molsadriu_adjust_file, and the same
- * verdict, but that the room must be MOLSADRIU_PROBABLE_LISTING: a smaller one is 2 at 0 before all else. A file that is refused has no
- * E line. */
+ * verdict, but that the room must be at least MOLSADRIU_PROBABLE_LISTING: a smaller one is 2 at 0 before all else. A file that is refused
+ * has no E line. */
 molsadriu_verdict molsadriu_probable_file(
     const uint8_t *file, size_t file_length,
     uint8_t *out, size_t out_room,

@@ -354,7 +354,7 @@ static void precision(void)
     directions_alike(MOLSADRIU_DIRECTIONS, MOLSADRIU_CONDITIONS, -60000, 0, 97979, 66087);
     directions_alike(MOLSADRIU_DIRECTIONS, MOLSADRIU_CONDITIONS + 1, 0, 2, 0, 0);
     directions_alike(MOLSADRIU_DIRECTIONS + 1, 1, 0, 2, 0, 0);
-    /* a half goes upward */
+    /* a half goes away from zero */
     directions_alike(1, 1, -1000, 0, 1000, 675);
 }
 

@@ -133,7 +133,7 @@ module _ (ds qs cs ws : List ℤ) (lent : Answers) where
         neither (outside (pos 0) (C -ℤ pos 1) (at ds i)) (weightOutOfRange (t .q i))
         (none-refused (length ds) (faultAt ds qs) (λ i. OutOfRange (i + 1)) (ranged .0) i (subst (λ (m : ℕ). i < m) (lengths-sound .of-q) l)) .1
 
-    pub accepted-sound : Sound qs cs ws
+    accepted-sound : Sound qs cs ws
     accepted-sound = sound-table ds qs cs ws (counts-known (length ds) (length ws) counts-sound) (lengths-sound .of-q) (lengths-sound .of-a) (ranged .0) (ranged .1)
 
     pub accepted-demand3 : Demand3 t (V-of t (K t)) (u-of t (K t)) (R-of t (K t)) (Q-of t (K t))

@@ -49,11 +49,11 @@ correlatesReply t = refuseFirst (t .n) (λ b. ltb 100000000 (natAbs (K t (t .n -
 unfoldable pub remaindersReply : Table → (ℕ → ℤ) → Reply
 remaindersReply t k = refuseFirst (t .n) (λ j. ltb 50000000 (natAbs (R-of t k j))) (λ j. Remainder (j + 1))
 
--- "A correction past one minute is a blunder": "any printed correction above 60,000 in size"
+-- "A correction past one minute is a blunder. [..] Any printed correction above 60,000 in size refuses the whole adjustment."
 abbrev pub pastMinute : ℤ → Bool
 pastMinute u = ltb 60000 (natAbs u)
 
--- 9 by direction: such a correction "refuses the whole adjustment", "9, place the lowest direction number concerned, tested after 8"
+-- 9 by direction: "9, place the lowest direction number concerned, tested after 8"
 unfoldable pub correctionsReply : Table → (ℕ → ℤ) → Reply
 correctionsReply t k = refuseFirst (t .m) (λ i. pastMinute (u-of t k i)) (λ i. Correction (i + 1))
 

@@ -1,6 +1,6 @@
 // Adjustment of a condition table: the one public operation, `adjust`. It checks the lent table, solves it, and only then writes the lent answer lists.
 mod correct;
-pub mod table;
+mod table;
 
 ghost use mathlib.Core.Path.{_≡_};
 ghost use Prim.Native.Nat.{_≤_};
@@ -8,7 +8,7 @@ ghost use lib.ListN.{length};
 ghost use Rattle.reply.specs.declared.Reply.the-variants.{Accepted};
 ghost use Rattle.doolittle.specs.Table.{at, tableOf};
 ghost use Rattle.doolittle.specs.Solution.{K};
-ghost use Rattle.adjustment.specs.Refusals.{solutionReply};
+ghost use Rattle.adjustment.specs.Refusals.{countsAmiss, solutionReply};
 ghost use Rattle.adjustment.specs.Promise.{Adjusts, lists, answersOf};
 ghost use Rattle.doolittle.specs.Inner.{Small, Sound};
 ghost use Rattle.adjustment.specs.Inner.{Solved};
@@ -17,6 +17,25 @@ use reply::Reply;
 
 // The largest printed correction that is no blunder, one minute.
 pub const MINUTE: u64 = 60000;
+
+// Directions: 1 to 64. Conditions: 1 to 24, and not more than directions.
+pub fn counts_amiss(m: usize, n: usize) -> bool
+    ensures { λ r. ⌜ r ≡ countsAmiss m n ⌝ }
+{
+    if m < 1 {
+        return true;
+    }
+    if 64 < m {
+        return true;
+    }
+    if n < 1 {
+        return true;
+    }
+    if 24 < n {
+        return true;
+    }
+    m < n
+}
 
 // The correlates, corrections and remainders of a table that is accepted.
 struct Solution {
@@ -133,7 +152,7 @@ pub fn adjust(
 {
     let m = directions.len();
     let n = w.len();
-    if table::counts_amiss(m, n) {
+    if counts_amiss(m, n) {
         return Reply::Refused(Refusal::Count(0));
     }
     if table::lengths_amiss(

@@ -1,4 +1,4 @@
-// The input checks of a lent condition table, in their order: 2 for counts and lengths, 3 by direction, 4 and 5 by condition.
+// Input checks of a lent condition table: 2 for lengths, 4 and 5 by condition. (2 for counts is in `lib`, 3 by direction in `direction`.)
 ghost use mathlib.Core.Path.{_≡_};
 ghost use Prim.Native.Nat.{_+_, _*_, _≤_};
 ghost use lib.ListN.{length, getD};
@@ -6,28 +6,9 @@ ghost use lib.IntN.{pos, natAbs};
 ghost use lib.Dec.{ltb};
 ghost use Rattle.exact.specs.First.{some-below};
 ghost use Rattle.doolittle.specs.Table.{tableOf};
-ghost use Rattle.adjustment.specs.Refusals.{countsAmiss, differs, lengthsAmiss, conditionsReply};
+ghost use Rattle.adjustment.specs.Refusals.{differs, lengthsAmiss, conditionsReply};
 use reply::Refusal;
 use reply::Reply;
-
-// Directions: 1 to 64. Conditions: 1 to 24, and not more than directions.
-pub fn counts_amiss(m: usize, n: usize) -> bool
-    ensures { λ r. ⌜ r ≡ countsAmiss m n ⌝ }
-{
-    if m < 1 {
-        return true;
-    }
-    if 64 < m {
-        return true;
-    }
-    if n < 1 {
-        return true;
-    }
-    if 24 < n {
-        return true;
-    }
-    m < n
-}
 
 // One of three lengths is not what it should be.
 fn differ(count: usize, x: usize, y: usize, z: usize) -> bool

@@ -35,7 +35,7 @@ use Rattle.text.specs.Written.{inOrder}
 use Rattle.page.specs.Page.{printed}
 use Rattle.listing.specs.declared.Sheet.the-variants.{Plain, WithErrors}
 use Rattle.listing.specs.Listing.{eLine, onSheet}
-use Rattle.listing.specs.File.{tableIn, room, netReply, netAnswers, fileReply, answersListing, answersErrors, netListing, listingOf}
+use Rattle.listing.specs.File.{tableIn, room, netReply, netAnswers, fileReply, answersListing, answersErrors, answersOn, netListing, listingOf}
 
 -- figure 3, "Case 3 input to the adjusting program". Each byte by its number; a blank stands for a tab, and | for an LF:
 -- D 1 216000000 1|D 2 216003000 1|D 3 215997000 1|C A 648000000|P 0 1|P 0 2|F 216000000|C A 648000000|P 0 2|P 0 3|F 216000000|
@@ -72,5 +72,5 @@ abbrev pub errors-line : List ℕ
 errors-line = 69 ∷ 9 ∷ 49 ∷ 55 ∷ 51 ∷ 50 ∷ 9 ∷ 49 ∷ 49 ∷ 54 ∷ 56 ∷ 10 ∷ []
 
 pub figure-3 : (fileReply file ≡ Accepted) × (listingOf Plain file ≡ listing) × (listingOf WithErrors file ≡ listing ++ errors-line)
-unfolding floor modulo first nearest sum tabulate directionsReply kindOf share angle part directionsMiscounted termsMiscounted inTurn termsCheck checks coefficient coefficientsReply coefficientsList misclosure misclosureFigure N reduced D L M weakRow weak back K V-of R-of u-of adjusted-of Q-of countsAmiss differs lengthsAmiss coefficientFault misclosureFault tableReply rowsReply correlatesReply remaindersReply correctionsReply solutionReply inputReply adjustReply onFirst parted linesOf fieldsOf fieldAt letterOf readDigits unsignedOf plus minus numeral digits digitsOf written with directionLine anglesLine sidesLine conditionLine angleLine fixedLine sideLine lineOf recordOf termFault same belongs outOfTurn oneTooMany directionReply anglesReply sidesReply termReply lineReply counted endFault endReply scanned scanReply lineBefore netOf refusedAs figureValue zeros lentOf conditionReply formedReply rowOf misclosureOf rowsOf misclosuresOf tableIn room netReply netAnswers fileReply inOrder answersListing netListing answersErrors S probableError errorsOf onSheet printed listingOf
+unfolding floor modulo first nearest sum tabulate directionsReply kindOf share angle part directionsMiscounted termsMiscounted inTurn termsCheck checks coefficient coefficientsReply coefficientsList misclosure misclosureFigure N reduced D L M weakRow weak back K V-of R-of u-of adjusted-of Q-of countsAmiss differs lengthsAmiss coefficientFault misclosureFault tableReply rowsReply correlatesReply remaindersReply correctionsReply solutionReply inputReply adjustReply onFirst parted linesOf fieldsOf fieldAt letterOf readDigits unsignedOf plus minus numeral digits digitsOf written with directionLine anglesLine sidesLine conditionLine angleLine fixedLine sideLine lineOf recordOf termFault same belongs outOfTurn oneTooMany directionReply anglesReply sidesReply termReply lineReply counted endFault endReply scanned scanReply lineBefore netOf refusedAs figureValue zeros lentOf conditionReply formedReply rowOf misclosureOf rowsOf misclosuresOf tableIn room netReply netAnswers fileReply inOrder answersListing netListing answersErrors answersOn S probableError errorsOf onSheet printed listingOf
 figure-3 = (refl, refl, ap (λ (e : ℤ). listing ++ eLine e (probableError e)) (mean-found 2 15120000000 1732 (omega arith) tt tt))

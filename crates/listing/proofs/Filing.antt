@@ -39,7 +39,7 @@ use Rattle.network.proofs.Bounding.{scan-bounds}
 use Rattle.network.proofs.Passing.{file-passed}
 use Rattle.listing.specs.declared.Sheet.{Sheet}
 use Rattle.listing.specs.Listing.{roomOf}
-use Rattle.listing.specs.File.{tableIn, room, netReply, netAnswers, fileReply, answersListing, answersErrors, tableListing, netListing, fileListing, FileDemand3, FileWithinMinute, FileMeanError, adjustFileReply, AdjustsFile, listingOf, listingIn}
+use Rattle.listing.specs.File.{tableIn, room, netReply, netAnswers, fileReply, answersListing, answersErrors, answersOn, tableListing, netListing, fileListing, FileDemand3, FileWithinMinute, FileMeanError, adjustFileReply, AdjustsFile, listingOf, listingIn}
 use Rattle.listing.proofs.Composing.{plain-fits, sheet-most}
 use Rattle.listing.proofs.Tabling.{answers-errors, misclosures-length, file-refused, file-reply, file-listing, answers-most}
 
@@ -95,7 +95,7 @@ module _ (file : List ℕ) where
 
   module _ (sheet : Sheet) where
     pub file-most : fileReply file ≡ Accepted → length (fileListing sheet file) ≤ roomOf sheet
-    unfolding netListing
+    unfolding netListing answersOn
     file-most e = sheet-most sheet (answersListing (netAnswers net)) (answersErrors (net .q) (netAnswers net)) (answers-short e)
 
     pub listing-most : length (listingOf sheet file) ≤ roomOf sheet

@@ -4,7 +4,7 @@
 --   answered, errors-accepted, table-accepted   the reply to a table; that an accepted one's errors are not refused; and its listing
 --   misclosures-length                          a misclosure for each condition
 --   file-refused, file-reply, file-listing      the reply to a file whose table is refused, and to one whose is not; its listing
---   answers-most                                no listing has more than 6,560 bytes
+--   answers-most                                the ADJ, V and K lines have no more than 6,560 bytes
 use mathlib.Core.Path.{_≡_, refl, sym, _∙_, ap, ap₂, subst}
 use mathlib.Core.List.{List, [], _∷_, _++_}
 use Prim.Native.Nat.{ℕ, suc, _*_, _≤_}
@@ -32,7 +32,7 @@ use Rattle.network.specs.Net.{Condition, Net, netOf, zeros, formedReply, rowsOf
 use Rattle.network.specs.declared.Tabled.{Tabled}
 use Rattle.listing.specs.declared.Sheet.{Sheet}
 use Rattle.listing.specs.Listing.{acceptedListing, onSheet}
-use Rattle.listing.specs.File.{tableIn, room, netReply, netAnswers, fileReply, answersListing, answersErrors, tableListing, netListing, fileListing}
+use Rattle.listing.specs.File.{tableIn, room, netReply, netAnswers, fileReply, answersListing, answersErrors, answersOn, tableListing, netListing, fileListing}
 use Rattle.listing.proofs.Composing.{accepted-most, ended-by}
 
 -- the lengths of lent answer lists, m by direction and n by condition
@@ -82,7 +82,7 @@ module _ (ds q a w : List ℤ) {lent : Answers} (l : Lent (length ds) (length w)
       pub table-accepted : (sheet : Sheet) → length q ≡ length ds
           → acceptedListing (length ds) (length w) (left .printed) (left .adjusted) (left .correlates) (left .remainders) (left .misses) ++ onSheet sheet [] (errorsOf (left .printed) q (length w))
           ≡ tableListing sheet ds q a w
-      unfolding tableListing
+      unfolding tableListing answersOn
       table-accepted sheet l =
           ap₂ (λ (x : List ℕ) (y : Errors). x ++ onSheet sheet [] y) (lines-are l)
           (ap (λ (x : Answers). errorsOf (x .printed) q (length w)) left-is ∙ sym (answers-errors q (tableOf q a w) (K (tableOf q a w)) (at ds)))

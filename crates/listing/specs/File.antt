@@ -55,14 +55,17 @@ answersListing a = acceptedListing (length (a .printed)) (length (a .correlates)
 unfoldable pub answersErrors : (q : List ℤ) → Answers → Errors
 answersErrors q a = errorsOf (a .printed) q (length (a .correlates))
 
--- of an accepted condition table, as the sheet has it
+-- both, as the sheet has them
+unfoldable pub answersOn : Sheet → (q : List ℤ) → Answers → List ℕ
+answersOn sheet q a = onSheet sheet (answersListing a) (answersErrors q a)
+
+-- of an accepted condition table
 unfoldable pub tableListing : Sheet → (directions q a w : List ℤ) → List ℕ
-tableListing sheet ds q a w =
-    let answers = answersOf (tableOf q a w) (K (tableOf q a w)) (at ds) in onSheet sheet (answersListing answers) (answersErrors q answers)
+tableListing sheet ds q a w = answersOn sheet q (answersOf (tableOf q a w) (K (tableOf q a w)) (at ds))
 
 -- of an accepted net
 unfoldable pub netListing : Sheet → Net → List ℕ
-netListing sheet net = onSheet sheet (answersListing (netAnswers net)) (answersErrors (net .q) (netAnswers net))
+netListing sheet net = answersOn sheet (net .q) (netAnswers net)
 
 -- of an accepted file
 abbrev pub fileListing : Sheet → List ℕ → List ℕ

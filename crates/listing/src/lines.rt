@@ -64,7 +64,7 @@ fn put_ks(out: &mut [u8], at: usize, k: &[i64], r: &[i64], q: &[i64], n: usize) 
     next
 }
 
-// The listing of an accepted net, from the start of the buffer: at most 6,560 bytes for 64 directions and 24 conditions.
+// The ADJ, V and K lines of an accepted net, from the start of the buffer: at most 6,560 bytes for 64 directions and 24 conditions.
 pub fn put_accepted(
     out: &mut [u8],
     m: usize,

@@ -1,6 +1,7 @@
 -- The errors of a table that the rules accept, by its own printed corrections. Assumes nothing.
 --   table-admitted       its u, q and n are never refused: every accepted table has its errors
---   table-mean-error     its mean error, by demand 3's weighted sum of the printed corrections
+--   table-S              S is demand 3's weighted sum of its printed corrections
+--   table-mean-error     and so its mean error is that of this sum
 use mathlib.Core.Path.{_≡_, refl, sym, _∙_, ap, subst}
 use mathlib.Core.List.{List}
 use Prim.Native.Nat.{ℕ, _+_, _<_}
@@ -18,11 +19,11 @@ use Rattle.adjustment.specs.Corrections.{u-of}
 use Rattle.adjustment.specs.Demand.{weighted}
 use Rattle.adjustment.specs.Promise.{Answers, adjustReply}
 use Rattle.adjustment.proofs.Promising.{accepted-counts, accepted-weights, accepted-within-minute}
-use Rattle.precision.specs.Errors.{S, S-of, meanError, errorsOf}
+use Rattle.precision.specs.Errors.{S, S-of, errorsOf}
 use Rattle.precision.specs.Promise.{outOfRangeAt, errorsReply, MeanError}
-use Rattle.precision.proofs.Squaring.{S-from-0, S-ext, S-weighted}
+use Rattle.precision.proofs.Squaring.{S-ext, S-weighted}
 use Rattle.precision.proofs.Admitting.{admitted}
-use Rattle.precision.proofs.Meaning.{mean-error}
+use Rattle.precision.proofs.Meaning.{lists-mean-error}
 
 module _ (ds qs cs ws : List ℤ) (lent : Answers) (e : adjustReply ds qs cs ws lent ≡ Accepted) where
   abbrev t : Table
@@ -44,16 +45,12 @@ module _ (ds qs cs ws : List ℤ) (lent : Answers) (e : adjustReply ds qs cs ws 
       (refuse-none (t .m) (outOfRangeAt us qs) (λ i. OutOfRange (i + 1))
       (λ i l. rw (u-is i l, le-ltb 60000 (natAbs (u-of t (K t) i)) (accepted-within-minute ds qs cs ws lent e i l)) (accepted-weights ds qs cs ws lent e i l)))
 
-  -- S is demand 3's sum
-  S-is : S-of us qs ≡ weighted t (u-of t (K t))
-  S-is =
+  pub table-S : S-of us qs ≡ weighted t (u-of t (K t))
+  table-S =
       let known = admitted us qs (t .n) table-admitted in
       S-ext (length us) (at qs) (at us) (at qs) (u-of t (K t)) (λ i l. refl) (λ i l. ap natAbs (u-is i (subst (λ (m : ℕ). i < m) long l)))
       ∙ ap (λ (m : ℕ). S m (at qs) (u-of t (K t))) long
       ∙ S-weighted t (u-of t (K t)) (λ i l. known .q-least i (subst (λ (m : ℕ). i < m) (sym long) l)) (λ i l. known .q-most i (subst (λ (m : ℕ). i < m) (sym long) l))
 
   pub table-mean-error : MeanError (t .n) (weighted t (u-of t (K t))) (errorsOf us qs (t .n) .mean)
-  unfolding errorsOf
-  table-mean-error =
-      subst (λ (s : ℤ). MeanError (t .n) s (meanError (t .n) (S-of us qs))) S-is
-      (mean-error (t .n) (admitted us qs (t .n) table-admitted .n-least) (S-of us qs) (S-from-0 (length us) (at qs) (at us)))
+  table-mean-error = subst (λ (s : ℤ). MeanError (t .n) s (errorsOf us qs (t .n) .mean)) table-S (lists-mean-error us qs (t .n) table-admitted)

@@ -3,15 +3,22 @@
 --   mean-found               a number that has both, by computation, is the mean error
 --   one-mean                 two numbers that are the mean error of one S and n are equal
 --   mean-0, only-mean-0      it is 0 where S is below 2,520*n, and nowhere else
+--   lists-mean-error         all this of lists that are accepted
 use mathlib.Core.Path.{_≡_, sym, ap, subst}
+use mathlib.Core.List.{List}
 use Prim.Native.Nat.{ℕ, _+_, _*_, _<_, zero-le}
 use native.Mathlib.Nat.{one-mul, zero-mul}
 use native.Mathlib.Omega.{arith}
 use lib.Dec.{T, leb, ltb, le→leb, leb→le, lt→ltb, ltb→lt}
+use lib.ListN.{length}
 use lib.IntN.{ℤ, pos, negsuc, _+ℤ_}
 use lib.Signed.{_≤ℤ_, _<ℤ_}
-use Rattle.precision.specs.Errors.{root, meanError}
-use Rattle.precision.specs.Promise.{square, MeanError}
+use Rattle.reply.specs.declared.Reply.the-variants.{Accepted}
+use Rattle.doolittle.specs.Table.{at}
+use Rattle.precision.specs.Errors.{root, meanError, S-of, errorsOf}
+use Rattle.precision.specs.Promise.{errorsReply, square, MeanError}
+use Rattle.precision.proofs.Squaring.{S-from-0}
+use Rattle.precision.proofs.Admitting.{admitted}
 use Rattle.precision.proofs.Rooting.{root-within, root-above, root-only, root-largest}
 
 module _ (n : ℕ) (h : 0 < n) where
@@ -51,12 +58,17 @@ pub one-mean : {n : ℕ} {S e e' : ℤ} → MeanError n S e → MeanError n S e'
 one-mean {e = e} a b = b .only e (a .from-0) (a .within) (a .above)
 
 -- ---- a mean error of 0
-module _ (n : ℕ) (h : 0 < n) (S : ℤ) (z : pos 0 ≤ℤ S) where
+module _ {n : ℕ} {S e : ℤ} (m : MeanError n S e) where
   once : square n (pos 0 +ℤ pos 1) ≡ pos (2520 * n)
   once = ap pos (one-mul (2520 * n))
 
-  pub mean-0 : S <ℤ pos (2520 * n) → meanError n S ≡ pos 0
-  mean-0 l = sym (mean-error n h S z .only (pos 0) (record { le = tt }) (rw (zero-mul (2520 * n)) z) (rw once l))
+  pub mean-0 : pos 0 ≤ℤ S → S <ℤ pos (2520 * n) → e ≡ pos 0
+  mean-0 z l = sym (m .only (pos 0) (record { le = tt }) (rw (zero-mul (2520 * n)) z) (rw once l))
 
-  pub only-mean-0 : meanError n S ≡ pos 0 → S <ℤ pos (2520 * n)
-  only-mean-0 e = subst (λ (x : ℤ). S <ℤ x) once (subst (λ (x : ℤ). S <ℤ square n (x +ℤ pos 1)) e (mean-error n h S z .above))
+  pub only-mean-0 : e ≡ pos 0 → S <ℤ pos (2520 * n)
+  only-mean-0 z = subst (λ (x : ℤ). S <ℤ x) once (subst (λ (x : ℤ). S <ℤ square n (x +ℤ pos 1)) z (m .above))
+
+-- ---- of lists that are accepted
+pub lists-mean-error : (us qs : List ℤ) (n : ℕ) → errorsReply us qs n ≡ Accepted → MeanError n (S-of us qs) (errorsOf us qs n .mean)
+unfolding errorsOf
+lists-mean-error us qs n a = mean-error n (admitted us qs n a .n-least) (S-of us qs) (S-from-0 (length us) (at qs) (at us))

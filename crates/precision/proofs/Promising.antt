@@ -2,7 +2,7 @@
 --   by-counts, by-lengths, by-ranges      the reply, where the checks before have accepted
 --   refused-tells, accepted-tells         a refusal with both numbers as they were lent keeps the promise, and so does an acceptance with both errors
 --   refusal-leaves-numbers                a refusal that keeps the promise leaves both numbers as they were
---   only-answer                           two answers that keep the promise are equal, and leave equal numbers
+--   only-answer, one-estimate             two answers that keep the promise are equal, and leave equal numbers; of `estimate` too
 use mathlib.Core.Path.{_≡_, refl, sym, _∙_, ap}
 use mathlib.Core.Bool.{true, false}
 use mathlib.Core.List.{List}
@@ -18,14 +18,11 @@ use Rattle.reply.specs.declared.Reply.the-variants.{Accepted, Refused}
 use Rattle.reply.specs.Checks.{leaves}
 use Rattle.reply.specs.Verdicts.{verdictOf}
 use Rattle.reply.proofs.Checking.{never}
-use Rattle.doolittle.specs.Table.{at}
 use Rattle.adjustment.specs.Refusals.{countsAmiss}
 use Rattle.precision.specs.declared.Errors.{Errors}
-use Rattle.precision.specs.Errors.{S-of, errorsOf}
+use Rattle.precision.specs.Errors.{errorsOf}
 use Rattle.precision.specs.Promise.{rangesReply, errorsReply, TellsErrors}
-use Rattle.precision.proofs.Squaring.{S-from-0}
-use Rattle.precision.proofs.Admitting.{admitted}
-use Rattle.precision.proofs.Meaning.{mean-error}
+use Rattle.precision.proofs.Meaning.{lists-mean-error}
 
 module _ (us qs : List ℤ) (n : ℕ) where
   -- ---- the reply
@@ -48,8 +45,7 @@ module _ (us qs : List ℤ) (n : ℕ) where
     refused-tells why e = record { answer = sym e; verdict = ap verdictOf (sym e); errors = refl; mean-error = never why }
 
     pub accepted-tells : errorsReply us qs n ≡ Accepted → {left : Errors} → left ≡ errorsOf us qs n → TellsErrors us qs n lent Accepted left
-    unfolding errorsOf
-    accepted-tells e {left} f = record { answer = sym e; verdict = ap verdictOf (sym e); errors = f; mean-error = λ k. rw f (mean-error n (admitted us qs n e .n-least) (S-of us qs) (S-from-0 (length us) (at qs) (at us))) }
+    accepted-tells e {left} f = record { answer = sym e; verdict = ap verdictOf (sym e); errors = f; mean-error = λ k. rw f (lists-mean-error us qs n e) }
 
     pub refusal-leaves-numbers : (why : Refusal) (left : Errors) → TellsErrors us qs n lent (Refused why) left → left ≡ lent
     refusal-leaves-numbers why left t = t .errors
@@ -59,3 +55,6 @@ module _ (us qs : List ℤ) (n : ℕ) where
     only-answer r r' left left' a b =
         let held : Reply → Errors = λ x. leaves x (errorsOf us qs n) lent in
         (only (a .answer) (b .answer), only (a .errors ∙ ap held (a .answer)) (b .errors ∙ ap held (b .answer)))
+
+  pub one-estimate : (r r' : Errors) → r ≡ errorsOf us qs n → r' ≡ errorsOf us qs n → r ≡ r'
+  one-estimate r r' x y = only x y

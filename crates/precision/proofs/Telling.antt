@@ -2,7 +2,7 @@
 --   mean-0-below, below-mean-0     of accepted lists: e is 0 where S is below 2,520*n, and nowhere else
 --   none-corrected                 in particular where every correction is 0, and then both errors are
 --   signs-reversed                 with all signs of u reversed the reply and both errors are the same
---   at-a-square, beside-it         S at a square, and one part below and above it
+--   at-a-square, beside-it         S at a square, and one below and one above it
 --   by-weight, by-conditions       a correction counts by its weight, and the sum by the number of conditions
 --   at-a-half                      a probable error of 674.5 is 675
 use mathlib.Core.Path.{_≡_, refl, _∙_, ap, ap₂}
@@ -18,6 +18,7 @@ use lib.Signed.{_<ℤ_}
 use Rattle.exact.specs.Nearest.{nearest}
 use Rattle.exact.specs.Sum.{sum}
 use Rattle.exact.proofs.Bound.{abs-neg}
+use Rattle.exact.proofs.Rounding.{nearest-multiple}
 use Rattle.exact.proofs.Searching.{first-ext}
 use Rattle.exact.proofs.Sum.{sum-ext, sum-zero}
 use Rattle.reply.specs.declared.Refusal.the-variants.{Count, OutOfRange}
@@ -31,17 +32,15 @@ use Rattle.precision.specs.Errors.{weightedSquare, S, climb, root, meanE
 use Rattle.precision.specs.Promise.{outOfRangeAt, rangesReply, errorsReply}
 use Rattle.precision.proofs.Squaring.{S-from-0, S-ext}
 use Rattle.precision.proofs.Admitting.{admitted}
-use Rattle.precision.proofs.Meaning.{mean-found, mean-0, only-mean-0}
+use Rattle.precision.proofs.Meaning.{mean-found, mean-0, only-mean-0, lists-mean-error}
 
 -- ---- a mean error of 0
 module _ (us qs : List ℤ) (n : ℕ) (a : errorsReply us qs n ≡ Accepted) where
   pub below-mean-0 : S-of us qs <ℤ pos (2520 * n) → errorsOf us qs n .mean ≡ pos 0
-  unfolding errorsOf
-  below-mean-0 = mean-0 n (admitted us qs n a .n-least) (S-of us qs) (S-from-0 (length us) (at qs) (at us))
+  below-mean-0 = mean-0 (lists-mean-error us qs n a) (S-from-0 (length us) (at qs) (at us))
 
   pub mean-0-below : errorsOf us qs n .mean ≡ pos 0 → S-of us qs <ℤ pos (2520 * n)
-  unfolding errorsOf
-  mean-0-below = only-mean-0 n (admitted us qs n a .n-least) (S-of us qs) (S-from-0 (length us) (at qs) (at us))
+  mean-0-below = only-mean-0 (lists-mean-error us qs n a)
 
   module _ (z : (i : ℕ) → i < length us → at us i ≡ pos 0) where
     nothing : S-of us qs ≡ pos 0
@@ -51,10 +50,10 @@ module _ (us qs : List ℤ) (n : ℕ) (a : errorsReply us qs n ≡ Accepted) whe
         ∙ sum-zero (length us)
 
     pub none-corrected : errorsOf us qs n ≡ errors (pos 0) (pos 0)
-    unfolding errorsOf probableError nearest
+    unfolding errorsOf probableError
     none-corrected =
         let e : meanError n (S-of us qs) ≡ pos 0 = below-mean-0 (rw nothing (record { lt = lt→ltb 0 (2520 * n) (omega (arith, admitted us qs n a .n-least)) })) in
-        ap (λ (x : ℤ). errors x (probableError x)) e
+        ap (λ (x : ℤ). errors x (probableError x)) e ∙ ap (errors (pos 0)) (nearest-multiple (pos 0) (pos 10000) (record { lt = tt }))
 
 -- ---- signs
 module _ (us vs qs : List ℤ) (n : ℕ) (long : length vs ≡ length us) (reversed : (i : ℕ) → i < length us → at vs i ≡ negℤ (at us i)) where
@@ -78,13 +77,15 @@ module _ (us vs qs : List ℤ) (n : ℕ) (long : length vs ≡ length us) (rever
   )
 
 -- ---- figures: lists of corrections and of q, and how many conditions
--- S is 22,680, which is 3*3*2,520
-pub at-a-square : errorsOf (pos 3 ∷ []) (pos 1 ∷ []) 1 ≡ errors (pos 3) (pos 2)
+-- S is 10,080, which is 2*2*2,520
+pub at-a-square : errorsOf (pos 2 ∷ []) (pos 1 ∷ []) 1 ≡ errors (pos 2) (pos 1)
 unfolding errorsOf meanError probableError S sum root climb nearest
 at-a-square = refl
 
--- 22,680 - 252, and 22,680 + 252: the least step that S can take is 252
-pub beside-it : (errorsOf (pos 2 ∷ pos 2 ∷ pos 3 ∷ []) (pos 1 ∷ pos 1 ∷ pos 10 ∷ []) 1 ≡ errors (pos 2) (pos 1)) × (errorsOf (pos 3 ∷ pos 1 ∷ []) (pos 1 ∷ pos 10 ∷ []) 1 ≡ errors (pos 3) (pos 2))
+-- S is 10,079, and 10,081
+pub beside-it :
+    (errorsOf (pos 1 ∷ pos 1 ∷ pos 3 ∷ pos 4 ∷ pos 1 ∷ pos 1 ∷ []) (pos 9 ∷ pos 9 ∷ pos 8 ∷ pos 7 ∷ pos 5 ∷ pos 6 ∷ []) 1 ≡ errors (pos 1) (pos 1))
+    × (errorsOf (pos 1 ∷ pos 1 ∷ pos 2 ∷ pos 2 ∷ pos 3 ∷ pos 1 ∷ []) (pos 9 ∷ pos 7 ∷ pos 7 ∷ pos 5 ∷ pos 4 ∷ pos 8 ∷ []) 1 ≡ errors (pos 2) (pos 1))
 unfolding errorsOf meanError probableError S sum root climb nearest
 beside-it = (refl, refl)
 

@@ -22,7 +22,7 @@ unfoldable pub climb : (c s steps e : ℕ) → ℕ
 climb c s zero e = e
 climb c s (suc steps) e = cond (ltb s ((e + 1) * (e + 1) * c)) e (climb c s steps (e + 1))
 
--- the largest whole e with e*e*c not above s; it is not above s itself, so s steps are enough
+-- the largest whole e with e*e*c not above s, for a c above 0; e is then not above s itself, so s steps are enough
 unfoldable pub root : (c s : ℕ) → ℕ
 root c s = climb c s s 0
 
@@ -42,4 +42,4 @@ abbrev pub errors : (mean probable : ℤ) → Errors
 errors mean probable = record { mean = mean; probable = probable }
 
 unfoldable pub errorsOf : (us qs : List ℤ) (n : ℕ) → Errors
-errorsOf us qs n = errors (meanError n (S-of us qs)) (probableError (meanError n (S-of us qs)))
+errorsOf us qs n = let e = meanError n (S-of us qs) in errors e (probableError e)

@@ -34,7 +34,8 @@ errorsReply us qs n =
 abbrev pub square : (n : ℕ) (x : ℤ) → ℤ
 square n x = x *ℤ x *ℤ pos (2520 * n)
 
--- e*e*2,520*n <= S < (e + 1)*(e + 1)*2,520*n; no larger number has its square within S, and e is the only number between the two
+-- "The root search ends with the value it has found, and that value is shown to be the only one": e*e*2,520*n <= S < (e + 1)*(e + 1)*2,520*n,
+-- no larger number has the first, and no other number from 0 on has both
 pub record MeanError (n : ℕ) (S e : ℤ) : Type 0 where
   pub from-0 : pos 0 ≤ℤ e
   pub within : square n e ≤ℤ S

@@ -192,7 +192,7 @@ fn of_squares() {
     );
 }
 
-// Each q by itself: ten directions of q and correction 100.
+// Each q by itself: ten directions of that q, with corrections of 100 in size.
 fn of_each_weight() {
     alike(10, 10, 1, 100, 1);
     alike(10, 10, 1, 100, 2);

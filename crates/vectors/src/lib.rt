@@ -35,17 +35,12 @@ pub fn list(xs: &[i64]) {
     }
 }
 
-// The number and the place of a refusal, each after a blank.
-fn number_and_place(why: Refusal) {
-    text(b" ");
+// A refusal, with its number and its place.
+pub fn refusal(why: Refusal) {
+    text(b"refused ");
     natural(reply::number(why));
     text(b" ");
     natural(reply::place(why));
-}
-
-pub fn refusal(why: Refusal) {
-    text(b"refused");
-    number_and_place(why);
 }
 
 pub fn told(reply: Reply) {

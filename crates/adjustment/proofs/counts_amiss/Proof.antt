@@ -1,8 +1,8 @@
--- `table::counts_amiss` meets its contract. Assumes nothing.
+-- `counts_amiss` meets its contract. Assumes nothing.
 use borrow.Author.Tests.{lt-ltb, le-ltb}
 use Rattle.adjustment.specs.Refusals.{countsAmiss}
-use Rattle.adjustment.proofs.table.counts_amiss.Statement.{statement}
-use Rattle.adjustment.proofs.table.counts_amiss.Tie as tie
+use Rattle.adjustment.proofs.counts_amiss.Statement.{statement}
+use Rattle.adjustment.proofs.counts_amiss.Tie as tie
 
 returns : tie.Need-returns
 unfolding countsAmiss
