@@ -47,7 +47,7 @@ netAnswers net = answersOf (tableIn net) (K (tableIn net)) (at (net .directions)
 unfoldable pub fileReply : List ℕ → Reply
 fileReply file = scanReply file andThen netReply (netOf (linesOf file))
 
--- ---- the listing of an accepted adjustment, from its answers
+-- ---- the listing of an accepted adjustment, from its answers: the ADJ, V and K lines
 unfoldable pub answersListing : Answers → List ℕ
 answersListing a = acceptedListing (length (a .printed)) (length (a .correlates)) (a .printed) (a .adjusted) (a .correlates) (a .remainders) (a .misses)
 
@@ -55,7 +55,7 @@ answersListing a = acceptedListing (length (a .printed)) (length (a .correlates)
 unfoldable pub answersErrors : (q : List ℤ) → Answers → Errors
 answersErrors q a = errorsOf (a .printed) q (length (a .correlates))
 
--- both, as the sheet has them
+-- all lines that the sheet has
 unfoldable pub answersOn : Sheet → (q : List ℤ) → Answers → List ℕ
 answersOn sheet q a = onSheet sheet (answersListing a) (answersErrors q a)
 

@@ -39,7 +39,7 @@ vLines m u adjusted = inOrder m (vLineOf u adjusted)
 abbrev pub kLines : (n : ℕ) (k r q : List ℤ) → List ℕ
 kLines n k r q = inOrder n (kLineOf k r q)
 
--- the whole listing of an accepted net
+-- the listing of an accepted net, without an E line
 abbrev pub acceptedListing : (m n : ℕ) (u adjusted k r q : List ℤ) → List ℕ
 acceptedListing m n u adjusted k r q = adjLine m n ++ (vLines m u adjusted ++ kLines n k r q)
 
