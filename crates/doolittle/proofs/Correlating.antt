@@ -25,7 +25,6 @@ use Rattle.doolittle.specs.Table.{Table, at}
 use Rattle.doolittle.specs.Solution.{D, L, M, carried, back, K}
 use Rattle.doolittle.specs.Inner.{Triangle, BackWithin, From, backOf, rowAt}
 use Rattle.doolittle.proofs.Reducing.{sound-at}
-use Rattle.doolittle.proofs.Weakness.{pivot-above-zero}
 
 -- a list written from the back: what holds of all places after j and of the value at j holds from j on
 pub one-before : (Q : ℕ → ℤ → Type 0) (k : List ℤ) (left n : ℕ) (v : ℤ) → 0 < left → left ≤ length k → From left n (λ h. Q h (getD k h (pos 0))) → Q (left - 1) v → From (left - 1) n (λ h. Q h (getD (set k (left - 1) v) h (pos 0)))
@@ -67,7 +66,7 @@ module _ (t : Table) where
         let g = sound-at t j (r .sound j l) in let row = r .all .reduced j l in
         record {
           constant = rw (row .constant) (g .constant);
-          pivot = rw (row .coefficients j (le-refl j) l) (pivot-above-zero (D t j j) (g .pivot));
+          pivot = rw (row .coefficients j (le-refl j) l) (g .pivot .0);
           multipliers = λ k h i. rw (r .all .multiplied j l k h i) (g .multipliers k h i);
         }
 

@@ -65,9 +65,9 @@ module _ (t : Table) where
       (λ i l. sum-mul (t .n) (t .q i *ℤ t .a j i) (λ k. t .a k i))
 
   -- ---- rows that are not weak
-  pub sound-at : (j : ℕ) → weak t j ≡ false → SoundRow (t .n) j (D t j) (L t j)
+  pub sound-at : (j : ℕ) → weak t j ≡ false → SoundRow (t .n) j (N t j j) (D t j) (L t j)
   unfolding weak
-  sound-at j e = sound-row (t .n) j (D t j) (L t j) e
+  sound-at j e = sound-row (t .n) j (N t j j) (D t j) (L t j) e
 
   -- ---- row j, from the rows above it
   module _ (j : ℕ) (rows multipliers : List (List ℤ)) (r : Rows t j rows multipliers) (l : j < t .n) where
@@ -98,9 +98,9 @@ module _ (t : Table) where
     }
 
   module _ (j : ℕ) (row : List ℤ) (l : j < t .n) (g : Holds j (t .n) (D t j) (L t j) row) where
-    pub row-weak : weakRow (t .n) j (at row) (at row CONSTANT) ≡ weak t j
+    pub row-weak : (entry : ℤ) → entry ≡ N t j j → weakRow (t .n) j entry (at row) (at row CONSTANT) ≡ weak t j
     unfolding weak
-    row-weak = weak-ext (t .n) j (at row) (D t j) (at row CONSTANT) (L t j) l (g .coefficients) (g .constant)
+    row-weak entry e = weak-ext (t .n) j entry (N t j j) (at row) (D t j) (at row CONSTANT) (L t j) l e (g .coefficients) (g .constant)
 
     pub row-multiplied : (m : List ℤ) → From (suc j) (t .n) (λ k. at m k ≡ multiplier (at row k) (at row j)) → From (suc j) (t .n) (λ k. at m k ≡ M t j k)
     unfolding M

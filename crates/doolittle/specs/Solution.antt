@@ -43,16 +43,20 @@ L t j = reduced t j (λ h. pos 1000 *ℤ t .w h) j
 unfoldable pub M : Table → ℕ → ℕ → ℤ
 M t j k = multiplier (D t j k) (D t j j)
 
--- A row is weak if some |D| exceeds 2,560,000,000, |L| exceeds 4,000,000,000, D(j,j) is below 100, or some |M| exceeds 10^9.
-unfoldable pub weakRow : ℕ → ℕ → (ℕ → ℤ) → ℤ → Bool
-weakRow n j d l =
+-- "Row j is weak if D(j,j) is below 1, or 1,000*D(j,j) is below N(j,j)": a pivot, and its entry before any row above is taken (W-203).
+abbrev pub lowPivot : (pivot entry : ℤ) → Bool
+lowPivot pivot entry = ltZ pivot (pos 1) || ltZ (pos 1000 *ℤ pivot) entry
+
+-- A row is weak if some |D| exceeds 2,560,000,000, |L| exceeds 4,000,000,000, its pivot is low, or some |M| exceeds 10^9.
+unfoldable pub weakRow : (n j : ℕ) (entry : ℤ) (d : ℕ → ℤ) (l : ℤ) → Bool
+weakRow n j entry d l =
     some-below n (λ k. leb j k && ltb 2560000000 (natAbs (d k)))
     || (ltb 4000000000 (natAbs l)
-    || (ltZ (d j) (pos 100)
+    || (lowPivot (d j) entry
     || some-below n (λ k. ltb j k && ltb 1000000000 (natAbs (multiplier (d k) (d j))))))
 
 unfoldable pub weak : Table → ℕ → Bool
-weak t j = weakRow (t .n) j (D t j) (L t j)
+weak t j = weakRow (t .n) j (N t j j) (D t j) (L t j)
 
 -- Then from n down to 1: K(j) = nearest(-10^4*L(j) / D(j,j)) + sum over k>j of nearest(M(j,k)*K(k) / 10^6).
 -- The correlates of the last b rows for the reduced constants l, those of the rows below being found first.

@@ -10,7 +10,7 @@ ghost use Rattle.exact.specs.Sum.{sum};
 ghost use Rattle.exact.specs.Nearest.{nearest};
 ghost use Rattle.exact.specs.First.{first, some-below};
 ghost use Rattle.doolittle.specs.Table.{at, tableOf};
-ghost use Rattle.doolittle.specs.Solution.{N, carried, multiplier, weakRow, weak};
+ghost use Rattle.doolittle.specs.Solution.{N, carried, multiplier, lowPivot, weakRow, weak};
 ghost use Rattle.doolittle.specs.Inner.{Small, Within, Sound, CONSTANT, From, RowWithin, Holds, Rows, withAbove, rowAt, cell};
 
 // A reduced row: its coefficients D(j,k) at their places k, from j on, and its constant L(j) at the last place.
@@ -170,10 +170,21 @@ fn multiplied(row: Row, j: usize, n: usize) -> [i64; 24]
     m
 }
 
-// The one test of a row, each part as soon as what it tests is complete. The multipliers of a row that is not weak go into m.
-fn is_weak(row: Row, j: usize, n: usize, m: &mut [i64; 24]) -> bool
+// The pivot D(j,j) is below 1, or 1,000 times it below the entry N(j,j) with which the row began.
+fn is_low(pivot: i64, entry: i64) -> bool
+    requires { ⌜ natAbs pivot ≤ 2560000000 ⌝ }
+    ensures { λ r. ⌜ r ≡ lowPivot pivot entry ⌝ }
+{
+    if pivot < 1 {
+        return true;
+    }
+    1000 * pivot < entry
+}
+
+// The one test of a row, each part as soon as what it tests is complete. `entry` is its N(j,j). The multipliers of a row that is not weak go into m.
+fn is_weak(row: Row, entry: i64, j: usize, n: usize, m: &mut [i64; 24]) -> bool
     requires { ⌜ (j < n) × (n ≤ 24) ⌝ }
-    ensures { λ r. ⌜ r ≡ weakRow n j (at row) (at row CONSTANT) ⌝ }
+    ensures { λ r. ⌜ r ≡ weakRow n j entry (at row) (at row CONSTANT) ⌝ }
     ensures { λ r. ⌜ (r ≡ false → From (suc j) n (λ k. at (now (m .exit)) k ≡ multiplier (at row k) (at row j))) ⌝ }
 {
     if some_large(&row, j, n, 2560000000) {
@@ -184,7 +195,7 @@ fn is_weak(row: Row, j: usize, n: usize, m: &mut [i64; 24]) -> bool
         return true;
     }
     let pivot = row[j];
-    if pivot < 100 {
+    if is_low(pivot, entry) {
         return true;
     }
     let all = multiplied(row, j, n);
@@ -211,9 +222,10 @@ pub fn reduce(
     let mut j = 0;
     while j < n {
         let own = normal_row(q, a, w, j, at);
+        let entry = own[j];
         let row = reduced(own, rows, multipliers, j, n);
         let mut m = [0i64; 24];
-        if is_weak(row, j, n, &mut m) {
+        if is_weak(row, entry, j, n, &mut m) {
             return j;
         }
         rows[j] = row;

@@ -1,24 +1,24 @@
 -- `reduce::is_weak` meets its contract. Assumes nothing.
-use mathlib.Core.Path.{_≡_, refl, sym, _∙_, ap}
+use mathlib.Core.Path.{_≡_, sym, _∙_, ap, ap₂}
 use mathlib.Core.Bool.{true, false, _&&_}
 use mathlib.Core.List.{List}
 use Prim.Native.Nat.{ℕ, suc, _≤_}
+use native.Mathlib.Nat.{le-refl}
 use native.Mathlib.Omega.{arith}
 use native.Mathlib.Numerals.{add-one}
 use borrow.Author.Needs.{needs}
 use borrow.Author.Tests.{ltb-false}
 use lib.Dec.{ltb, leb}
-use lib.IntN.{ℤ, pos, natAbs}
-use lib.Signed.{ltZ}
+use lib.IntN.{ℤ, natAbs}
 use mir.Syntax.{w64}
 use mir.Val.{toZ, ofZ}
 use Rattle.exact.specs.First.{first}
-use Rattle.exact.proofs.Order.{lt-false}
-use Rattle.exact.proofs.Bound.{read-at}
+use Rattle.exact.proofs.Bound.{read, read-at, read-within}
 use Rattle.exact.proofs.Searching.{from-ext, from-none}
 use Rattle.doolittle.specs.Table.{at}
-use Rattle.doolittle.specs.Solution.{multiplier}
-use Rattle.doolittle.proofs.Weakness.{largeD, weak-by-coefficient, weak-by-constant, weak-by-pivot, weak-by-multiplier, pivot-above-zero}
+use Rattle.doolittle.specs.Solution.{multiplier, lowPivot}
+use Rattle.doolittle.specs.Inner.{From}
+use Rattle.doolittle.proofs.Weakness.{largeD, weak-by-coefficient, weak-by-constant, weak-by-pivot, weak-by-multiplier, high-pivot}
 use Rattle.doolittle.proofs.reduce.is_weak.Statement.{statement}
 use Rattle.doolittle.proofs.reduce.is_weak.Tie as tie
 
@@ -36,6 +36,9 @@ module _ (s : tie.Start) where
   abbrev row : List ℤ
   row = s .args .t1
 
+  abbrev entry : ℤ
+  entry = s .args .entry
+
   abbrev j : ℕ
   j = s .args .j
 
@@ -48,7 +51,7 @@ large-is c = c .some-large .ensures
 returns : tie.Need-returns
 returns c =
     let s = c .before .before .before in
-    (sym (weak-by-coefficient (n s) (j s) (at (row s)) (at (row s) 24) (sym (large-is (c .before)) ∙ c .if1 .taken)), not-true)
+    (sym (weak-by-coefficient (n s) (j s) (entry s) (at (row s)) (at (row s) 24) (sym (large-is (c .before)) ∙ c .if1 .taken)), not-true)
 
 array-copy-out-l : tie.Need-array-copy-out-l
 array-copy-out-l c = search needs
@@ -64,13 +67,17 @@ module _ (c : tie.After-magnitude) where
   small-d : largeD (n start2) (j start2) (at (row start2)) ≡ false
   small-d = sym (large-is (c .before .before .before)) ∙ c .before .before .if1 .left
 
+  small-coefficients : From (j start2) (n start2) (λ k. natAbs (at (row start2) k) ≤ 2560000000)
+  small-coefficients k h l =
+      ltb-false 2560000000 (natAbs (at (row start2) k)) (from-none (n start2) (j start2) (λ k. ltb 2560000000 (natAbs (at (row start2) k))) small-d k h l)
+
   size-is : c .magnitude .result ≡ natAbs (at (row start2) 24)
   size-is = c .magnitude .ensures ∙ ap natAbs (read-at (at (row start2) 24) (c .before .l .given))
 
 returns-2 : tie.Need-returns-2
 returns-2 c =
     let b = c .before in let s = start2 b in
-    (sym (weak-by-constant (n s) (j s) (at (row s)) (at (row s) 24) (small-d b) (rw (size-is b) at (c .if2 .taken))), not-true)
+    (sym (weak-by-constant (n s) (j s) (entry s) (at (row s)) (at (row s) 24) (small-d b) (rw (size-is b) at (c .if2 .taken))), not-true)
 
 mul-pivot : tie.Need-mul-pivot
 mul-pivot c = search needs
@@ -89,26 +96,28 @@ module _ (c : tie.After-pivot) where
   pivot-read : toZ w64 (ofZ w64 (at (row start3) (j start3))) ≡ at (row start3) (j start3)
   pivot-read = read-at (at (row start3) (j start3)) (c .pivot .given)
 
+  small-pivot : natAbs (at (row start3) (j start3)) ≤ 2560000000
+  small-pivot = small-coefficients (c .before .before) (j start3) (le-refl (j start3)) (start3 .pre .0)
+
+is-low-requires : tie.Need-is-low-requires
+is-low-requires c κs = read-within (at (row (start3 c)) (j (start3 c))) (c .pivot .given) (small-pivot c)
+
+low-is : (c : tie.After-is-low) → c .is-low .result ≡ lowPivot (at (row (start3 (c .before))) (j (start3 (c .before)))) (entry (start3 (c .before)))
+low-is c = let s = start3 (c .before) in c .is-low .ensures ∙ ap₂ lowPivot (pivot-read (c .before)) (read (s .fits .entry))
+
 returns-3 : tie.Need-returns-3
 returns-3 c =
-    let b = c .before in let s = start3 b in (
-      sym (weak-by-pivot (n s) (j s) (at (row s)) (at (row s) 24) (small-d (b .before .before)) (small-l b) (ap (λ (z : ℤ). ltZ z (pos 100)) (sym (pivot-read b)) ∙ c .if3 .taken)),
-      not-true,
-    )
+    let b = c .before .before in let s = start3 b in
+    (sym (weak-by-pivot (n s) (j s) (entry s) (at (row s)) (at (row s) 24) (small-d (b .before .before)) (small-l b) (sym (low-is (c .before)) ∙ c .if3 .taken)), not-true)
 
--- the pivot is 100 or more
-sound-pivot : (c : tie.Else3) → ltZ (at (row (start3 (c .before))) (j (start3 (c .before)))) (pos 100) ≡ false
-sound-pivot c = ap (λ (z : ℤ). ltZ z (pos 100)) (sym (pivot-read (c .before))) ∙ c .if3 .left
+-- the pivot is not low
+sound-pivot : (c : tie.Else3) → lowPivot (at (row (start3 (c .before .before))) (j (start3 (c .before .before)))) (entry (start3 (c .before .before))) ≡ false
+sound-pivot c = sym (low-is (c .before)) ∙ c .if3 .left
 
 multiplied-requires : tie.Need-multiplied-requires
 multiplied-requires c κs =
-    let b = c .before in let s = start3 b in (
-      s .pre,
-      (
-        (λ k h l. ltb-false 2560000000 (natAbs (at (row s) k)) (from-none (n s) (j s) (λ k. ltb 2560000000 (natAbs (at (row s) k))) (small-d (b .before .before)) k h l)),
-        pivot-above-zero (at (row s) (j s)) (lt-false (sound-pivot c) refl refl),
-      ),
-    )
+    let b = c .before .before in let s = start3 b in
+    (s .pre, (small-coefficients (b .before .before), high-pivot (at (row s) (j s)) (entry s) (sound-pivot c) .0))
 
 slice-aggregate-some-large-2 : tie.Need-slice-aggregate-some-large-2
 slice-aggregate-some-large-2 c = search needs
@@ -121,13 +130,13 @@ some-large-requires-2 c κs = search needs
 
 returns-4 : tie.Need-returns-4
 returns-4 c =
-    let d = c .before .before in let e = d .before in let b = e .before in let s = start3 b in let m = at (d .multiplied .result) in (
+    let d = c .before .before in let e = d .before in let b = e .before .before in let s = start3 b in let m = at (d .multiplied .result) in (
       c .some-large2 .ensures
           ∙ ap (λ (k : ℕ). ltb k (n s))
           (ap (λ (i : ℕ). first (n s) (λ k. leb i k && ltb 1000000000 (natAbs (m k)))) (add-one (j s))
           ∙ from-ext (n s) (suc (j s)) (λ k. ltb 1000000000 (natAbs (m k))) (λ k. ltb 1000000000 (natAbs (multiplier (at (row s) k) (at (row s) (j s)))))
           (λ k h l. ap (λ (z : ℤ). ltb 1000000000 (natAbs z)) (d .multiplied .ensures k h l)))
-          ∙ sym (weak-by-multiplier (n s) (j s) (at (row s)) (at (row s) 24) (small-d (b .before .before)) (small-l b) (sound-pivot e)),
+          ∙ sym (weak-by-multiplier (n s) (j s) (entry s) (at (row s)) (at (row s) 24) (small-d (b .before .before)) (small-l b) (sound-pivot e)),
       (λ f. d .multiplied .ensures),
     )
 
@@ -143,6 +152,7 @@ is-weak-spec =
     returns-2
     mul-pivot
     array-copy-out-pivot
+    is-low-requires
     returns-3
     multiplied-requires
     slice-aggregate-some-large-2

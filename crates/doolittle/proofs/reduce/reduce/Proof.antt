@@ -3,13 +3,14 @@ use mathlib.Core.Path.{_≡_, sym, _∙_, subst}
 use mathlib.Core.List.{List}
 use Prim.Native.Nat.{ℕ, _*_, _-_, _≤_, _<_}
 use native.Mathlib.Omega.{arith}
-use native.Mathlib.Nat.{zero-mul}
+use native.Mathlib.Nat.{zero-mul, le-refl}
 use borrow.Author.Needs.{needs}
 use denote.Ref.{now}
 use lib.ListN.{length, length-set}
 use lib.IntN.{ℤ}
+use Rattle.exact.proofs.Bound.{read-at}
 use Rattle.exact.proofs.Searching.{Failed, failed-none, failed-more, first-at, first-none}
-use Rattle.doolittle.specs.Table.{Table, tableOf}
+use Rattle.doolittle.specs.Table.{Table, at, tableOf}
 use Rattle.doolittle.specs.Solution.{D, L, weak}
 use Rattle.doolittle.specs.Inner.{Holds, Rows}
 use Rattle.doolittle.proofs.Sizes.{row-end, next-row}
@@ -54,9 +55,15 @@ module _ (l : tie.At-loop Inv-loop μ-loop) where
   abbrev multipliers : List (List ℤ)
   multipliers = l .loop .multipliers
 
+mul-entry : tie.Need-mul-entry Inv-loop μ-loop
+mul-entry c = search needs
+
+array-copy-out-entry : tie.Need-array-copy-out-entry Inv-loop μ-loop
+array-copy-out-entry c = search needs
+
 reduced-requires : tie.Need-reduced-requires Inv-loop μ-loop
 reduced-requires c κs =
-    let b = c .before .before in let l = b .before .before in let sound = l .before .pre .0 in let i = l .loop .inv in let below : j l < length (w l) = omega arith in (
+    let b = c .before .before .before in let l = b .before .before in let sound = l .before .pre .0 in let i = l .loop .inv in let below : j l < length (w l) = omega arith in (
       (below, sound .n-most),
       (
         normal-within (q l) (a l) (w l) sound (j l) (b .normal-row .result) below (b .normal-row .ensures),
@@ -70,7 +77,7 @@ is-weak-requires c κs = search needs
 -- the reduced row and its test
 module _ (c : tie.After-is-weak Inv-loop μ-loop) where
   abbrev loop : tie.At-loop Inv-loop μ-loop
-  loop = c .before .before .before .before .before .before .before
+  loop = c .before .before .before .before .before .before .before .before
 
   abbrev row : List ℤ
   row = c .before .before .reduced .result
@@ -78,13 +85,18 @@ module _ (c : tie.After-is-weak Inv-loop μ-loop) where
   below : j loop < length (w loop)
   below = omega arith
 
+  abbrev own : tie.After-normal-row Inv-loop μ-loop
+  own = c .before .before .before .before .before .before
+
   row-is : Holds (j loop) (t loop .n) (D (t loop) (j loop)) (L (t loop) (j loop)) row
   row-is =
-      let b = c .before .before .before .before .before in
-      row-reduced (t loop) (j loop) (rows loop) (multipliers loop) (loop .loop .inv .5) below (b .normal-row .result) row (b .normal-row .ensures) (c .before .before .reduced .ensures)
+      row-reduced (t loop) (j loop) (rows loop) (multipliers loop) (loop .loop .inv .5) below (own .normal-row .result) row (own .normal-row .ensures) (c .before .before .reduced .ensures)
 
   weak-is : c .is-weak .result ≡ weak (t loop) (j loop)
-  weak-is = c .is-weak .ensures .0 ∙ row-weak (t loop) (j loop) row below row-is
+  weak-is =
+      c .is-weak .ensures .0
+      ∙ row-weak (t loop) (j loop) row below row-is _
+      (read-at (at (own .normal-row .result) (j loop)) (c .before .before .before .before .before .entry .given) ∙ own .normal-row .ensures .coefficients (j loop) (le-refl (j loop)) below)
 
 returns : tie.Need-returns Inv-loop μ-loop
 returns c =
@@ -97,8 +109,8 @@ mul-row c = search needs
 element-set-from-row : tie.Need-element-set-from-row Inv-loop μ-loop
 element-set-from-row c = search needs
 
-mul-t17 : tie.Need-mul-t17 Inv-loop μ-loop
-mul-t17 c = search needs
+mul-t15 : tie.Need-mul-t15 Inv-loop μ-loop
+mul-t15 c = search needs
 
 element-set-from-multipliers : tie.Need-element-set-from-multipliers Inv-loop μ-loop
 element-set-from-multipliers c = search needs
@@ -116,7 +128,7 @@ loop-less c = search needs
 
 loop-again : tie.Need-loop-again Inv-loop μ-loop
 loop-again c =
-    let b = c .before in let l = loop b in let i = l .loop .inv in let m = b .is-weak .last .1 .1 .1 .0 in (
+    let b = c .before in let l = loop b in let i = l .loop .inv in let m = b .is-weak .last .1 .1 .1 .1 .0 in (
       omega arith,
       next-row (j l) (length (q l)) (i .1),
       length-set (rows l) (j l) (row b) ∙ i .2,
@@ -141,12 +153,14 @@ reduce-spec =
     μ-loop
     loop-holds
     normal-row-requires
+    mul-entry
+    array-copy-out-entry
     reduced-requires
     is-weak-requires
     returns
     mul-row
     element-set-from-row
-    mul-t17
+    mul-t15
     element-set-from-multipliers
     add-at
     add-j
