@@ -1,6 +1,6 @@
 -- The rules' figures 1, 2 and 4 to 8, computed from the definitions. Assumes nothing.
 --   figure-1, figure-2       accepted tables with N, K, R, u and Q
---   figure-4 to figure-8     two equal conditions, a correlate at its limit and past it, a weak pivot, a remainder past its limit and at it
+--   figure-4 to figure-8     two equal conditions, a correlate at its limit and past it, a light condition, a remainder past its limit and at it
 use mathlib.Core.Path.{_≡_, refl}
 use mathlib.Core.List.{List, [], _∷_}
 use Prim.Native.Nat.{ℕ}
@@ -8,17 +8,18 @@ use lib.ListN.{length, replicate}
 use lib.IntN.{ℤ, pos, negℤ}
 use Rattle.exact.specs.Sum.{sum}
 use Rattle.exact.specs.Nearest.{nearest}
+use Rattle.exact.specs.Circle.{floor, modulo}
 use Rattle.exact.specs.First.{first}
 use Rattle.exact.specs.Tabulate.{tabulate}
 use Rattle.reply.specs.declared.Refusal.the-variants.{WeakRow, Correlate, Remainder}
 use Rattle.reply.specs.declared.Reply.{Reply}
 use Rattle.reply.specs.declared.Reply.the-variants.{Accepted, Refused}
 use Rattle.direction.specs.Ranges.{directionsReply}
-use Rattle.doolittle.specs.Table.{Table, tableOf}
+use Rattle.doolittle.specs.Table.{Table, at, tableOf}
 use Rattle.doolittle.specs.Solution.{N, reduced, D, L, M, weakRow, weak, back, K}
-use Rattle.adjustment.specs.Corrections.{V-of, R-of, u-of, Q-of}
+use Rattle.adjustment.specs.Corrections.{V-of, R-of, u-of, adjusted-of, Q-of}
 use Rattle.adjustment.specs.Refusals.{countsAmiss, differs, lengthsAmiss, coefficientFault, misclosureFault, conditionsReply, rowsReply, correlatesReply, remaindersReply, correctionsReply, solutionReply, inputReply}
-use Rattle.adjustment.specs.Promise.{lists, adjustReply}
+use Rattle.adjustment.specs.Promise.{Answers, lists, adjustReply, answersOf}
 
 -- a whole number below 0
 abbrev minus : ℕ → ℤ
@@ -39,6 +40,10 @@ abbrev pub replyTo : Figure → Reply
 replyTo f =
     let by-direction = replicate (f .m) (pos 0) in let by-condition = replicate (length (f .misclosures)) (pos 0) in
     adjustReply by-direction (replicate (f .m) (pos (f .q))) (f .coefficients) (f .misclosures) (lists by-direction by-direction by-direction by-condition by-condition by-condition)
+
+-- all six answer lists, with the same directions
+abbrev pub answersIn : Figure → Answers
+answersIn f = answersOf (tableIn f) (K (tableIn f)) (at (replicate (f .m) (pos 0)))
 
 abbrev pub K-in : Figure → List ℤ
 K-in f = tabulate (tableIn f .n) (K (tableIn f))
@@ -88,6 +93,10 @@ figure-4 = (refl, refl)
 abbrev pub single : ℤ → ℤ → Figure
 single a w = record { m = 1; q = 1; coefficients = a ∷ []; misclosures = w ∷ [] }
 
+-- of these, answers that are all zero
+abbrev pub zeros : Answers
+zeros = let zero = pos 0 ∷ [] in lists zero zero zero zero zero zero
+
 pub figure-5 :
     (replyTo (single (pos 10) (pos 1000)) ≡ Accepted)
     × (K-in (single (pos 10) (pos 1000)) ≡ minus 100000000 ∷ [])
@@ -95,9 +104,9 @@ pub figure-5 :
 unfolding sum nearest first tabulate directionsReply N reduced D L M weakRow weak back K V-of R-of u-of Q-of countsAmiss differs lengthsAmiss coefficientFault misclosureFault conditionsReply rowsReply correlatesReply remaindersReply correctionsReply solutionReply inputReply adjustReply
 figure-5 = (refl, refl, refl)
 
-pub figure-6 : replyTo (single (pos 9) (pos 0)) ≡ Refused (WeakRow 1)
-unfolding sum nearest first tabulate directionsReply N reduced D L M weakRow weak back K V-of R-of u-of Q-of countsAmiss differs lengthsAmiss coefficientFault misclosureFault conditionsReply rowsReply correlatesReply remaindersReply correctionsReply solutionReply inputReply adjustReply
-figure-6 = refl
+pub figure-6 : (replyTo (single (pos 9) (pos 0)) ≡ Accepted) × (answersIn (single (pos 9) (pos 0)) ≡ zeros)
+unfolding sum nearest first tabulate directionsReply N reduced D L M weakRow weak back K V-of R-of u-of floor modulo adjusted-of Q-of countsAmiss differs lengthsAmiss coefficientFault misclosureFault conditionsReply rowsReply correlatesReply remaindersReply correctionsReply solutionReply inputReply adjustReply
+figure-6 = (refl, refl)
 
 abbrev pub figure7 : Figure
 figure7 = record { m = 4; q = 10; coefficients = replicate 4 (pos 2000); misclosures = pos 200 ∷ [] }

@@ -5,3 +5,4 @@ pub mod Solving
 pub mod Answering
 pub mod Admitting
 pub mod Promising
+pub mod Lone

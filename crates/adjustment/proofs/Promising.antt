@@ -2,7 +2,8 @@
 --   by-counts, by-lengths, by-directions, by-conditions, by-solution      the reply, where the checks before have accepted
 --   refused-adjusts          a refusal that is the rule's reply, with the lists as they were lent, keeps the promise
 --   accepted-adjusts         so does an accepted table whose lists are the rules' answers: what the promise says of accepted tables holds of them
---   accepted-counts, accepted-weights, accepted-sound      of every table that the rules accept: its counts, its q and all its numbers are in range
+--   passed-sound, passed-solved      of every table that passes the input checks: its numbers are in range, and the solution replies
+--   accepted-counts, accepted-weights      of every table that the rules accept: its counts and its q are in range
 --   accepted-demand3, accepted-within-minute      of every table that the rules accept: demand 3, and no printed correction is past one minute
 --   refusal-leaves-lists     a refusal that keeps the promise leaves the six lent lists as they were
 --   only-reply               two replies that keep the promise are equal, and leave equal lists
@@ -42,7 +43,8 @@ module _ (ds qs cs ws : List ℤ) (lent : Answers) where
   abbrev lengths-amiss : Bool
   lengths-amiss = lengthsAmiss (length ds) (length ws) (length qs) (length cs) (length (lent .corrections)) (length (lent .printed)) (length (lent .adjusted)) (length (lent .correlates)) (length (lent .remainders)) (length (lent .misses))
 
-  abbrev input : Reply
+  -- the reply of the input checks
+  abbrev pub input : Reply
   input = inputReply ds qs cs ws (length (lent .corrections)) (length (lent .printed)) (length (lent .adjusted)) (length (lent .correlates)) (length (lent .remainders)) (length (lent .misses))
 
   -- ---- the reply
@@ -98,19 +100,14 @@ module _ (ds qs cs ws : List ℤ) (lent : Answers) where
             (λ j l. sym (ap (λ (x : Answers). at (x .misses) j) g ∙ tabulate-at (t .n) (Q-of t (K t)) j (pos 0) l))
             (demand-3 t (K t) (s .q-least) (s .q-most) (remainders-close t (K t) (last .0)))
 
-  -- ---- of every table that the rules accept
-  module _ (e : adjustReply ds qs cs ws lent ≡ Accepted) where
-    both : (input ≡ Accepted) × (solutionReply t ≡ Accepted)
-    unfolding adjustReply
-    both = both-accepted input (solutionReply t) e
-
-    -- the input checks, one after another
+  -- ---- of every table that passes the input checks, one after another
+  module _ (passed : input ≡ Accepted) where
     abbrev by-tables : Reply
     by-tables = directionsReply ds qs andThen conditionsReply t
 
     counted : (refuseIf (countsAmiss (length ds) (length ws)) (Count 0) ≡ Accepted) × ((refuseIf lengths-amiss (Count 0) andThen by-tables) ≡ Accepted)
     unfolding inputReply
-    counted = both-accepted (refuseIf (countsAmiss (length ds) (length ws)) (Count 0)) (refuseIf lengths-amiss (Count 0) andThen by-tables) (both .0)
+    counted = both-accepted (refuseIf (countsAmiss (length ds) (length ws)) (Count 0)) (refuseIf lengths-amiss (Count 0) andThen by-tables) passed
 
     measured : (refuseIf lengths-amiss (Count 0) ≡ Accepted) × (by-tables ≡ Accepted)
     measured = both-accepted (refuseIf lengths-amiss (Count 0)) by-tables (counted .1)
@@ -121,23 +118,33 @@ module _ (ds qs cs ws : List ℤ) (lent : Answers) where
     lengths-sound : Lengths (length ds) (length ws) (length qs) (length cs) (length (lent .corrections)) (length (lent .printed)) (length (lent .adjusted)) (length (lent .correlates)) (length (lent .remainders)) (length (lent .misses))
     lengths-sound = lengths-known (length ds) (length ws) (length qs) (length cs) _ _ _ _ _ _ (if-accepted lengths-amiss (Count 0) (measured .0))
 
-    pub accepted-counts : countsAmiss (t .m) (t .n) ≡ false
-    accepted-counts = subst (λ (m : ℕ). countsAmiss m (length ws) ≡ false) (sym (lengths-sound .of-q)) counts-sound
-
     ranged : (directionsReply ds qs ≡ Accepted) × (conditionsReply t ≡ Accepted)
     ranged = both-accepted (directionsReply ds qs) (conditionsReply t) (measured .1)
+
+    pub passed-sound : Sound qs cs ws
+    passed-sound = sound-table ds qs cs ws (counts-known (length ds) (length ws) counts-sound) (lengths-sound .of-q) (lengths-sound .of-a) (ranged .0) (ranged .1)
+
+    pub passed-solved : adjustReply ds qs cs ws lent ≡ solutionReply t
+    unfolding adjustReply
+    passed-solved = rw passed
+
+  -- ---- of every table that the rules accept
+  module _ (e : adjustReply ds qs cs ws lent ≡ Accepted) where
+    both : (input ≡ Accepted) × (solutionReply t ≡ Accepted)
+    unfolding adjustReply
+    both = both-accepted input (solutionReply t) e
+
+    pub accepted-counts : countsAmiss (t .m) (t .n) ≡ false
+    accepted-counts = subst (λ (m : ℕ). countsAmiss m (length ws) ≡ false) (sym (lengths-sound (both .0) .of-q)) (counts-sound (both .0))
 
     pub accepted-weights : (i : ℕ) → i < t .m → weightOutOfRange (t .q i) ≡ false
     unfolding directionsReply
     accepted-weights i l =
         neither (outside (pos 0) (C -ℤ pos 1) (at ds i)) (weightOutOfRange (t .q i))
-        (none-refused (length ds) (faultAt ds qs) (λ i. OutOfRange (i + 1)) (ranged .0) i (subst (λ (m : ℕ). i < m) (lengths-sound .of-q) l)) .1
-
-    accepted-sound : Sound qs cs ws
-    accepted-sound = sound-table ds qs cs ws (counts-known (length ds) (length ws) counts-sound) (lengths-sound .of-q) (lengths-sound .of-a) (ranged .0) (ranged .1)
+        (none-refused (length ds) (faultAt ds qs) (λ i. OutOfRange (i + 1)) (ranged (both .0) .0) i (subst (λ (m : ℕ). i < m) (lengths-sound (both .0) .of-q) l)) .1
 
     pub accepted-demand3 : Demand3 t (V-of t (K t)) (u-of t (K t)) (R-of t (K t)) (Q-of t (K t))
-    accepted-demand3 = demand-3 t (K t) (accepted-sound .q-least) (accepted-sound .q-most) (remainders-close t (K t) (last (both .1) .0))
+    accepted-demand3 = let s = passed-sound (both .0) in demand-3 t (K t) (s .q-least) (s .q-most) (remainders-close t (K t) (last (both .1) .0))
 
     pub accepted-within-minute : WithinMinute t (u-of t (K t))
     accepted-within-minute = corrections-small t (K t) (last (both .1) .1)

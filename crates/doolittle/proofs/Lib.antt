@@ -2,3 +2,4 @@ pub mod Sizes
 pub mod Weakness
 pub mod Reducing
 pub mod Correlating
+pub mod Lone

@@ -3,7 +3,7 @@
 --   reduced-sum, D-rule, L-rule     the rules' own equations of D and L
 --   check-column                    the row sum of N(j,k) is the sum over directions of q*a(j)*(sum of that direction's coefficients)
 --   sound-at                        what is known of a row that is not weak
---   normal-within, above-within     bounds of a row of N, and of the rows above it: what the code adds and multiplies fits
+--   N-size, normal-within, above-within      bounds of an entry and of a row of N, and of the rows above it: what the code adds and multiplies fits
 --   row-reduced, row-weak, row-multiplied       a row of N with all rows above taken is the reduced row; its test; its multipliers
 --   rows-none, rows-more            the triangle, row by row
 use mathlib.Core.Path.{_≡_, sym, _∙_, ap, ap₂}
@@ -121,7 +121,7 @@ module _ (qs cs ws : List ℤ) (s : Sound qs cs ws) where
   abbrev t : Table
   t = tableOf qs cs ws
 
-  N-size : (j k : ℕ) → j < t .n → k < t .n → natAbs (N t j k) ≤ 2560000000
+  pub N-size : (j k : ℕ) → j < t .n → k < t .n → natAbs (N t j k) ≤ 2560000000
   unfolding N
   N-size j k h l =
       sum-within (t .m) 64 40000000 (λ i. t .q i *ℤ t .a j i *ℤ t .a k i) (s .m-most)

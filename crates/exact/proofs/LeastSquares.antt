@@ -6,7 +6,6 @@
 --   only                 where the two are equal, each x(i) is c*v(i)
 use mathlib.Core.Path.{_≡_, refl, sym, _∙_, ap}
 use mathlib.Core.List.{[], _∷_}
-use mathlib.Core.Logic.{⊎-elim}
 use Prim.Native.Nat.{ℕ, _<_}
 use native.Mathlib.Omega.{arith}
 use lib.IntN.{ℤ, pos, negℤ, _+ℤ_, _-ℤ_, _*ℤ_, *ℤ-zero, +ℤ-idl}
@@ -14,7 +13,7 @@ use lib.Signed.{_≤ℤ_, _<ℤ_}
 use Rattle.exact.specs.Sum.{sum}
 use Rattle.exact.proofs.Linear.{unknowns, linear, orders, eq-by, le-by, eq-of}
 use Rattle.exact.proofs.Identity.{letters, polynomials, ring-by}
-use Rattle.exact.proofs.Order.{mul-nonneg, square-nonneg, mul-zero, lt-le}
+use Rattle.exact.proofs.Order.{mul-nonneg, square-nonneg, square-zero, lt-le}
 use Rattle.exact.proofs.Sum.{sum-ext, sum-add, sum-mul, sum-swap, sum-zero, sum-nonneg, sum-zeros}
 
 -- ---- identities of one term
@@ -40,14 +39,10 @@ not-below {s} {t} u e h = let v = unknowns (s ∷ t ∷ u ∷ []) in le-by (sear
 nothing-added : (s u : ℤ) → s ≡ s +ℤ u → u ≡ pos 0
 nothing-added s u e = let v = unknowns (s ∷ u ∷ []) in eq-by (search linear) (search linear) (omega (arith, eq-of e (search linear) (search linear)))
 
--- a square of positive weight is 0 only at 0
+-- the square of a difference, with a positive weight, is 0 only where there is none
 no-square : (x y g : ℤ) → pos 0 <ℤ g → g *ℤ ((x -ℤ y) *ℤ (x -ℤ y)) ≡ pos 0 → x ≡ y
-no-square x y g h e =
-    ⊎-elim (λ z. absurd (not-zero g h z)) (λ z. ⊎-elim (same x y) (same x y) (mul-zero (x -ℤ y) (x -ℤ y) z)) (mul-zero g ((x -ℤ y) *ℤ (x -ℤ y)) e)
+no-square x y g h e = same x y (square-zero g (x -ℤ y) h e)
   where
-    not-zero : (g : ℤ) → pos 0 <ℤ g → g ≡ pos 0 → ⊥
-    not-zero g h e = let v = unknowns (g ∷ []) in omega (arith, orders)
-
     same : (x y : ℤ) → x -ℤ y ≡ pos 0 → x ≡ y
     same x y e = let v = unknowns (x ∷ y ∷ []) in eq-by (search linear) (search linear) (omega (arith, eq-of e (search linear) (search linear)))
 

@@ -2,12 +2,12 @@
 --   le-trans, le-antisym, lt-le                 the order itself; lt-or-le: one of two numbers is the lesser
 --   add-le, sub-nonneg                          with sums
 --   mul-nonneg, mul-le-left, square-nonneg      with products
---   mul-zero                                    a product is 0 only where a factor is
+--   mul-zero, square-zero                       a product is 0 only where a factor is; a square of positive weight only at 0
 --   lt-true, lt-false, le-true, le-false        what a test of two signed numbers told
 use mathlib.Core.Path.{_≡_, refl, sym, ap, subst, subst₂}
 use mathlib.Core.Bool.{Bool, true, false, not}
 use mathlib.Core.List.{[], _∷_}
-use mathlib.Core.Logic.{_⊎_, inl, inr}
+use mathlib.Core.Logic.{_⊎_, inl, inr, ⊎-elim}
 use Prim.Native.Nat.{zero, suc, _+_, _*_, _≤_, zero-le}
 use native.Mathlib.Omega.{arith}
 use native.Mathlib.Decide.{decLe}
@@ -54,6 +54,13 @@ mul-zero (pos (suc a)) (negsuc b) e = absurd (omega (arith, eq-of e (difference-
 mul-zero (negsuc a) (pos zero) e = inr refl
 mul-zero (negsuc a) (pos (suc b)) e = absurd (omega (arith, eq-of e (difference-neg (difference-pos (suc a * suc b))) (difference-pos 0)))
 mul-zero (negsuc a) (negsuc b) e = absurd (omega (arith, ap natAbs e))
+
+-- a square of positive weight is 0 only at 0
+pub square-zero : (g z : ℤ) → pos 0 <ℤ g → g *ℤ (z *ℤ z) ≡ pos 0 → z ≡ pos 0
+square-zero g z h e = ⊎-elim (λ f. absurd (not-zero g h f)) (λ f. ⊎-elim (λ x. x) (λ x. x) (mul-zero z z f)) (mul-zero g (z *ℤ z) e)
+  where
+    not-zero : (g : ℤ) → pos 0 <ℤ g → g ≡ pos 0 → ⊥
+    not-zero g h e = let v = unknowns (g ∷ []) in omega (arith, orders)
 
 pub lt-or-le : (a b : ℤ) → (a <ℤ b) ⊎ (b ≤ℤ a)
 lt-or-le a b = go (decLe (above b + below a) (above a + below b))

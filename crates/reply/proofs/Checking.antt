@@ -4,9 +4,11 @@
 --   none-refused                  where it accepts, no thing is at fault
 --   never                         a refusal is no acceptance
 --   both-accepted, if-accepted    where two checks accept one after the other, each does; where one check accepts, its fault is not there
+--   refused-by, refused-as        a refusal by one check and then another is one of theirs; that of a check over n things is of the first at fault
 --   turn-none, turn-all, turn-more, turn-stops, turn-each      several checks of each of n things, by the loop that makes them
-use mathlib.Core.Path.{_≡_, refl, subst}
+use mathlib.Core.Path.{_≡_, refl, sym, subst}
 use mathlib.Core.Bool.{Bool, true, false}
+use mathlib.Core.Logic.{_⊎_, inl, inr}
 use Prim.Native.Nat.{ℕ, zero, suc, _+_, _≤_, _<_}
 use native.Mathlib.Decide.{decLt}
 use native.Mathlib.Numerals.{add-one}
@@ -30,6 +32,10 @@ pub if-accepted : (fault : Bool) (why : Refusal) → refuseIf fault why ≡ Acce
 if-accepted true why e = never why e
 if-accepted false why e = refl
 
+pub refused-by : (r s : Reply) {why : Refusal} → (r andThen s) ≡ Refused why → (r ≡ Refused why) ⊎ (s ≡ Refused why)
+refused-by Accepted s e = inr e
+refused-by (Refused why) s e = inl e
+
 -- ---- one check of n things
 module _ (n : ℕ) (fault : ℕ → Bool) (why : ℕ → Refusal) where
   pub refuse-at : (i : ℕ) → i < n → Failed fault i → fault i ≡ true → refuseFirst n fault why ≡ Refused (why i)
@@ -47,6 +53,13 @@ module _ (n : ℕ) (fault : ℕ → Bool) (why : ℕ → Refusal) where
 
   pub none-refused : refuseFirst n fault why ≡ Accepted → Failed fault n
   none-refused e = all-failed n fault (if-accepted (some-below n fault) (why (first n fault)) e)
+
+  pub refused-as : (other : Refusal) → refuseFirst n fault why ≡ Refused other → why (first n fault) ≡ other
+  refused-as other e = by-fault (some-below n fault) e
+    where
+      by-fault : (b : Bool) → refuseIf b (why (first n fault)) ≡ Refused other → why (first n fault) ≡ other
+      by-fault true f = cc
+      by-fault false f = never other (sym f)
 
 -- ---- several checks of each of n things
 module _ (check : ℕ → Reply) where
