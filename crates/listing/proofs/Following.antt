@@ -3,6 +3,7 @@
 --   AllInRange, all-in-range   the rows of all conditions, one after the other, and their misclosures are
 --   table-passes          so the table passes the input checks of `adjustment`
 --   file-replies          so what follows the conditions is the solution's reply
+--   lone-file             so a file of one condition is refused with 6 exactly where all its coefficients are zero
 use mathlib.Core.Path.{_≡_, refl, sym, _∙_, ap, subst}
 use mathlib.Core.Bool.{false, cond, _||_}
 use mathlib.Core.List.{List, [], _∷_, _++_}
@@ -24,7 +25,10 @@ use Rattle.reply.proofs.Checking.{both-accepted, if-accepted, refuse-none}
 use Rattle.condition.specs.Rules.{Lent, checks, coefficient, beyond, misclosure, coefficientsReply, coefficientsList, misclosureFigure}
 use Rattle.doolittle.specs.Table.{Table, tableOf}
 use Rattle.adjustment.specs.Refusals.{countsAmiss, differs, lengthsAmiss, coefficientFault, misclosureFault, conditionsReply as tableReply, solutionReply, inputReply}
-use Rattle.adjustment.specs.Promise.{Answers, adjustReply}
+use Rattle.adjustment.specs.Promise.{Answers}
+use Rattle.adjustment.proofs.Promising.{input, passed-solved}
+use Rattle.adjustment.proofs.Lone.{WeakExactly, lone-table}
+use Rattle.doolittle.proofs.Lone.{Untouching}
 use Rattle.text.specs.Lines.{linesOf}
 use Rattle.network.specs.Scan.{none, scanReply}
 use Rattle.network.specs.Net.{Condition, Net, lentOf, zeros, conditionReply, formedReply, rowOf, misclosureOf, rowsOf, misclosuresOf, netOf, netFrom}
@@ -113,8 +117,7 @@ module _ (ds q : List ℤ) where
       let b = both-accepted (conditionReply ds q j c) (formedReply ds q (suc j) cs) e in all-more c cs (in-range j c (k .0) (b .0)) (all-in-range (suc j) cs (k .1) (b .1))
 
 -- ---- the input checks of `adjustment`
-module _ (net : Net) (p : Passed none net) (r : Room none net) (e : formedReply (net .directions) (net .q) 1 (net .conditions) ≡ Accepted)
-    (k : Checked (net .directions) (net .q) (net .conditions)) where
+module _ (net : Net) where
   abbrev rows : List ℤ
   rows = rowsOf (net .directions) (net .q) (net .conditions)
 
@@ -124,76 +127,91 @@ module _ (net : Net) (p : Passed none net) (r : Room none net) (e : formedReply 
   abbrev n : ℕ
   n = length (net .conditions)
 
-  all : AllInRange (net .directions) (net .q) (net .conditions)
-  all = all-in-range (net .directions) (net .q) 1 (net .conditions) k e
-
-  closings-long : length closings ≡ n
-  closings-long = misclosures-length (net .directions) (net .q) (net .conditions)
-
-  counts : countsAmiss (length (net .directions)) (length closings) ≡ false
-  unfolding countsAmiss
-  counts =
-      rw (
-        closings-long,
-        le-ltb (length (net .directions)) 1 (omega (arith, p .total .0)),
-        le-ltb 64 (length (net .directions)) (omega (arith, r .m)),
-        le-ltb n 1 (omega (arith, p .total .1)),
-        le-ltb 24 n (omega (arith, r .n)),
-        le-ltb (length (net .directions)) n (omega (arith, p .total .2)),
-      )
-
   abbrev t : Table
   t = tableOf (net .q) rows closings
-
-  coefficients-low : (j : ℕ) → j < n → coefficientFault t j ≡ false
-  unfolding coefficientFault
-  coefficients-low j h =
-      some-none (length (net .q)) (λ i. ltb 2000 (natAbs (t .a j i)))
-      (λ i l. le-ltb 2000 (natAbs (t .a j i))
-      (subst (λ (m : ℕ). natAbs (getD rows (j * m + i) (pos 0)) ≤ 2000) (sym (p .directions .even)) (all .rows j h i (omega (arith, l, p .directions .even)))))
-
-  closings-low : (j : ℕ) → j < n → misclosureFault t j ≡ false
-  unfolding misclosureFault
-  closings-low j h = le-ltb 1000000 (natAbs (t .w j)) (all .closings j h)
-
-  table : tableReply t ≡ Accepted
-  unfolding tableReply
-  table =
-      refuse-none (length closings) (λ j. coefficientFault t j || misclosureFault t j) (λ j. cond (coefficientFault t j) (Coefficient (j + 1)) (Misclosure (j + 1)))
-      (λ j h. rw (coefficients-low j (omega (arith, h, closings-long)), closings-low j (omega (arith, h, closings-long))))
 
   abbrev lent : Answers
   lent = room (length (net .directions)) n
 
-  lengths :
-      lengthsAmiss (length (net .directions)) (length closings) (length (net .q)) (length rows) (length (lent .corrections)) (length (lent .printed)) (length (lent .adjusted)) (length (lent .correlates)) (length (lent .remainders)) (length (lent .misses)) ≡ false
-  unfolding lengthsAmiss differs room zeros
-  lengths =
-      rw (
-        tabulate-length (length (net .directions)),
-        tabulate-length n,
-        closings-long,
-        p .directions .even,
-        all .long,
-        eq-eqb (length (net .directions)) (length (net .directions)) refl,
-        eq-eqb (n * length (net .directions)) (n * length (net .directions)) refl,
-        eq-eqb n n refl,
-      )
+  -- 4 and 5, condition by condition
+  abbrev formed : Reply
+  formed = formedReply (net .directions) (net .q) 1 (net .conditions)
 
-  pub table-passes : adjustReply (net .directions) (net .q) rows closings lent ≡ solutionReply t
-  unfolding adjustReply inputReply
-  table-passes = rw (counts, lengths, directions-pass (net .directions) (net .q) (p .directions), table)
+  module _ (p : Passed none net) (r : Room none net) (e : formed ≡ Accepted) (k : Checked (net .directions) (net .q) (net .conditions)) where
+    all : AllInRange (net .directions) (net .q) (net .conditions)
+    all = all-in-range (net .directions) (net .q) 1 (net .conditions) k e
+
+    closings-long : length closings ≡ n
+    closings-long = misclosures-length (net .directions) (net .q) (net .conditions)
+
+    counts : countsAmiss (length (net .directions)) (length closings) ≡ false
+    unfolding countsAmiss
+    counts =
+        rw (
+          closings-long,
+          le-ltb (length (net .directions)) 1 (omega (arith, p .total .0)),
+          le-ltb 64 (length (net .directions)) (omega (arith, r .m)),
+          le-ltb n 1 (omega (arith, p .total .1)),
+          le-ltb 24 n (omega (arith, r .n)),
+          le-ltb (length (net .directions)) n (omega (arith, p .total .2)),
+        )
+
+    coefficients-low : (j : ℕ) → j < n → coefficientFault t j ≡ false
+    unfolding coefficientFault
+    coefficients-low j h =
+        some-none (length (net .q)) (λ i. ltb 2000 (natAbs (t .a j i)))
+        (λ i l. le-ltb 2000 (natAbs (t .a j i))
+        (subst (λ (m : ℕ). natAbs (getD rows (j * m + i) (pos 0)) ≤ 2000) (sym (p .directions .even)) (all .rows j h i (omega (arith, l, p .directions .even)))))
+
+    closings-low : (j : ℕ) → j < n → misclosureFault t j ≡ false
+    unfolding misclosureFault
+    closings-low j h = le-ltb 1000000 (natAbs (t .w j)) (all .closings j h)
+
+    table : tableReply t ≡ Accepted
+    unfolding tableReply
+    table =
+        refuse-none (length closings) (λ j. coefficientFault t j || misclosureFault t j) (λ j. cond (coefficientFault t j) (Coefficient (j + 1)) (Misclosure (j + 1)))
+        (λ j h. rw (coefficients-low j (omega (arith, h, closings-long)), closings-low j (omega (arith, h, closings-long))))
+
+    lengths :
+        lengthsAmiss (length (net .directions)) (length closings) (length (net .q)) (length rows) (length (lent .corrections)) (length (lent .printed)) (length (lent .adjusted)) (length (lent .correlates)) (length (lent .remainders)) (length (lent .misses)) ≡ false
+    unfolding lengthsAmiss differs room zeros
+    lengths =
+        rw (
+          tabulate-length (length (net .directions)),
+          tabulate-length n,
+          closings-long,
+          p .directions .even,
+          all .long,
+          eq-eqb (length (net .directions)) (length (net .directions)) refl,
+          eq-eqb (n * length (net .directions)) (n * length (net .directions)) refl,
+          eq-eqb n n refl,
+        )
+
+    pub table-passes : input (net .directions) (net .q) rows closings lent ≡ Accepted
+    unfolding inputReply
+    table-passes = rw (counts, lengths, directions-pass (net .directions) (net .q) (p .directions), table)
 
 -- ---- the file
 after : (r s t : Reply) → (r ≡ Accepted → s ≡ t) → r andThen s ≡ r andThen t
 after Accepted s t h = h refl
 after (Refused why) s t h = refl
 
-pub file-replies : (file : List ℕ) → scanReply file ≡ Accepted → let net = netOf (linesOf file) in
-    fileReply file ≡ formedReply (net .directions) (net .q) 1 (net .conditions) andThen solutionReply (tableIn net)
-unfolding fileReply netReply tableIn netFrom
-file-replies file e =
-    let net = netOf (linesOf file) in
-    rw e
-    (after (formedReply (net .directions) (net .q) 1 (net .conditions)) _ _
-    (λ h. table-passes net (file-passed file e) (scan-bounds file e) h (scan-checks file e)))
+module _ (file : List ℕ) (e : scanReply file ≡ Accepted) where
+  abbrev given : Net
+  given = netOf (linesOf file)
+
+  file-passes : formed given ≡ Accepted → input (given .directions) (given .q) (rows given) (closings given) (lent given) ≡ Accepted
+  unfolding netFrom
+  file-passes h = table-passes given (file-passed file e) (scan-bounds file e) h (scan-checks file e)
+
+  pub file-replies : fileReply file ≡ formed given andThen solutionReply (tableIn given)
+  unfolding fileReply netReply tableIn
+  file-replies = rw e (after (formed given) _ _ (λ h. passed-solved (given .directions) (given .q) (rows given) (closings given) (lent given) (file-passes h)))
+
+  pub lone-file : formed given ≡ Accepted → length (given .conditions) ≡ 1 → WeakExactly (fileReply file) (Untouching (tableIn given) 0)
+  unfolding fileReply netReply tableIn
+  lone-file h one =
+      rw (e, h)
+      (lone-table (given .directions) (given .q) (rows given) (closings given) (lent given) (file-passes h)
+      (misclosures-length (given .directions) (given .q) (given .conditions) ∙ one))
