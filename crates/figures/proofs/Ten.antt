@@ -1,7 +1,8 @@
 -- The ten figures of the rules in one theorem, each from the definitions. Above each stands the rules' own sentence. Assumes nothing.
 --
 -- Figures 1, 2 and 4 to 8 are condition tables: so many directions of one q, the coefficients row by row, and the misclosures w. `replyTo`
--- is the reply of the adjustment to the table, lent with all directions 0; K-in, R-in, u-in and Q-in are the lists of K, R, u and Q.
+-- is the reply of the adjustment to the table, lent with all directions 0; K-in, R-in, u-in and Q-in are the lists of K, R, u and Q, and
+-- answersIn has these and those of V and the adjusted directions.
 -- Figure 3 is a file and its listing, byte for byte (listing's proofs/Figure3.antt). Figures 9 and 10 are the sightings of one position at a station.
 use mathlib.Core.Path.{_≡_, refl, sym, subst}
 use mathlib.Core.List.{List, [], _∷_, _++_}
@@ -14,7 +15,8 @@ use Rattle.reply.specs.declared.Refusal.{Refusal}
 use Rattle.reply.specs.declared.Reply.{Reply}
 use Rattle.reply.specs.declared.Reply.the-variants.{Accepted, Refused}
 use Rattle.doolittle.specs.Solution.{N}
-use Rattle.adjustment.proofs.Figures.{Figure as Table, replyTo, tableIn, K-in, R-in, u-in, Q-in, figure-1, figure-2, figure-5, figure-6, figure-7, figure-8}
+use Rattle.adjustment.specs.Promise.{lists}
+use Rattle.adjustment.proofs.Figures.{Figure as Table, replyTo, tableIn, answersIn, K-in, R-in, u-in, Q-in, figure-1, figure-2, figure-5, figure-6, figure-7, figure-8}
 use Rattle.listing.specs.File.{fileReply}
 use Rattle.listing.specs.declared.Sheet.the-variants.{Plain, WithErrors}
 use Rattle.listing.specs.File.{listingOf}
@@ -83,7 +85,7 @@ Two =
 abbrev pub Three : Type 0
 Three = (fileReply file ≡ Accepted) × (listingOf Plain file ≡ listing) × (listingOf WithErrors file ≡ listing ++ errors-line)
 
--- 4. "Two conditions 100, 100, equal or unequal w: 6 at row 2." So it is for every w and w' in range.
+-- 4. "Two conditions 100, 100, equal or unequal w: 6 at row 2." So it is for every w and w' in range. W-203: "figure 4 stays refused".
 abbrev pub Four : Type 0
 Four = (w w' : ℤ) → natAbs w ≤ 1000000 → natAbs w' ≤ 1000000 → Refuses 6 2 (replyTo (table 2 1 (all 4 100) (w ∷ w' ∷ [])))
 
@@ -94,9 +96,11 @@ Five =
     × (K-in (table 1 1 (pos 10 ∷ []) (pos 1000 ∷ [])) ≡ minus 100000000 ∷ [])
     × Refuses 7 1 (replyTo (table 1 1 (pos 10 ∷ []) (pos 1001 ∷ [])))
 
--- 6. "a = 9, q = 1, w = 0: 6 at row 1."
+-- 6. "a = 9, q = 1, w = 0". W-203: "Figure 6 becomes accepted with everything zero": V, u, adjusted direction, K, R and Q.
 abbrev pub Six : Type 0
-Six = Refuses 6 1 (replyTo (table 1 1 (pos 9 ∷ []) (pos 0 ∷ [])))
+Six =
+    let t = table 1 1 (pos 9 ∷ []) (pos 0 ∷ []) in let zero = pos 0 ∷ [] in
+    (replyTo t ≡ Accepted) × (answersIn t ≡ lists zero zero zero zero zero zero)
 
 -- 7. "Four directions, a = 2,000, q = 10, w = 200: K = -13, R = -80,000,000, so 8."
 abbrev pub Seven : Type 0
@@ -131,7 +135,7 @@ ten-figures = (
   figure-3,
   (λ w w' small small'. refuses (repeated w w' small small')),
   (figure-5 .0, figure-5 .1, refuses (figure-5 .2)),
-  refuses figure-6,
+  figure-6,
   (figure-7 .1, figure-7 .2, refuses (figure-7 .0)),
   (figure-8 .1, figure-8 .2, figure-8 .0),
   figure-9,
