@@ -555,11 +555,14 @@ static void network(void)
     refused_net("D\t1\t0\t1\nD\t2\t0\t11\n", 3, 2);
     refused_net("D\t1\t0\t1\nC\tS\nL\t0\t2000\t0\t1\nL\t0\t1\t0\t1\n", 4, 1);
     refused_net("D\t1\t0\t1\nC\tA\t1000001\nP\t1\t0\n", 5, 1);
-    refused_net("D\t1\t0\t1\nC\tS\nL\t0\t9\t0\t1\n", 6, 1);
+    refused_net("D\t1\t0\t1\nC\tS\nL\t0\t0\t0\t0\n", 6, 1);
     refused_net("D\t1\t0\t1\nC\tS\nL\t11\t10\t0\t1\n", 7, 1);
     refused_net("D\t1\t0\t10\nD\t2\t0\t10\nD\t3\t0\t10\nD\t4\t0\t10\nC\tS\n"
                 "L\t2\t2000\t0\t1\nL\t0\t2000\t0\t2\nL\t0\t2000\t0\t3\nL\t0\t2000\t0\t4\n", 8, 1);
     refused_net("D\t1\t1000\t1\nD\t2\t60001\t1\nC\tA\t0\nP\t0\t1\nC\tA\t0\nP\t0\t2\n", 9, 2);
+    /* a light condition is no weak row; the largest misclosures, over pivots of 1 */
+    accepted_net("D\t1\t0\t1\nC\tS\nL\t0\t9\t0\t1\n", "ADJ\t1\t1\nV\t1\t0\t0\nK\t1\t0\t0\t0\n", "E\t0\t0\n");
+    refused_net("D\t1\t0\t1\nD\t2\t0\t1\nC\tS\nL\t0\t1\t0\t1\nR\t10000\t0\t0\t0\nC\tS\nL\t10000\t1\t0\t1\nL\t0\t1\t0\t2\n", 7, 2);
     /* one minute itself is no blunder */
     accepted_net("D\t1\t1000\t1\nD\t2\t60000\t1\nC\tA\t0\nP\t0\t1\nC\tA\t0\nP\t0\t2\n",
                  "ADJ\t2\t2\nV\t1\t-1000\t0\nV\t2\t-60000\t0\nK\t1\t-1000000\t0\t0\nK\t2\t-60000000\t0\t0\n", "E\t42432\t28620\n");

@@ -155,19 +155,24 @@ fn of_conditions() {
     conditions(2001, 1000001, 100, 0);
 }
 
-// 6 to 9 leave the lists as they were. The 8 is one only as each product is rounded by itself. The 9s have odd coefficients with odd misclosures, which
-// no file has together: u is -60,001, then 60,001 beside a -60,000, which passes.
+// 6 to 9 leave the lists as they were. The second 6 has a pivot of 1 under an entry of 1,025, the second 7 has pivots of 1. The 8 is one only as each
+// product is rounded by itself. The 9s have odd coefficients with odd misclosures, which no file has together: u is -60,001, then 60,001 beside a
+// -60,000, which passes.
 fn of_solutions() {
     two(0, 0, 1, 1, 100, 100, 100, 100, 500, 500);
+    two(0, 0, 1, 1, 1, 0, 32, 1, 0, 0);
     conditions(10, 1001, 10, 1000);
+    conditions(1, 11, 1, 0);
     two(0, 0, 10, 10, 2000, 2000, 2000, 0, 4, 0);
     conditions(199, 119401, 100, 0);
     conditions(201, 120601, 199, -119401);
 }
 
-// Accepted: correlates and corrections at their limits, halves of both signs, coefficients and misclosures that no file has together.
+// Accepted: correlates and corrections at their limits, the second time over pivots of 1, halves of both signs, coefficients and misclosures that no
+// file has together.
 fn of_answers() {
     conditions(10, 1000, 10, -1000);
+    conditions(1, 10, 1, -10);
     conditions(201, 120601, 201, -120601);
     conditions(100, 5, 200, -5);
     two(10, 20, 3, 10, 100, -37, 55, 250, 1234, -777);
