@@ -2,15 +2,15 @@
 --   WeakExactly      a reply is 6, at whatever row, exactly where this is so, and then it is 6 at row 1
 --   lone-solution    of the solution of a lone condition whose numbers are in range
 --   lone-table       of a lent table of one condition that passes the input checks
-use mathlib.Core.Path.{_≡_, refl, sym, _∙_, ap, subst}
+use mathlib.Core.Path.{_≡_, refl, ap, subst}
 use mathlib.Core.Bool.{Bool, true, false}
-use mathlib.Core.Logic.{_⊎_, ⊎-elim}
+use mathlib.Core.Logic.{⊎-elim}
 use mathlib.Core.List.{List}
-use Prim.Native.Nat.{ℕ, suc, _+_, _-_, _<_}
+use Prim.Native.Nat.{ℕ, _+_, _-_, _<_}
 use native.Mathlib.Omega.{arith}
 use lib.Dec.{lit≤}
 use lib.ListN.{length}
-use lib.IntN.{ℤ, natAbs}
+use lib.IntN.{ℤ}
 use Rattle.exact.specs.First.{first}
 use Rattle.exact.proofs.Searching.{failed-none}
 use Rattle.reply.specs.declared.Refusal.{Refusal}
@@ -24,8 +24,7 @@ use Rattle.doolittle.specs.Table.{Table, tableOf}
 use Rattle.doolittle.specs.Solution.{weak, K}
 use Rattle.doolittle.specs.Inner.{Sound}
 use Rattle.doolittle.proofs.Lone.{Untouching, lone-weak, lone-zero}
-use Rattle.adjustment.specs.Corrections.{R-of, u-of}
-use Rattle.adjustment.specs.Refusals.{rowsReply, correlatesReply, remaindersReply, pastMinute, correctionsReply, solutionReply}
+use Rattle.adjustment.specs.Refusals.{rowsReply, correlatesReply, remaindersReply, correctionsReply, solutionReply}
 use Rattle.adjustment.specs.Promise.{Answers, adjustReply}
 use Rattle.adjustment.proofs.Promising.{input, passed-sound, passed-solved}
 

@@ -4,6 +4,7 @@
 --   accepted-adjusts         so does an accepted table whose lists are the rules' answers: what the promise says of accepted tables holds of them
 --   passed-sound, passed-solved      of every table that passes the input checks: its numbers are in range, and the solution replies
 --   accepted-counts, accepted-weights      of every table that the rules accept: its counts and its q are in range
+--   accepted-pivots          of every table that the rules accept: each pivot is above 0, and 1,000 times it is not below its entry N(j,j)
 --   accepted-demand3, accepted-within-minute      of every table that the rules accept: demand 3, and no printed correction is past one minute
 --   refusal-leaves-lists     a refusal that keeps the promise leaves the six lent lists as they were
 --   only-reply               two replies that keep the promise are equal, and leave equal lists
@@ -12,13 +13,14 @@ use mathlib.Core.Bool.{Bool, true, false}
 use mathlib.Core.List.{List}
 use Prim.Native.Nat.{ℕ, _+_, _<_}
 use lib.ListN.{length}
-use lib.IntN.{ℤ, pos, _-ℤ_}
+use lib.IntN.{ℤ, pos, _-ℤ_, _*ℤ_}
+use lib.Signed.{_≤ℤ_, _<ℤ_}
 use Rattle.exact.specs.Circle.{C}
 use Rattle.exact.specs.Outside.{outside}
 use Rattle.exact.proofs.Filling.{tabulate-at}
 use Rattle.exact.proofs.Searching.{neither}
 use Rattle.reply.specs.declared.Refusal.{Refusal}
-use Rattle.reply.specs.declared.Refusal.the-variants.{Count, OutOfRange}
+use Rattle.reply.specs.declared.Refusal.the-variants.{Count, OutOfRange, WeakRow}
 use Rattle.reply.specs.declared.Reply.{Reply}
 use Rattle.reply.specs.declared.Reply.the-variants.{Accepted, Refused}
 use Rattle.reply.specs.Checks.{refuseIf, _andThen_, leaves}
@@ -26,12 +28,13 @@ use Rattle.reply.specs.Verdicts.{verdictOf}
 use Rattle.reply.proofs.Checking.{never, both-accepted, if-accepted, none-refused}
 use Rattle.direction.specs.Ranges.{weightOutOfRange, faultAt, directionsReply}
 use Rattle.doolittle.specs.Table.{Table, at, tableOf}
-use Rattle.doolittle.specs.Solution.{K}
+use Rattle.doolittle.specs.Solution.{N, D, weak, K}
 use Rattle.adjustment.specs.Corrections.{V-of, R-of, u-of, Q-of}
 use Rattle.adjustment.specs.Refusals.{countsAmiss, lengthsAmiss, conditionsReply, rowsReply, correlatesReply, remaindersReply, correctionsReply, solutionReply, inputReply}
 use Rattle.adjustment.specs.Demand.{Demand3}
 use Rattle.adjustment.specs.Promise.{Answers, adjustReply, answersOf, WithinMinute, Adjusts}
 use Rattle.doolittle.specs.Inner.{Sound}
+use Rattle.doolittle.proofs.Reducing.{sound-at}
 use Rattle.adjustment.proofs.Admitting.{counts-known, Lengths, lengths-known, sound-table}
 use Rattle.adjustment.proofs.Demands.{demand-3, demand-ext}
 use Rattle.adjustment.proofs.Solving.{remainders-close, corrections-small}
@@ -145,6 +148,13 @@ module _ (ds qs cs ws : List ℤ) (lent : Answers) where
 
     pub accepted-demand3 : Demand3 t (V-of t (K t)) (u-of t (K t)) (R-of t (K t)) (Q-of t (K t))
     accepted-demand3 = let s = passed-sound (both .0) in demand-3 t (K t) (s .q-least) (s .q-most) (remainders-close t (K t) (last (both .1) .0))
+
+    -- no accepted sheet rests on a pivot below 1, or on one below a thousandth of its entry
+    pub accepted-pivots : (j : ℕ) → j < t .n → (pos 0 <ℤ D t j j) × (N t j j ≤ℤ (pos 1000 *ℤ D t j j))
+    unfolding solutionReply rowsReply
+    accepted-pivots j l =
+        sound-at t j
+        (none-refused (t .n) (weak t) (λ j. WeakRow (j + 1)) (both-accepted (rowsReply t) (correlatesReply t andThen (remaindersReply t (K t) andThen correctionsReply t (K t))) (both .1) .0) j l) .pivot
 
     pub accepted-within-minute : WithinMinute t (u-of t (K t))
     accepted-within-minute = corrections-small t (K t) (last (both .1) .1)
