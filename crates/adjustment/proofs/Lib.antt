@@ -6,3 +6,4 @@ pub mod Answering
 pub mod Admitting
 pub mod Promising
 pub mod Lone
+pub mod Multiple

@@ -2,7 +2,7 @@
 --   WeakExactly      a reply is 6, at whatever row, exactly where this is so, and then it is 6 at row 1
 --   lone-solution    of the solution of a lone condition whose numbers are in range
 --   lone-table       of a lent table of one condition that passes the input checks
-use mathlib.Core.Path.{_≡_, refl, ap, subst}
+use mathlib.Core.Path.{_≡_, refl, sym, ap, subst}
 use mathlib.Core.Bool.{Bool, true, false}
 use mathlib.Core.Logic.{⊎-elim}
 use mathlib.Core.List.{List}
@@ -12,14 +12,14 @@ use lib.Dec.{lit≤}
 use lib.ListN.{length}
 use lib.IntN.{ℤ}
 use Rattle.exact.specs.First.{first}
-use Rattle.exact.proofs.Searching.{failed-none}
+use Rattle.exact.proofs.Searching.{failed-none, first-at}
 use Rattle.reply.specs.declared.Refusal.{Refusal}
 use Rattle.reply.specs.declared.Refusal.the-variants.{WeakRow, Correlate, Remainder, Correction}
 use Rattle.reply.specs.declared.Reply.{Reply}
 use Rattle.reply.specs.declared.Reply.the-variants.{Accepted, Refused}
 use Rattle.reply.specs.Numbers.{numberOf}
 use Rattle.reply.specs.Checks.{refuseFirst, _andThen_}
-use Rattle.reply.proofs.Checking.{refuse-at, refuse-none, refused-by, refused-as}
+use Rattle.reply.proofs.Checking.{refuse-none, refused-by, refused-as}
 use Rattle.doolittle.specs.Table.{Table, tableOf}
 use Rattle.doolittle.specs.Solution.{weak, K}
 use Rattle.doolittle.specs.Inner.{Sound}
@@ -27,6 +27,7 @@ use Rattle.doolittle.proofs.Lone.{Untouching, lone-weak, lone-zero}
 use Rattle.adjustment.specs.Refusals.{rowsReply, correlatesReply, remaindersReply, correctionsReply, solutionReply}
 use Rattle.adjustment.specs.Promise.{Answers, adjustReply}
 use Rattle.adjustment.proofs.Promising.{input, passed-sound, passed-solved}
+use Rattle.adjustment.proofs.Solving.{weak-refused}
 
 abbrev pub WeakExactly : Reply → Type 0 → Type 0
 WeakExactly reply P = (P → reply ≡ Refused (WeakRow 1)) × ((row : ℕ) → reply ≡ Refused (WeakRow row) → P)
@@ -39,7 +40,7 @@ module _ (qs cs ws : List ℤ) (s : Sound qs cs ws) (one : length ws ≡ 1) wher
   abbrev t : Table
   t = tableOf qs cs ws
 
-  -- the checks after 6
+  -- 8 and 9, which come after 7
   abbrev after-7 : Reply
   after-7 = remaindersReply t (K t) andThen correctionsReply t (K t)
 
@@ -56,9 +57,9 @@ module _ (qs cs ws : List ℤ) (s : Sound qs cs ws) (one : length ws ≡ 1) wher
   rows-stand e = refuse-none (t .n) (weak t) (λ j. WeakRow (j + 1)) (λ h l. let z : 0 ≡ h = omega arith in subst (λ (h : ℕ). weak t h ≡ false) z e)
 
   pub lone-solution : WeakExactly (solutionReply t) (Untouching t 0)
-  unfolding solutionReply rowsReply
+  unfolding solutionReply
   lone-solution = (
-    (λ z. rw (refuse-at (t .n) (weak t) (λ j. WeakRow (j + 1)) 0 (omega arith) (failed-none (weak t)) (lone-zero qs cs ws s one z))),
+    (λ z. sym (weak-refused t 0 (sym (first-at (t .n) (weak t) 0 (omega arith) (failed-none (weak t)) (lone-zero qs cs ws s one z))) (omega arith))),
     (λ row e. by-test (weak t 0) refl row e),
   )
     where

@@ -3,3 +3,4 @@ pub mod Weakness
 pub mod Reducing
 pub mod Correlating
 pub mod Lone
+pub mod Multiple

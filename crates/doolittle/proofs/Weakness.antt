@@ -1,5 +1,6 @@
 -- The one test of a row. Assumes nothing.
 --   weak-by-coefficient, weak-by-constant, weak-by-pivot, weak-by-multiplier      what the test says, from its parts in their order
+--   weak-by-low                   whatever the parts before say, a low pivot makes a row weak
 --   high-pivot                    a pivot that is not low divides, and 1,000 times it is not below its entry
 --   SoundRow, sound-row           what is known of a row that is not weak
 --   weak-ext                      the test reads the coefficients from j to n alone
@@ -16,7 +17,7 @@ use lib.Signed.{ltZ, _≤ℤ_, _<ℤ_}
 use Rattle.exact.specs.First.{some-below}
 use Rattle.exact.proofs.Linear.{unknowns, linear, orders, lt-by}
 use Rattle.exact.proofs.Order.{lt-false}
-use Rattle.exact.proofs.Searching.{from-ext, from-none, neither}
+use Rattle.exact.proofs.Searching.{from-ext, from-none, neither, either}
 use Rattle.doolittle.specs.Solution.{multiplier, lowPivot, weakRow}
 use Rattle.doolittle.specs.Inner.{From}
 
@@ -31,6 +32,10 @@ module _ (n j : ℕ) (entry : ℤ) (d : ℕ → ℤ) (l : ℤ) where
   pub weak-by-coefficient : largeD n j d ≡ true → weakRow n j entry d l ≡ true
   unfolding weakRow
   weak-by-coefficient e = rw e
+
+  pub weak-by-low : lowPivot (d j) entry ≡ true → weakRow n j entry d l ≡ true
+  unfolding weakRow
+  weak-by-low h = either (largeD n j d) _ (either (ltb 4000000000 (natAbs l)) _ (rw h))
 
   module _ (e : largeD n j d ≡ false) where
     pub weak-by-constant : 4000000000 < natAbs l → weakRow n j entry d l ≡ true

@@ -13,7 +13,7 @@ use lib.Signed.{_≤ℤ_, _<ℤ_}
 use Rattle.exact.specs.Sum.{sum}
 use Rattle.exact.proofs.Linear.{unknowns, linear, orders, eq-by, le-by, eq-of}
 use Rattle.exact.proofs.Identity.{letters, polynomials, ring-by}
-use Rattle.exact.proofs.Order.{mul-nonneg, square-nonneg, square-zero, lt-le}
+use Rattle.exact.proofs.Order.{mul-nonneg, square-nonneg, square-zero, same-by, lt-le}
 use Rattle.exact.proofs.Sum.{sum-ext, sum-add, sum-mul, sum-swap, sum-zero, sum-nonneg, sum-zeros}
 
 -- ---- identities of one term
@@ -41,10 +41,7 @@ nothing-added s u e = let v = unknowns (s ∷ u ∷ []) in eq-by (search linear)
 
 -- the square of a difference, with a positive weight, is 0 only where there is none
 no-square : (x y g : ℤ) → pos 0 <ℤ g → g *ℤ ((x -ℤ y) *ℤ (x -ℤ y)) ≡ pos 0 → x ≡ y
-no-square x y g h e = same x y (square-zero g (x -ℤ y) h e)
-  where
-    same : (x y : ℤ) → x -ℤ y ≡ pos 0 → x ≡ y
-    same x y e = let v = unknowns (x ∷ y ∷ []) in eq-by (search linear) (search linear) (omega (arith, eq-of e (search linear) (search linear)))
+no-square x y g h e = same-by x y (square-zero g (x -ℤ y) h e)
 
 -- the corrections of n rows and their correlates, at direction i
 abbrev pub corrections : ℕ → (ℕ → ℕ → ℤ) → (ℕ → ℤ) → (ℕ → ℤ) → ℕ → ℤ

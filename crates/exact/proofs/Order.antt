@@ -2,7 +2,9 @@
 --   le-trans, le-antisym, lt-le                 the order itself; lt-or-le: one of two numbers is the lesser
 --   add-le, sub-nonneg                          with sums
 --   mul-nonneg, mul-le-left, square-nonneg      with products
---   mul-zero, square-zero                       a product is 0 only where a factor is; a square of positive weight only at 0
+--   same-by                                     numbers whose difference is 0 are equal
+--   mul-zero, square-zero, mul-cancel           a product is 0 only where a factor is; a square of positive weight only at 0; a factor above 0 goes out
+--   lt-yes                                      the test of two numbers of which one is the lesser
 --   lt-true, lt-false, le-true, le-false        what a test of two signed numbers told
 use mathlib.Core.Path.{_≡_, refl, sym, ap, subst, subst₂}
 use mathlib.Core.Bool.{Bool, true, false, not}
@@ -55,12 +57,24 @@ mul-zero (negsuc a) (pos zero) e = inr refl
 mul-zero (negsuc a) (pos (suc b)) e = absurd (omega (arith, eq-of e (difference-neg (difference-pos (suc a * suc b))) (difference-pos 0)))
 mul-zero (negsuc a) (negsuc b) e = absurd (omega (arith, ap natAbs e))
 
--- a square of positive weight is 0 only at 0
-pub square-zero : (g z : ℤ) → pos 0 <ℤ g → g *ℤ (z *ℤ z) ≡ pos 0 → z ≡ pos 0
-square-zero g z h e = ⊎-elim (λ f. absurd (not-zero g h f)) (λ f. ⊎-elim (λ x. x) (λ x. x) (mul-zero z z f)) (mul-zero g (z *ℤ z) e)
+-- and where the first factor is above 0, the other one is 0
+other-zero : (g z : ℤ) → pos 0 <ℤ g → g *ℤ z ≡ pos 0 → z ≡ pos 0
+other-zero g z h e = ⊎-elim (λ f. absurd (not-zero g h f)) (λ f. f) (mul-zero g z e)
   where
     not-zero : (g : ℤ) → pos 0 <ℤ g → g ≡ pos 0 → ⊥
     not-zero g h e = let v = unknowns (g ∷ []) in omega (arith, orders)
+
+-- a square of positive weight is 0 only at 0
+pub square-zero : (g z : ℤ) → pos 0 <ℤ g → g *ℤ (z *ℤ z) ≡ pos 0 → z ≡ pos 0
+square-zero g z h e = ⊎-elim (λ x. x) (λ x. x) (mul-zero z z (other-zero g (z *ℤ z) h e))
+
+pub same-by : (x y : ℤ) → x -ℤ y ≡ pos 0 → x ≡ y
+same-by x y e = let v = unknowns (x ∷ y ∷ []) in eq-by (search linear) (search linear) (omega (arith, eq-of e (search linear) (search linear)))
+
+pub mul-cancel : (c x y : ℤ) → pos 0 <ℤ c → c *ℤ x ≡ c *ℤ y → x ≡ y
+mul-cancel c x y h e =
+    let v = unknowns (c ∷ x ∷ y ∷ []) in
+    same-by x y (other-zero c (x -ℤ y) h (eq-by (search linear) (search linear) (omega (arith, eq-of e (search linear) (search linear)))))
 
 pub lt-or-le : (a b : ℤ) → (a <ℤ b) ⊎ (b ≤ℤ a)
 lt-or-le a b = go (decLe (above b + below a) (above a + below b))
@@ -68,6 +82,14 @@ lt-or-le a b = go (decLe (above b + below a) (above a + below b))
     go : Dec (above b + below a ≤ above a + below b) → (a <ℤ b) ⊎ (b ≤ℤ a)
     go (yes h) = inr (let v = unknowns (a ∷ b ∷ []) in le-by (search linear) (search linear) (omega arith))
     go (no h) = inl (let v = unknowns (a ∷ b ∷ []) in lt-by (search linear) (search linear) (omega arith))
+
+-- ---- a test of two numbers
+pub lt-yes : (a b : ℤ) → a <ℤ b → ltZ a b ≡ true
+lt-yes a b h = by-test (ltZ a b) (h .lt)
+  where
+    by-test : (t : Bool) → T t → t ≡ true
+    by-test true k = refl
+    by-test false k = absurd k
 
 -- ---- what a test told of a and b, where the code compared x and y that equal them
 module _ {x y a b : ℤ} where

@@ -6,7 +6,7 @@
 --   first-ext           of tests that agree below n
 --   from-failed, from-test, from-ext, from-none      a search that begins at j: whatever lies before j fails, from j on the test decides
 --   Failed, failed-none, failed-more       the loop's invariant: all below i fail
---   neither             where one test or the other does not hold, neither does
+--   neither, either     where one test or the other does not hold, neither does; where the second holds, one or the other does
 use mathlib.Core.Path.{_≡_, refl, sym, _∙_, ap, subst}
 use mathlib.Core.Bool.{Bool, true, false, cond, _||_, _&&_}
 use Prim.Native.Nat.{ℕ, zero, suc, _+_, _<_, _≤_}
@@ -20,6 +20,10 @@ use Rattle.exact.specs.First.{first, some-below}
 pub neither : (a b : Bool) → (a || b) ≡ false → (a ≡ false) × (b ≡ false)
 neither true b h = let z : _≡_ {A = ℕ} 0 1 = cc in absurd (omega arith)
 neither false b h = (refl, h)
+
+pub either : (a b : Bool) → b ≡ true → (a || b) ≡ true
+either true b h = refl
+either false b h = h
 
 -- all numbers below i fail the test
 abbrev pub Failed : (ℕ → Bool) → ℕ → Type 0

@@ -2,8 +2,7 @@
 --   repeated        "Two conditions 100, 100, equal or unequal w: 6 at row 2."
 use mathlib.Core.Path.{_≡_, refl, ap}
 use mathlib.Core.Bool.{Bool, true, false, _||_}
-use mathlib.Core.List.{List, [], _∷_}
-use Prim.Native.Nat.{ℕ, zero, suc, _+_, _*_, _<_, _≤_}
+use Prim.Native.Nat.{zero, suc, _≤_}
 use native.Mathlib.Omega.{arith}
 use borrow.Author.Tests.{le-ltb}
 use lib.Dec.{ltb}
@@ -14,18 +13,13 @@ use Rattle.exact.specs.Nearest.{nearest}
 use Rattle.exact.proofs.Bound.{abs-mul}
 use Rattle.exact.proofs.Searching.{Failed, first-at, first-none}
 use Rattle.reply.specs.declared.Refusal.the-variants.{WeakRow}
-use Rattle.reply.specs.declared.Reply.{Reply}
 use Rattle.reply.specs.declared.Reply.the-variants.{Accepted, Refused}
 use Rattle.direction.specs.Ranges.{directionsReply}
-use Rattle.doolittle.specs.Table.{Table}
 use Rattle.doolittle.specs.Solution.{N, reduced, D, L, weakRow, weak}
+use Rattle.doolittle.proofs.Weakness.{weak-by-low}
 use Rattle.adjustment.specs.Refusals.{countsAmiss, differs, lengthsAmiss, coefficientFault, misclosureFault, conditionsReply, rowsReply, solutionReply, inputReply}
 use Rattle.adjustment.specs.Promise.{adjustReply}
 use Rattle.adjustment.proofs.Figures.{figure4, tableIn, replyTo}
-
-or-true : (b : Bool) → (b || true) ≡ true
-or-true true = refl
-or-true false = refl
 
 in-range : (w : ℤ) → natAbs w ≤ 1000000 → ltb 1000000 (natAbs w) ≡ false
 in-range w small = le-ltb 1000000 (natAbs w) small
@@ -41,7 +35,7 @@ row-1-stands w w' small = ap (λ (b : Bool). b || false) (constant-1 w small)
 -- D(2,2) = 20,000 - 20,000, whatever the constant is
 row-2-weak : (w w' : ℤ) → weak (tableIn (figure4 w w')) 1 ≡ true
 unfolding sum nearest first N reduced D weakRow weak
-row-2-weak w w' = or-true (ltb 4000000000 (natAbs (L (tableIn (figure4 w w')) 1)))
+row-2-weak w w' = let t = tableIn (figure4 w w') in weak-by-low 2 1 (N t 1 1) (D t 1) (L t 1) refl
 
 rows : (w w' : ℤ) → natAbs w ≤ 1000000 → rowsReply (tableIn (figure4 w w')) ≡ Refused (WeakRow 2)
 unfolding rowsReply

@@ -10,12 +10,12 @@ use native.Mathlib.Omega.{arith}
 use borrow.Author.Tests.{ltb-false}
 use lib.Dec.{T, ltb}
 use lib.IntN.{ℤ, pos, negℤ, natAbs, _+ℤ_, _-ℤ_, _*ℤ_}
-use lib.Signed.{ltZ, _≤ℤ_, _<ℤ_}
+use lib.Signed.{_≤ℤ_, _<ℤ_}
 use Rattle.exact.specs.Circle.{C, floor, modulo}
 use Rattle.exact.proofs.Circles.{floor-low, floor-high, modulo-only}
 use Rattle.exact.proofs.Identity.{letters, polynomials, ring-by}
 use Rattle.exact.proofs.Linear.{unknowns, linear, orders, one-sided, eq-by, le-by, lt-by, abs-by, le-of, lt-of}
-use Rattle.exact.proofs.Order.{lt-or-le, lt-le, le-antisym, mul-le-left}
+use Rattle.exact.proofs.Order.{lt-or-le, lt-le, le-antisym, mul-le-left, lt-yes}
 use Rattle.exact.proofs.Sum.{sum-le, sum-mul}
 use Rattle.reply.specs.declared.Reply.the-variants.{Accepted}
 use Rattle.station.specs.Sightings.{Book}
@@ -108,13 +108,6 @@ module _ (test : ℕ → Bool) (v : ℕ → ℤ) (B n : ℕ) (small : (i : ℕ) 
       (sum-le n (λ i. negℤ (pos B) *ℤ cond (test i) (pos 1) (pos 0)) (chosen test v) (λ i l. term-low (test i) (v i) (small i l)))
 
 -- ---- the direction of an accepted list
-lt-yes : (a b : ℤ) → a <ℤ b → ltZ a b ≡ true
-lt-yes a b h = by-test (ltZ a b) (h .lt)
-  where
-    by-test : (t : Bool) → T t → t ≡ true
-    by-test true k = refl
-    by-test false k = absurd k
-
 above-zero : (z : ℤ) → pos 0 ≤ℤ z → (z ≡ pos 0 → ⊥) → pos 0 <ℤ z
 above-zero z h n = by-order (lt-or-le (pos 0) z)
   where
