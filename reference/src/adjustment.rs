@@ -12,7 +12,8 @@ pub const MOST_CONDITIONS: usize = 24;
 
 const MOST_D: i128 = 2_560_000_000;
 const MOST_L: i128 = 4_000_000_000;
-const LEAST_PIVOT: i128 = 100;
+/// A pivot keeps at least one part in so many of its entry, or it may be rounding alone.
+const PIVOT_PARTS: i128 = 1_000;
 const MOST_M: i128 = 1_000_000_000;
 const MOST_K: i128 = 100_000_000;
 const MOST_R: i128 = 50_000_000;
@@ -71,8 +72,10 @@ pub enum Weakness {
     Coefficient,
     /// |L| exceeds 4,000,000,000.
     Constant,
-    /// D(j,j) is below 100.
-    Pivot,
+    /// D(j,j) is below 1.
+    PivotBelowOne,
+    /// D(j,j) is 1 or more, but 1,000*D(j,j) is below N(j,j).
+    PivotBelowEntry,
     /// Some |M| exceeds 10^9.
     Factor,
 }
@@ -270,8 +273,12 @@ fn reduced_row(
         return Err(Weakness::Constant);
     }
     let pivot = d[0];
-    if pivot < LEAST_PIVOT {
-        return Err(Weakness::Pivot);
+    if pivot < 1 {
+        return Err(Weakness::PivotBelowOne);
+    }
+    // The entry as it was formed, before any row was added to it.
+    if PIVOT_PARTS * pivot < normal[j] {
+        return Err(Weakness::PivotBelowEntry);
     }
     let factor = |&d: &i128| nearest(-1_000_000 * d, pivot);
     let m: Vec<i128> = d.iter().map(factor).collect();

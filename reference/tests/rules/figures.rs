@@ -68,8 +68,11 @@ fn figure_5_correlate_at_its_limit() {
 }
 
 #[test]
-fn figure_6_pivot_below_its_limit() {
-    assert_eq!(adjust(&[1], &[&[9]], &[0]), refused(6, 1));
+fn figure_6_a_light_condition_is_accepted_with_everything_zero() {
+    let adjusted = adjust(&[1], &[&[9]], &[0]).unwrap();
+    assert_eq!((adjusted.k, adjusted.v), (vec![0], vec![0]));
+    assert_eq!((adjusted.u, adjusted.adjusted), (vec![0], vec![0]));
+    assert_eq!((adjusted.r, adjusted.q), (vec![0], vec![0]));
 }
 
 #[test]
