@@ -8,7 +8,7 @@ mod precision;
 mod readings;
 mod refusals;
 
-use reference::adjustment::{self, Adjustment, ConditionTable};
+use reference::adjustment::{self, Adjustment, ConditionTable, Weakness};
 use reference::condition::{self, ConditionKind, LentCondition};
 use reference::lines;
 use reference::network;
@@ -65,16 +65,27 @@ pub fn reply(net: &str) -> String {
 
 /// The adjustment of rows of conditions; every direction is 0.
 pub fn adjust(q: &[i64], rows: &[&[i64]], w: &[i64]) -> Result<Adjustment, Refusal> {
-    let directions = vec![0; q.len()];
-    let a = rows.concat();
-    let table = ConditionTable {
-        directions: &directions,
-        q,
-        a: &a,
-        w,
-    };
     let lengths = adjustment::AnswerLengths::fitting(q.len(), w.len());
-    adjustment::adjust(&table, lengths)
+    with_table(q, rows, w, |table| adjustment::adjust(table, lengths))
+}
+
+/// Why the first weak row of conditions that all close is weak, if one is.
+pub fn weakness(q: &[i64], rows: &[&[i64]]) -> Option<Weakness> {
+    with_table(q, rows, &vec![0; rows.len()], adjustment::weakness)
+}
+
+fn with_table<T>(
+    q: &[i64],
+    rows: &[&[i64]],
+    w: &[i64],
+    operation: impl Fn(&ConditionTable) -> T,
+) -> T {
+    operation(&ConditionTable {
+        directions: &vec![0; q.len()],
+        q,
+        a: &rows.concat(),
+        w,
+    })
 }
 
 /// The means of sightings written as position, object, face and reading.

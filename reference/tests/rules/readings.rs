@@ -390,6 +390,11 @@ fn reading_18_answer_lists_of_the_wrong_length() {
     }
 }
 
+/// A first pivot of 1, which the second row meets.
+fn steepest(meeting: i64) -> Result<Adjustment, Refusal> {
+    adjust(&[1; 2], &[&[1, 0], &[meeting, 40]], &[0, 0])
+}
+
 /// Ten directions of 1 with q = 10 make a pivot of 100; the second row meets them.
 fn steep(first_of_second: i64) -> Result<Adjustment, Refusal> {
     let mut first = vec![1; 10];
@@ -415,24 +420,52 @@ fn reading_19_the_first_weak_row_is_the_place() {
     assert_eq!(adjust(&[1; 2], &rows, &[0; 2]), refused(6, 1));
     // M belongs to the row it is formed in.
     assert_eq!(steep(1_001), refused(6, 1));
+    for meeting in [1_001, 2_000] {
+        assert_eq!(steepest(meeting), refused(6, 1));
+        assert_eq!(steepest(-meeting), refused(6, 1));
+    }
     assert_eq!(heavy(1_501, 1_000_000), refused(6, 2));
+}
+
+/// Five conditions of which the last two meet as D(4,5) = 2,560,000,000 + `over`. Rounding
+/// takes 3 of 20 from the second pivot, and thereby, the third row being mostly of the
+/// second's kind, all but 600 of 1,620 from the third.
+fn amplified(over: i64) -> [Vec<i64>; 5] {
+    let signs: Vec<i64> = (0..60).map(|i| 1 - 2 * (i % 2)).collect();
+    let sized = |size: i64| signs.iter().map(|sign| size * sign).collect::<Vec<i64>>();
+    let first = [sized(1_998), vec![0; 4]].concat();
+    let mut second = [sized(5), vec![0; 4]].concat();
+    (second[0], second[2]) = (6, 4);
+    let mut third = [vec![0; 60], vec![9, 9, 0, 0]].concat();
+    (third[0], third[2]) = (17, -17);
+    let fourth = [vec![2_000; 63], vec![1]].concat();
+    let fifth = [vec![2_000; 60], vec![-2_000, -2_000, 1_200, over]].concat();
+    [first, second, third, fourth, fifth]
 }
 
 #[test]
 fn reading_19_a_coefficient_past_its_limit_is_a_weak_row() {
-    // Rounding leaves 154 of a second pivot that ought to be larger; D(3,4) is then
-    // 2,562,827,532 while its row's pivot is sound.
-    let first: Vec<i64> = (0..64)
-        .map(|i| if i % 2 == 0 { -1_683 } else { 1_683 })
-        .collect();
-    let mut second = first.clone();
-    second[..4].copy_from_slice(&[-1_692, 1_687, -1_684, 1_685]);
-    let third = vec![2_000; 64];
-    let mut fourth = third.clone();
-    fourth[0] = 256;
-    let rows: [&[i64]; 4] = [&first, &second, &third, &fourth];
-    assert_eq!(adjust(&[10; 64], &rows, &[0; 4]), refused(6, 3));
-    assert!(adjust(&[10; 64], &rows[..3], &[0; 3]).is_ok());
+    let q = [vec![10; 63], vec![1]].concat();
+    let reply = |rows: &[Vec<i64>]| {
+        let rows: Vec<&[i64]> = rows.iter().map(Vec::as_slice).collect();
+        let reply = adjust(&q, &rows, &vec![0; rows.len()]);
+        (reply.map(|_| ()), weakness(&q, &rows))
+    };
+    let past = (refused(6, 4), Some(Weakness::Coefficient));
+    // At its limit it passes; rounding has spoilt the last pivot all the same.
+    let passes = (refused(6, 5), Some(Weakness::PivotBelowOne));
+    for side in [1, -1] {
+        let last_two = |over: i64| {
+            let mut rows = amplified(over);
+            rows[4].iter_mut().for_each(|a| *a *= side);
+            reply(&rows)
+        };
+        assert_eq!(last_two(-1), passes);
+        assert_eq!(last_two(0), passes);
+        assert_eq!(last_two(1), past);
+        assert_eq!(last_two(2_000), past);
+    }
+    assert_eq!(reply(&amplified(1)[..4]), (Ok(()), None));
 }
 
 #[test]
@@ -442,6 +475,7 @@ fn reading_20_limits_of_the_solution_pass() {
     let remainder = adjust(&[10; 10], &[&[1_000; 10]], &[-5]).unwrap();
     assert_eq!(remainder.r, [50_000_000]);
     assert!(steep(1_000).is_ok());
+    assert!(steepest(1_000).is_ok() && steepest(-1_000).is_ok());
     assert!(heavy(1_500, 1_000_000).is_ok());
     let fullest = adjust(&[10; 64], &[&[2_000; 64]], &[256]).unwrap();
     assert_eq!((fullest.k, fullest.r), (vec![-1], vec![0]));
@@ -567,7 +601,7 @@ fn reading_25_all_other_refusals_come_first() {
     assert_eq!(table(11, 100, 0), refused(3, 2));
     assert_eq!(table(1, 2_001, 0), refused(4, 2));
     assert_eq!(table(1, 100, 1_000_001), refused(5, 2));
-    assert_eq!(table(1, 4, 0), refused(6, 2));
+    assert_eq!(table(1, 0, 0), refused(6, 2));
     assert_eq!(table(1, 5, 1_001), refused(7, 2));
     assert_eq!(table(10, 2_000, 200), refused(8, 2));
 
@@ -583,6 +617,120 @@ fn reading_25_all_other_refusals_come_first() {
     assert_eq!(file("C S\nL 20 4 0 2\n"), "REFUSED 7 2");
     let three = "L 0 2000 0 3\nL 0 2000 0 4\nL 0 2000 0 5\n";
     assert_eq!(file(&format!("C S\nL 2 2000 0 2\n{three}")), "REFUSED 8 2");
+}
+
+/// Two conditions that share all but one direction, which is the second's own: D(2,2) is
+/// the square of its coefficient, and N(2,2) has the squares of the shared ones besides.
+fn sharing(shared: &[i64], own: i64, w: [i64; 2]) -> Result<Adjustment, Refusal> {
+    let first = [shared, &[0]].concat();
+    let second = [shared, &[own]].concat();
+    adjust(&vec![1; first.len()], &[&first, &second], &w)
+}
+
+#[test]
+fn reading_27_a_pivot_is_weighed_against_its_entry() {
+    // D is 1, then 10,000. The squares of the shared ones are one more than 999 times D,
+    // just that, and one less, so that 1,000*D is one below N, at it, and one above.
+    let limits: [(i64, [&[i64]; 3]); 2] = [
+        (1, [&[31, 6, 1, 1, 1], &[31, 6, 1, 1], &[31, 6, 1]]),
+        (
+            100,
+            [
+                &[2_000, 2_000, 1_201, 740],
+                &[1_998, 1_994, 1_418, 106],
+                &[1_999, 1_995, 1_418, 57],
+            ],
+        ),
+    ];
+    for (own, [below, at, above]) in limits {
+        for own in [own, -own] {
+            assert_eq!(sharing(below, own, [0, 0]), refused(6, 2));
+            assert!(sharing(at, own, [0, 0]).is_ok());
+            assert!(sharing(above, own, [0, 0]).is_ok());
+        }
+    }
+    // What the first condition leaves open, the second's own direction closes alone.
+    let closed = sharing(&[31, 6, 1, 1], 1, [0, 1]).unwrap();
+    assert_eq!(closed.k, [10_000_000, -10_000_000]);
+    assert_eq!(closed.u, [0, 0, 0, 0, -100]);
+    assert_eq!((closed.r, closed.q), (vec![0, 0], vec![0, 0]));
+}
+
+#[test]
+fn reading_27_the_entry_is_the_row_s_own_before_any_reduction() {
+    // N(3,3) is 101 more than the square; row 1 takes the square away, row 2 the 100, so
+    // that D(3,3) is 1 each time.
+    let third = |a: i64| {
+        let rows: [&[i64]; 3] = [&[100, 0, 0], &[0, 10, 0], &[a, 10, 1]];
+        adjust(&[1; 3], &rows, &[0; 3])
+    };
+    for side in [1, -1] {
+        assert!(third(side * 29).is_ok());
+        assert_eq!(third(side * 30), refused(6, 3));
+        assert_eq!(third(side * 100), refused(6, 3));
+    }
+    // Neither the heaviest row before it nor the one after it counts.
+    let rows: [&[i64]; 3] = [&[2_000, 0, 0], &[0, 1, 0], &[0, 0, 2_000]];
+    assert!(adjust(&[1; 3], &rows, &[0; 3]).is_ok());
+}
+
+#[test]
+fn reading_27_a_pivot_below_one_is_weak_whatever_its_entry() {
+    let below_one = Some(Weakness::PivotBelowOne);
+    // D = N = 0, which no comparison of the two would refuse.
+    for q in 1..=10 {
+        assert_eq!(adjust(&[q], &[&[0]], &[0]), refused(6, 1));
+        assert_eq!(weakness(&[q], &[&[0]]), below_one);
+    }
+    let nothing: [&[i64]; 2] = [&[1, 0], &[0, 0]];
+    assert_eq!(adjust(&[1; 2], &nothing, &[0; 2]), refused(6, 2));
+    // D = 0 and D = 1, under entries far below 1,000.
+    assert_eq!(sharing(&[1], 0, [0, 0]), refused(6, 2));
+    assert!(sharing(&[1], 1, [0, 0]).is_ok());
+    // D = -600: the factor is rounded up.
+    let rows: [&[i64]; 2] = [&[1_999; 64], &[1_502; 64]];
+    assert_eq!(adjust(&[10; 64], &rows, &[0; 2]), refused(6, 2));
+    assert_eq!(weakness(&[10; 64], &rows), below_one);
+}
+
+#[test]
+fn reading_27_light_conditions_are_not_weak() {
+    for q in 1..=10 {
+        let light = |w: i64| adjust(&[q], &[&[1]], &[w]);
+        let zero = light(0).unwrap();
+        assert_eq!((zero.k, zero.v, zero.r), (vec![0], vec![0], vec![0]));
+        // K reaches its limit, and the direction takes up 100 for each 1 of w.
+        let most = light(10 * q).unwrap();
+        assert_eq!((most.k, most.r), (vec![-100_000_000], vec![0]));
+        assert_eq!((most.u, most.q), (vec![-1_000 * q], vec![0]));
+        assert_eq!(light(10 * q + 1), refused(7, 1));
+    }
+    // The lightest net there is: 24 conditions, each in a direction of its own.
+    let rows: Vec<Vec<i64>> = (0..24)
+        .map(|j| (0..24).map(|i| i64::from(i == j)).collect())
+        .collect();
+    let rows: Vec<&[i64]> = rows.iter().map(Vec::as_slice).collect();
+    assert_eq!(adjust(&[1; 24], &rows, &[1; 24]).unwrap().u, [-100; 24]);
+    let file = "D 1 0 1\nC S\nL 100 1 0 1\nR 100 0 0 0\n";
+    assert_eq!(reply(file), "ADJ 1 1");
+}
+
+#[test]
+fn reading_27_a_heavy_condition_said_twice_is_weak() {
+    // D(2,2) = 360 under N(2,2) = 1,440,000,000 is what rounding the factor has left.
+    let rows: [&[i64]; 2] = [&[1_999; 64], &[1_500; 64]];
+    for w in [[0, 0], [1_999, 1_500], [40, 30]] {
+        assert_eq!(adjust(&[10; 64], &rows, &w), refused(6, 2));
+    }
+    let below_entry = Some(Weakness::PivotBelowEntry);
+    assert_eq!(weakness(&[10; 64], &rows), below_entry);
+    // 154 under 1.8 * 10^9: a little of its own, most of which is rounded away.
+    let first: Vec<i64> = (0..64).map(|i| 1_683 * (2 * (i % 2) - 1)).collect();
+    let mut second = first.clone();
+    second[..4].copy_from_slice(&[-1_692, 1_687, -1_684, 1_685]);
+    let rows: [&[i64]; 2] = [&first, &second];
+    assert_eq!(adjust(&[10; 64], &rows, &[0; 2]), refused(6, 2));
+    assert_eq!(weakness(&[10; 64], &rows), below_entry);
 }
 
 #[test]

@@ -121,7 +121,7 @@ fn refusal_5_misclosures() {
 
 #[test]
 fn refusal_6_weak_rows() {
-    assert_eq!(adjust(&[1], &[&[9]], &[0]), refused(6, 1));
+    assert_eq!(adjust(&[1], &[&[0]], &[0]), refused(6, 1));
     let rows: [&[i64]; 3] = [&[100, 0, 0], &[0, 100, 0], &[100, -100, 0]];
     assert_eq!(adjust(&[1; 3], &rows, &[0; 3]), refused(6, 3));
     let repeated = format!("{FIGURE_3}C A 648000000\nP 0 1\nP 0 2\nF 216000000\n");
@@ -136,6 +136,27 @@ fn refusal_7_correlates() {
     let rows: [&[i64]; 2] = [&[10, 0], &[0, 10]];
     assert_eq!(adjust(&[1, 1], &rows, &[2_000, 2_000]), refused(7, 2));
     assert_eq!(adjust(&[1, 1], &rows, &[2_000, 0]), refused(7, 1));
+}
+
+#[test]
+fn refusal_7_the_lightest_conditions_with_the_largest_misclosures() {
+    // Both pivots are 1 and L(2) is 2 * 10^9, so K(2) is formed as -2 * 10^13.
+    let net = "\
+D 1 0 1
+D 2 0 1
+C S
+L 0 1 0 1
+R 10000 0 0 0
+C S
+L 10000 1 0 1
+L 0 1 0 2
+";
+    assert_eq!(reply(net), "REFUSED 7 2");
+    let rows: [&[i64]; 2] = [&[1, 0], &[1, 1]];
+    let reply = |w: [i64; 2]| adjust(&[1, 1], &rows, &w);
+    assert_eq!(reply([-1_000_000, 1_000_000]), refused(7, 2));
+    assert_eq!(reply([1_000_000, -1_000_000]), refused(7, 2));
+    assert_eq!(reply([1_000_000, 1_000_000]), refused(7, 1));
 }
 
 #[test]
