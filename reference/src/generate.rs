@@ -3,6 +3,7 @@
 
 mod book;
 mod network;
+mod pivot;
 mod precision;
 mod station;
 mod table;

@@ -1,5 +1,7 @@
 //! Network files, whole and damaged; and bytes for the line and number readers.
 
+use super::pivot::{amplified, lone_light, next_to_its_entry, said_twice};
+use super::table::{heavy_constant, steep_factor, Draft};
 use super::text::{
     damage_bytes, damage_line, line, no_number, odd_byte, write_lines, Line, LINE_DAMAGES,
 };
@@ -27,6 +29,7 @@ pub struct NumberCase {
 pub fn network_case(rng: &mut Rng) -> NetworkCase {
     let mut lines = match rng.below(15) {
         0 => net_about_a_minute(rng),
+        1 | 2 => net_of_rows(rng),
         _ => sound_net(rng),
     };
     let damaged = rng.chance(55);
@@ -146,6 +149,66 @@ fn net_about_a_minute(rng: &mut Rng) -> Vec<Line> {
     lines
 }
 
+/// A net of side conditions in which rows and pivots stand next to their limits.
+fn net_of_rows(rng: &mut Rng) -> Vec<Line> {
+    let draft = match rng.below(8) {
+        0 | 1 => lone_light(rng),
+        2 | 3 => next_to_its_entry(rng),
+        4 => said_twice(rng),
+        5 => steep_factor(rng),
+        6 => heavy_constant(rng),
+        _ => amplified(rng, 40_000),
+    };
+    let directions: Vec<i64> = draft.q.iter().map(|_| rng.direction()).collect();
+    written(rng, &directions, &draft)
+}
+
+/// The rows of a draft as side conditions: of each the first twelve terms that it takes, and
+/// the misclosure in whole hundreds.
+fn written(rng: &mut Rng, directions: &[i64], draft: &Draft) -> Vec<Line> {
+    let mut lines = direction_lines(directions, &draft.q);
+    for (row, w) in draft.rows.iter().zip(&draft.w) {
+        lines.push(line!["C", "S"]);
+        lines.extend(side_terms(rng, row, w / 100));
+    }
+    lines
+}
+
+/// The terms of a side condition, on either side and with either end first; one of them has
+/// the one logarithm that is not 0.
+fn side_terms(rng: &mut Rng, row: &[i64], apart: i64) -> Vec<Line> {
+    let mut logarithm = apart.abs();
+    let mut left = apart >= 0;
+    let mut terms = Vec::new();
+    for (a, i, k) in ends(row).into_iter().take(12) {
+        let (letter, d) = if left { ("L", a) } else { ("R", -a) };
+        terms.push(match rng.below(2) {
+            0 => line![letter, logarithm, d, i, k],
+            _ => line![letter, logarithm, -d, k, i],
+        });
+        logarithm = 0;
+        left = rng.chance(50);
+    }
+    rng.shuffle(&mut terms);
+    terms
+}
+
+/// A row as terms that add -a to direction i and a to direction k: two coefficients where
+/// they are opposite, otherwise one with number 0. Nothing at all is a fixed length.
+fn ends(row: &[i64]) -> Vec<(i64, usize, usize)> {
+    let mut ends: Vec<(i64, usize, usize)> = Vec::new();
+    for (index, &a) in row.iter().enumerate().filter(|(_, &a)| a != 0) {
+        match ends.iter_mut().find(|end| end.1 == 0 && end.0 == -a) {
+            Some(end) => end.1 = index + 1,
+            None => ends.push((a, 0, index + 1)),
+        }
+    }
+    if ends.is_empty() {
+        ends.push((0, 0, 0));
+    }
+    ends
+}
+
 fn direction_lines(directions: &[i64], q: &[i64]) -> Vec<Line> {
     let numbered = directions.iter().zip(q).enumerate();
     numbered
@@ -253,9 +316,9 @@ fn odd_condition(rng: &mut Rng, directions: &[i64]) -> Vec<Line> {
             line!["L", 5_000, 0, 0, 0],
             line!["R", 5_000, 0, 0, 0],
         ],
-        // A correlate or a pivot at its limit.
+        // A correlate at its limit.
         2 | 3 => {
-            let d = rng.sign() * rng.pick(&[9, 10, 10, 11, 12, 20]);
+            let d = rng.sign() * rng.pick(&[1, 3, 9, 10, 10, 11, 12, 20]);
             let apart = rng.pick(&[0, 1, 9, 10, 11, 30]);
             let k = rng.range(1, m as i64);
             vec![
@@ -434,4 +497,56 @@ fn repeat_condition(rng: &mut Rng, lines: &mut Vec<Line>) {
         .unwrap_or(lines.len());
     let again: Vec<Line> = lines[start..end].to_vec();
     lines.extend(again);
+}
+
+#[cfg(test)]
+mod tests {
+    use super::*;
+    use crate::adjustment::{self, AnswerLengths, ConditionTable};
+    use crate::network;
+
+    #[test]
+    fn a_file_of_rows_is_answered_as_their_table_is() {
+        let mut rng = Rng::new(203);
+        let mut accepted = 0;
+        for _ in 0..300 {
+            let mut draft = match rng.below(3) {
+                0 => lone_light(&mut rng),
+                1 => next_to_its_entry(&mut rng),
+                _ => heavy_constant(&mut rng),
+            };
+            if draft.rows.iter().any(|row| ends(row).len() > 12) {
+                continue;
+            }
+            draft.w.iter_mut().for_each(|w| *w -= *w % 100);
+            let directions: Vec<i64> = draft.q.iter().map(|_| rng.direction()).collect();
+            let file = write_lines(&written(&mut rng, &directions, &draft));
+            let table = ConditionTable {
+                directions: &directions,
+                q: &draft.q,
+                a: &draft.rows.concat(),
+                w: &draft.w,
+            };
+            let lengths = AnswerLengths::fitting(draft.q.len(), draft.w.len());
+            let reply = adjustment::adjust(&table, lengths);
+            accepted += usize::from(reply.is_ok());
+            assert_eq!(network::adjust_network(&file), reply);
+        }
+        assert!(accepted > 50);
+    }
+
+    #[test]
+    fn files_have_a_d_on_both_sides_of_its_limit() {
+        let mut rng = Rng::new(256);
+        let mut places = [0, 0];
+        for _ in 0..60 {
+            let draft = amplified(&mut rng, 40_000);
+            let file = write_lines(&written(&mut rng, &[0; 24], &draft));
+            let reply = network::adjust_network(&file).unwrap_err();
+            // Where D(4,5) passes, the row after it is weak.
+            assert!(reply.number == 6 && (4..=5).contains(&reply.place));
+            places[reply.place as usize - 4] += 1;
+        }
+        assert!(places.iter().all(|&count| count > 10), "{places:?}");
+    }
 }

@@ -1,6 +1,7 @@
 //! Condition tables: nets that close, nets that hardly do, and nets at the edge of
 //! each test of the solution.
 
+use super::pivot::{amplified, lone_light, next_to_its_entry, said_twice, turned};
 use super::{direction_count, inverse_weights, minute_misclosure, set, spoil_length, Rng, CIRCLE};
 use crate::adjustment::{AnswerLengths, ConditionTable};
 
@@ -26,25 +27,31 @@ impl TableCase {
 }
 
 /// Inverse weights, rows and misclosures while a table is being made.
-struct Draft {
-    q: Vec<i64>,
-    rows: Vec<Vec<i64>>,
-    w: Vec<i64>,
+pub(super) struct Draft {
+    pub(super) q: Vec<i64>,
+    pub(super) rows: Vec<Vec<i64>>,
+    pub(super) w: Vec<i64>,
 }
 
 pub fn table_case(rng: &mut Rng) -> TableCase {
-    let draft = match rng.below(21) {
+    let draft = match rng.below(25) {
         0..=5 => sparse_net(rng),
         6..=8 => full_net(rng),
         9 => nearly_dependent(rng),
-        10 => amplified(rng),
-        11 => small_pivot(rng),
+        10 => {
+            let draft = amplified(rng, 20);
+            turned(rng, draft)
+        }
+        11 => light_row(rng),
         12 => small_coefficients(rng),
         13 => large_coefficients(rng),
         14 => fullest(rng),
         15 => steep_factor(rng),
         16 => heavy_constant(rng),
         17 => about_a_minute(rng),
+        18 => lone_light(rng),
+        19 | 20 => next_to_its_entry(rng),
+        21 => said_twice(rng),
         _ => sparse_net(rng),
     };
     let m = draft.q.len();
@@ -130,7 +137,7 @@ fn random_row(rng: &mut Rng, m: usize, most: i64) -> Vec<i64> {
     (0..m).map(|_| rng.range(-most, most)).collect()
 }
 
-fn misclosures(rng: &mut Rng, n: usize, most: i64) -> Vec<i64> {
+pub(super) fn misclosures(rng: &mut Rng, n: usize, most: i64) -> Vec<i64> {
     (0..n).map(|_| rng.range(-most, most)).collect()
 }
 
@@ -160,78 +167,14 @@ fn nearly_dependent(rng: &mut Rng) -> Draft {
     draft
 }
 
-/// A second pivot that rounding has made far too small stands before the two largest
-/// rows there are, which it meets with opposite signs: D(3,4) passes its limit.
-/// Without the rounding no D could be larger than the largest N.
-fn amplified(rng: &mut Rng) -> Draft {
-    let m = 64;
-    let size = rng.range(1_500, 1_980);
-    let (own, pivot) = under_rounded_pivot(rng, size);
-    let meeting = 20_000 * own.iter().map(|(sign, r)| sign * r).sum::<i64>();
-    let apart = rng.pick(&[0, 500, 900, 990]) * pivot;
-    let step = (meeting.abs() + apart) / (10 * own[0].1);
-
-    // The first row has as many of either sign, so that it does not meet the third.
-    let plus = own.iter().filter(|(sign, _)| *sign == 1).count();
-    let mut signs: Vec<i64> = vec![1; m / 2 - plus];
-    signs.resize(m - own.len(), -1);
-    rng.shuffle(&mut signs);
-    signs.splice(0..0, own.iter().map(|(sign, _)| *sign));
-
-    let first: Vec<i64> = signs.iter().map(|sign| sign * size).collect();
-    let mut second = first.clone();
-    for (a, (sign, r)) in second.iter_mut().zip(&own) {
-        *a += sign * r;
-    }
-    let third = vec![2_000; m];
-    let mut fourth = third.clone();
-    fourth[0] = (2_000 - step).clamp(-2_000, 2_000);
-    let rows = vec![first, second, third, fourth];
-    let w = misclosures(rng, rows.len(), 40);
-    Draft {
-        q: vec![10; m],
-        rows,
-        w,
-    }
-}
-
-/// Signs and own parts r of four directions in which a second row differs from a first
-/// of 64 directions of one size with q = 10; and the second pivot, mostly next to 100,
-/// though the row's own part is larger.
-fn under_rounded_pivot(rng: &mut Rng, size: i64) -> ([(i64, i64); 4], i64) {
-    let mut own = [(1, 11), (1, -4), (-1, 2), (1, -1)];
-    let mut pivot = 100;
-    for _ in 0..400 {
-        own = [
-            (rng.sign(), rng.range(9, 12)),
-            (rng.sign(), rng.range(-6, 6)),
-            (rng.sign(), rng.range(-4, 4)),
-            (rng.sign(), rng.range(-2, 2)),
-        ];
-        let sum: i64 = own.iter().map(|(_, r)| r).sum();
-        let squares: i64 = own.iter().map(|(_, r)| r * r).sum();
-        let n_11 = 640 * size * size;
-        let n_12 = n_11 + 10 * size * sum;
-        let n_22 = n_11 + 20 * size * sum + 10 * squares;
-        let factor = (1_000_000 * n_12 + n_11 / 2) / n_11;
-        pivot = n_22 - (factor * n_12 + 500_000) / 1_000_000;
-        let meeting: i64 = own.iter().map(|(sign, r)| sign * r).sum();
-        if (100..=160).contains(&pivot) && (3..=6).contains(&(own[0].0 * meeting)) {
-            break;
-        }
-    }
-    (own, pivot)
-}
-
-/// A row whose normal coefficient lies next to the least pivot.
-fn small_pivot(rng: &mut Rng) -> Draft {
+/// A row of one tiny coefficient among others of any size.
+fn light_row(rng: &mut Rng) -> Draft {
     let mut draft = sparse_net(rng);
     let m = draft.q.len();
     let row = rng.below(draft.rows.len());
     let index = rng.below(m);
-    let most = rng.pick(&[9, 10, 11, 12]);
     draft.rows[row] = vec![0; m];
-    draft.rows[row][index] = rng.sign() * most;
+    draft.rows[row][index] = rng.sign() * rng.range(1, 12);
     draft.q[index] = rng.pick(&[1, 1, 1, 2]);
     draft.w[row] = rng.range(-20, 20);
     draft
@@ -308,20 +251,16 @@ fn fullest(rng: &mut Rng) -> Draft {
     }
 }
 
-/// A first pivot of 100 under a second row of about 1,000: M at its limit of 10^9.
-fn steep_factor(rng: &mut Rng) -> Draft {
-    let m = rng.count(12, 20);
-    let mut first = vec![0; m];
-    let mut second = vec![0; m];
-    for index in 0..10 {
-        first[index] = 1;
-        second[index] = 1_000;
-    }
-    let index = rng.below(10);
+/// A first pivot of 1 to 100 under a second row of about 1,000: M at its limit of 10^9.
+pub(super) fn steep_factor(rng: &mut Rng) -> Draft {
+    let shared = rng.pick(&[1, 1, 4, 10, 10]);
+    let m = shared + rng.count(2, 10);
+    let mut first = vec![1; shared];
+    let mut second = vec![1_000; shared];
+    let index = rng.below(shared);
     second[index] += rng.pick(&[-2, -1, 0, 0, 0, 1, 2]);
-    for a in second.iter_mut().skip(10) {
-        *a = rng.range(200, 900);
-    }
+    first.resize(m, 0);
+    second.resize_with(m, || rng.range(200, 900));
     if rng.chance(50) {
         for a in &mut second {
             *a = -*a;
@@ -329,7 +268,7 @@ fn steep_factor(rng: &mut Rng) -> Draft {
     }
     let w = vec![rng.range(-3, 3), rng.range(-3_000, 3_000)];
     Draft {
-        q: vec![10; m],
+        q: vec![rng.pick(&[1, 10]); m],
         rows: vec![first, second],
         w,
     }
@@ -337,7 +276,7 @@ fn steep_factor(rng: &mut Rng) -> Draft {
 
 /// L at its limit of 4 * 10^9, with correlates that still pass. The more directions share
 /// the misclosures, the more often the corrections pass too.
-fn heavy_constant(rng: &mut Rng) -> Draft {
+pub(super) fn heavy_constant(rng: &mut Rng) -> Draft {
     let shared = rng.count(3, 6);
     let m = shared + rng.count(5, 12);
     let size = rng.pick(&[400, 500, 600, 600]);
@@ -375,7 +314,7 @@ fn about_a_minute(rng: &mut Rng) -> Draft {
     let mut q = vec![rng.pick(&[1, 2, 10]); m];
     if rng.chance(15) {
         // In four directions more, a condition that is refused before a correction is.
-        let (its_q, a, its_w) = rng.pick(&[(1, 4, 0), (1, 5, 1_001), (10, 2_000, 200)]);
+        let (its_q, a, its_w) = rng.pick(&[(1, 0, 0), (1, 5, 1_001), (10, 2_000, 200)]);
         for row in &mut rows {
             row.resize(m + 4, 0);
         }

@@ -38,7 +38,7 @@ fn every_reply_occurs_often() {
     assert_eq!(census.probable_file, census.network);
     let book = [0, 1, 2, 21, 22, 23, 24, 25, 26];
     assert_frequent("book", &census.book, &book, cases);
-    assert_eq!(census.weaknesses.len(), 4);
+    assert_eq!(census.weaknesses.len(), 5);
     assert_eq!(census.line_statuses.len(), 3);
     assert!(census.largest_tables.iter().all(|&count| count > 0));
     assert!(census.largest_networks.iter().all(|&count| count > 0));
