@@ -93,21 +93,35 @@ pub fn normals(table: &ConditionTable) -> Result<Vec<Vec<i64>>, Refusal> {
     Ok(net.normals().into_iter().map(answers).collect())
 }
 
+/// How far the rows of a net stand from two of their limits, down to the first weak one.
+#[derive(Clone, Debug, Default, PartialEq, Eq)]
+pub struct Margins {
+    /// 1,000*D(j,j) - N(j,j) of each row that is not weak for another reason.
+    pub pivots: Vec<i64>,
+    /// |D(j,k)| - 2,560,000,000 of each place beside a pivot.
+    pub coefficients: Vec<i64>,
+}
+
 /// Why the first weak row of a sound table is weak, if one is.
 pub fn weakness(table: &ConditionTable) -> Option<Weakness> {
-    let lengths = AnswerLengths::fitting(table.directions.len(), table.w.len());
-    let net = Net::check(table, lengths).ok()?;
-    match reduce(&net.normals(), &net.w) {
-        Ok(_) => None,
-        Err((_, weakness)) => Some(weakness),
-    }
+    sound_net(table)?.weakness()
+}
+
+/// The margins of a sound table. The refusal does not tell; the census does.
+pub fn margins(table: &ConditionTable) -> Option<Margins> {
+    Some(sound_net(table)?.margins())
 }
 
 /// The printed correction for which a table is refused with 9, if it is. The refusal does
 /// not tell; the census does.
 pub fn blunder(table: &ConditionTable) -> Option<i64> {
+    sound_net(table)?.blunder()
+}
+
+/// The net of a table that passes every check before the normals.
+fn sound_net(table: &ConditionTable) -> Option<Net> {
     let lengths = AnswerLengths::fitting(table.directions.len(), table.w.len());
-    Net::check(table, lengths).ok()?.blunder()
+    Net::check(table, lengths).ok()
 }
 
 /// A net whose numbers are all in range, in wide numbers.
@@ -192,6 +206,34 @@ impl Net {
         Ok((k, r))
     }
 
+    /// Why the first weak row is weak, if one is.
+    pub(crate) fn weakness(&self) -> Option<Weakness> {
+        match reduce(&self.normals(), &self.w) {
+            Ok(_) => None,
+            Err((_, weakness)) => Some(weakness),
+        }
+    }
+
+    /// How far the rows stand from two of their limits.
+    pub(crate) fn margins(&self) -> Margins {
+        let mut margins = Margins::default();
+        let mut rows = Vec::new();
+        for (j, (normal, &w)) in self.normals().iter().zip(&self.w).enumerate() {
+            let (d, _) = reduced_entries(&rows, normal, w, j);
+            let beside = d.iter().skip(1).map(|d| answer(d.abs() - MOST_D));
+            margins.coefficients.extend(beside);
+            let row = reduced_row(&rows, normal, w, j);
+            if matches!(row, Ok(_) | Err(Weakness::PivotBelowEntry)) {
+                margins.pivots.push(answer(PIVOT_PARTS * d[0] - normal[j]));
+            }
+            match row {
+                Ok(row) => rows.push(row),
+                Err(_) => break,
+            }
+        }
+        margins
+    }
+
     /// The printed correction that refuses a net with nothing else against it, if one does.
     pub(crate) fn blunder(&self) -> Option<i64> {
         let (k, _) = self.solve().ok()?;
@@ -250,13 +292,8 @@ fn reduce(normals: &[Vec<i128>], w: &[i128]) -> Result<Vec<ReducedRow>, (usize, 
     Ok(rows)
 }
 
-/// Row j from the rows before it; each product is rounded by itself.
-fn reduced_row(
-    before: &[ReducedRow],
-    normal: &[i128],
-    w: i128,
-    j: usize,
-) -> Result<ReducedRow, Weakness> {
+/// D(j,k), k = j to n, and L(j) from the rows before; each product is rounded by itself.
+fn reduced_entries(before: &[ReducedRow], normal: &[i128], w: i128, j: usize) -> (Vec<i128>, i128) {
     let mut d: Vec<i128> = normal.iter().skip(j).copied().collect();
     let mut l = 1_000 * w;
     for (i, row) in before.iter().enumerate() {
@@ -266,6 +303,17 @@ fn reduced_row(
         }
         l += nearest(factor * row.l, 1_000_000);
     }
+    (d, l)
+}
+
+/// Row j with its factors, if it is not weak.
+fn reduced_row(
+    before: &[ReducedRow],
+    normal: &[i128],
+    w: i128,
+    j: usize,
+) -> Result<ReducedRow, Weakness> {
+    let (d, l) = reduced_entries(before, normal, w, j);
     if !d.iter().all(|&d| within(d, MOST_D)) {
         return Err(Weakness::Coefficient);
     }

@@ -4,7 +4,7 @@
 use std::collections::BTreeMap;
 use std::fmt::Debug;
 
-use crate::adjustment::Adjustment;
+use crate::adjustment::{Adjustment, Weakness};
 use crate::generate::{
     book_case, line_case, network_case, number_case, precision_case, station_case, table_case,
     terms_case, PrecisionCase, Rng,
@@ -45,7 +45,16 @@ pub struct Census {
     /// by u; then the same of networks.
     pub table_minutes: BTreeMap<i64, usize>,
     pub network_minutes: BTreeMap<i64, usize>,
-    pub weaknesses: BTreeMap<adjustment::Weakness, usize>,
+    /// Why weak rows were weak, in tables and in networks.
+    pub table_weaknesses: BTreeMap<Weakness, usize>,
+    pub network_weaknesses: BTreeMap<Weakness, usize>,
+    /// Rows whose 1,000*D(j,j) was up to 10 below N(j,j), at it, and up to 10 above, in
+    /// tables and in networks.
+    pub table_pivots: [usize; 3],
+    pub network_pivots: [usize; 3],
+    /// Places beside a pivot whose |D| was up to 30 below its limit, at it, and up to 30
+    /// above, in tables.
+    pub table_coefficients: [usize; 3],
     pub line_statuses: BTreeMap<lines::LineStatus, usize>,
     /// Malformed and well-formed numbers.
     pub numbers: BTreeMap<bool, usize>,
@@ -107,23 +116,21 @@ fn count_table(rng: &mut Rng, census: &mut Census) {
     count(&mut census.table, &reply);
     let blunder = || adjustment::blunder(&case.table());
     count_minutes(&mut census.table_minutes, &reply, blunder);
-    match reply {
-        Ok(adjustment) => {
-            let largest = largest(adjustment.v.len(), adjustment.k.len());
-            add(&mut census.largest_tables, largest);
-            let met = |list: &[i64], limit: i64| list.iter().any(|x| x.abs() == limit);
-            let limits = [
-                met(&adjustment.k, 100_000_000),
-                met(&adjustment.r, 50_000_000),
-            ];
-            add(&mut census.limits_met, limits);
-        }
-        Err(_) => {
-            if let Some(weakness) = adjustment::weakness(&case.table()) {
-                *census.weaknesses.entry(weakness).or_default() += 1;
-            }
-        }
+    if let Ok(adjustment) = reply {
+        let largest = largest(adjustment.v.len(), adjustment.k.len());
+        add(&mut census.largest_tables, largest);
+        let met = |list: &[i64], limit: i64| list.iter().any(|x| x.abs() == limit);
+        let limits = [
+            met(&adjustment.k, 100_000_000),
+            met(&adjustment.r, 50_000_000),
+        ];
+        add(&mut census.limits_met, limits);
     }
+    let weakness = adjustment::weakness(&case.table());
+    count_weakness(&mut census.table_weaknesses, weakness);
+    let margins = adjustment::margins(&case.table()).unwrap_or_default();
+    count_margins(&mut census.table_pivots, &margins.pivots, 10);
+    count_margins(&mut census.table_coefficients, &margins.coefficients, 30);
 }
 
 fn count_network(rng: &mut Rng, census: &mut Census) {
@@ -137,8 +144,29 @@ fn count_network(rng: &mut Rng, census: &mut Census) {
         let largest = largest(adjustment.v.len(), adjustment.k.len());
         add(&mut census.largest_networks, largest);
     }
+    count_weakness(&mut census.network_weaknesses, network::weakness(&file));
+    let margins = network::margins(&file).unwrap_or_default();
+    count_margins(&mut census.network_pivots, &margins.pivots, 10);
     let probable = network::probable_file(&file, network::PROBABLE_ROOM);
     count(&mut census.probable_file, &probable);
+}
+
+fn count_weakness(weaknesses: &mut BTreeMap<Weakness, usize>, weakness: Option<Weakness>) {
+    if let Some(weakness) = weakness {
+        *weaknesses.entry(weakness).or_default() += 1;
+    }
+}
+
+/// Adds the margins that are just below 0, 0, and just above.
+fn count_margins(totals: &mut [usize; 3], margins: &[i64], just: i64) {
+    for margin in margins {
+        let seen = [
+            (-just..=-1).contains(margin),
+            *margin == 0,
+            (1..=just).contains(margin),
+        ];
+        add(totals, seen);
+    }
 }
 
 fn count_minutes(
@@ -205,6 +233,9 @@ pub fn report(census: &Census) -> String {
     let sizes = |name: &str, [conditions, directions, both]: [usize; 3]| {
         format!("{name} accepted: n = 24 {conditions}, m = 64 {directions}, both {both}\n")
     };
+    let next_to = |name: &str, [below, at, above]: [usize; 3]| {
+        format!("{name}: below {below}, at {at}, above {above}\n")
+    };
     let [k, r] = census.limits_met;
     let [below, at, above] = census.squares;
     let [sightings, objects, pair] = census.book_sizes;
@@ -236,7 +267,11 @@ pub fn report(census: &Census) -> String {
             "corrections next to one minute, networks",
             &census.network_minutes,
         ),
-        describe("weak rows", &census.weaknesses),
+        describe("weak rows, tables", &census.table_weaknesses),
+        describe("weak rows, networks", &census.network_weaknesses),
+        next_to("1,000*D next to N, tables", census.table_pivots),
+        next_to("1,000*D next to N, networks", census.network_pivots),
+        next_to("|D| next to its limit, tables", census.table_coefficients),
         describe("line statuses", &census.line_statuses),
         describe("numbers well formed", &census.numbers),
     ]

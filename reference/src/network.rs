@@ -1,6 +1,6 @@
 //! The network file: its lines, its checks, and the listing it ends in.
 
-use crate::adjustment::{answers, Adjustment, Net, MOST_CONDITIONS};
+use crate::adjustment::{answers, Adjustment, Margins, Net, Weakness, MOST_CONDITIONS};
 use crate::condition::{
     direction_allowed, sum_coefficients, sum_misclosure, target_allowed, ConditionKind, Side, Term,
     MOST_DIRECTIONS, MOST_TERMS,
@@ -57,6 +57,16 @@ pub fn adjust_network(file: &[u8]) -> Result<Adjustment, Refusal> {
 /// The printed correction for which a network file is refused with 9, if it is.
 pub fn blunder(file: &[u8]) -> Option<i64> {
     sound_net(file).ok()?.blunder()
+}
+
+/// Why the first weak row of a sound network file is weak, if one is.
+pub fn weakness(file: &[u8]) -> Option<Weakness> {
+    sound_net(file).ok()?.weakness()
+}
+
+/// The margins of a sound network file.
+pub fn margins(file: &[u8]) -> Option<Margins> {
+    Some(sound_net(file).ok()?.margins())
 }
 
 /// The net of a file, with every check before the normals.

@@ -38,7 +38,12 @@ fn every_reply_occurs_often() {
     assert_eq!(census.probable_file, census.network);
     let book = [0, 1, 2, 21, 22, 23, 24, 25, 26];
     assert_frequent("book", &census.book, &book, cases);
-    assert_eq!(census.weaknesses.len(), 5);
+    assert_eq!(census.table_weaknesses.len(), 5);
+    assert_eq!(census.network_weaknesses.len(), 5);
+    for pivots in [census.table_pivots, census.network_pivots] {
+        assert!(pivots.iter().all(|&count| 600 * count >= cases));
+    }
+    assert!(census.table_coefficients.iter().all(|&count| count > 0));
     assert_eq!(census.line_statuses.len(), 3);
     assert!(census.largest_tables.iter().all(|&count| count > 0));
     assert!(census.largest_networks.iter().all(|&count| count > 0));
@@ -101,6 +106,7 @@ fn no_input_panics() {
         };
         let _ = adjustment::adjust(&table, adjustment::AnswerLengths::fitting(m, n));
         let _ = adjustment::weakness(&table);
+        let _ = adjustment::margins(&table);
         let _ = adjustment::blunder(&table);
         let n = rng.pick(&[n, usize::MAX]);
         let _ = precision::probable_error(&directions, &q, n);
@@ -111,6 +117,8 @@ fn no_input_panics() {
             .collect();
         let _ = network::listing(&bytes);
         let _ = network::probable_listing(&bytes);
+        let _ = network::weakness(&bytes);
+        let _ = network::margins(&bytes);
         let _ = network::blunder(&bytes);
         let _ = book::listing(&bytes);
         let _ = lines::line(&bytes, rng.below(70));
