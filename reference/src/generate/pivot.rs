@@ -156,7 +156,8 @@ pub(super) fn amplified(rng: &mut Rng, off: i64) -> Draft {
     Draft {
         q: [vec![10; 23], vec![1]].concat(),
         rows: vec![first, second, third, fourth, fifth],
-        w: misclosures(rng, 5, 40),
+        // Small ones, or the fourth constant passes its own limit.
+        w: misclosures(rng, 5, 3),
     }
 }
 
@@ -195,26 +196,49 @@ pub(super) fn turned(rng: &mut Rng, draft: Draft) -> Draft {
 #[cfg(test)]
 mod tests {
     use super::*;
-    use crate::adjustment::{adjust, AnswerLengths, ConditionTable};
+    use crate::adjustment::{adjust, margins, AnswerLengths, ConditionTable, Margins};
+    use crate::refusal::Refusal;
     use std::collections::BTreeSet;
+
+    /// The refusal of a draft, if it is refused, and its margins.
+    fn reply(draft: &Draft) -> (Option<Refusal>, Margins) {
+        let (m, n) = (draft.q.len(), draft.w.len());
+        let table = ConditionTable {
+            directions: &vec![0; m],
+            q: &draft.q,
+            a: &draft.rows.concat(),
+            w: &draft.w,
+        };
+        let refusal = adjust(&table, AnswerLengths::fitting(m, n)).err();
+        (refusal, margins(&table).unwrap_or_default())
+    }
 
     #[test]
     fn lone_light_conditions_are_never_weak() {
         let mut rng = Rng::new(203);
         let mut replies = BTreeSet::new();
         for _ in 0..300 {
-            let draft = lone_light(&mut rng);
-            let m = draft.q.len();
-            let table = ConditionTable {
-                directions: &vec![0; m],
-                q: &draft.q,
-                a: &draft.rows.concat(),
-                w: &draft.w,
-            };
-            let reply = adjust(&table, AnswerLengths::fitting(m, 1));
-            replies.insert(reply.map_or_else(|refusal| refusal.number, |_| 0));
+            let (refusal, _) = reply(&lone_light(&mut rng));
+            replies.insert(refusal.map_or(0, |refusal| refusal.number));
         }
         assert_eq!(replies, BTreeSet::from([0, 7, 9]));
+    }
+
+    #[test]
+    fn the_side_of_its_limit_on_which_a_d_stands_decides_the_place() {
+        let mut rng = Rng::new(256);
+        let mut places = BTreeSet::new();
+        for _ in 0..200 {
+            let draft = amplified(&mut rng, 20);
+            let (refusal, margins) = reply(&turned(&mut rng, draft));
+            let past = margins.coefficients.into_iter().max().unwrap_or(i64::MIN);
+            assert!((-30..=20).contains(&past));
+            // Where D(4,5) passes, rounding has spoilt the last pivot.
+            let place = if past > 0 { 4 } else { 5 };
+            assert_eq!(refusal, Some(Refusal::new(6, place)));
+            places.insert(place);
+        }
+        assert_eq!(places.len(), 2);
     }
 
     #[test]
