@@ -657,7 +657,7 @@ fn reading_27_a_pivot_is_weighed_against_its_entry() {
 }
 
 #[test]
-fn reading_27_the_entry_is_the_row_s_own_before_any_reduction() {
+fn reading_27_the_entry_is_that_of_the_row_before_any_reduction() {
     // N(3,3) is 101 more than the square; row 1 takes the square away, row 2 the 100, so
     // that D(3,3) is 1 each time.
     let third = |a: i64| {
