@@ -34,7 +34,7 @@ extern "C" {
 
 /* The version of this header. Each request that changes a number of the table of refusals, a limit, a unit or a function's parameters, or
  * adds a function, raises it by one. The archive holds no version: header and archive go together, from one state of the project. */
-#define MOLSADRIU_VERSION 3
+#define MOLSADRIU_VERSION 4
 
 /* The archive is made for computers whose lengths have 64 bits; a compiler for another one stops here. */
 typedef char molsadriu_lengths_have_64_bits[sizeof(size_t) == 8 ? 1 : -1];
@@ -62,7 +62,8 @@ typedef char molsadriu_lengths_have_64_bits[sizeof(size_t) == 8 ? 1 : -1];
  *   3   number out of range, or i = k where that is not allowed             line, direction number or term's ordinal, or 0
  *   4   coefficient beyond 2,000                                            condition
  *   5   misclosure beyond 1,000,000                                         condition
- *   6   weak row                                                            row
+ *   6   weak row: its pivot is below 1 or below a thousandth of N(j,j),     row
+ *       or some D, its L or some M is beyond its limit
  *   7   correlate too large                                                 row
  *   8   remainder R too large                                               condition
  *   9   printed correction u above 60,000 in size: past one minute          lowest such direction number

@@ -12,7 +12,7 @@ pub const MOST_CONDITIONS: usize = 24;
 
 const MOST_D: i128 = 2_560_000_000;
 const MOST_L: i128 = 4_000_000_000;
-/// A pivot keeps at least one part in so many of its entry, or it may be rounding alone.
+/// A pivot that keeps less than one part in so many of its entry is taken for rounding.
 const PIVOT_PARTS: i128 = 1_000;
 const MOST_M: i128 = 1_000_000_000;
 const MOST_K: i128 = 100_000_000;

@@ -198,9 +198,8 @@ fn is_weak(row: Row, entry: i64, j: usize, n: usize, m: &mut [i64; 24]) -> bool
     if is_low(pivot, entry) {
         return true;
     }
-    let all = multiplied(row, j, n);
-    *m = all;
-    some_large(&all, j + 1, n, 1000000000)
+    *m = multiplied(row, j, n);
+    some_large(m, j + 1, n, 1000000000)
 }
 
 // All rows in their order, up to the first weak one, into the triangle, and their multipliers; how many they are.
@@ -221,9 +220,9 @@ pub fn reduce(
     let mut at = 0;
     let mut j = 0;
     while j < n {
-        let own = normal_row(q, a, w, j, at);
-        let entry = own[j];
-        let row = reduced(own, rows, multipliers, j, n);
+        let mut row = normal_row(q, a, w, j, at);
+        let entry = row[j];
+        row = reduced(row, rows, multipliers, j, n);
         let mut m = [0i64; 24];
         if is_weak(row, entry, j, n, &mut m) {
             return j;

@@ -119,9 +119,6 @@ multiplied-requires c κs =
     let b = c .before .before in let s = start3 b in
     (s .pre, (small-coefficients (b .before .before), high-pivot (at (row s) (j s)) (entry s) (sound-pivot c) .0))
 
-slice-aggregate-some-large-2 : tie.Need-slice-aggregate-some-large-2
-slice-aggregate-some-large-2 c = search needs
-
 add-some-large : tie.Need-add-some-large
 add-some-large c = search needs
 
@@ -130,7 +127,7 @@ some-large-requires-2 c κs = search needs
 
 returns-4 : tie.Need-returns-4
 returns-4 c =
-    let d = c .before .before in let e = d .before in let b = e .before .before in let s = start3 b in let m = at (d .multiplied .result) in (
+    let d = c .before .before .before in let e = d .before in let b = e .before .before in let s = start3 b in let m = at (d .multiplied .result) in (
       c .some-large2 .ensures
           ∙ ap (λ (k : ℕ). ltb k (n s))
           (ap (λ (i : ℕ). first (n s) (λ k. leb i k && ltb 1000000000 (natAbs (m k)))) (add-one (j s))
@@ -155,7 +152,6 @@ is-weak-spec =
     is-low-requires
     returns-3
     multiplied-requires
-    slice-aggregate-some-large-2
     add-some-large
     some-large-requires-2
     returns-4)

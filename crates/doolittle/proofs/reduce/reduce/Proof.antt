@@ -103,14 +103,14 @@ returns c =
     let b = c .before in let l = loop b in
     (sym (first-at (length (w l)) (weak (t l)) (j l) (below b) (l .loop .inv .4) (sym (weak-is b) ∙ c .if1 .taken)), l .loop .inv .5)
 
-mul-row : tie.Need-mul-row Inv-loop μ-loop
-mul-row c = search needs
+mul-t14 : tie.Need-mul-t14 Inv-loop μ-loop
+mul-t14 c = search needs
 
-element-set-from-row : tie.Need-element-set-from-row Inv-loop μ-loop
-element-set-from-row c = search needs
+element-set-from-rows : tie.Need-element-set-from-rows Inv-loop μ-loop
+element-set-from-rows c = search needs
 
-mul-t15 : tie.Need-mul-t15 Inv-loop μ-loop
-mul-t15 c = search needs
+mul-t14-2 : tie.Need-mul-t14-2 Inv-loop μ-loop
+mul-t14-2 c = search needs
 
 element-set-from-multipliers : tie.Need-element-set-from-multipliers Inv-loop μ-loop
 element-set-from-multipliers c = search needs
@@ -158,9 +158,9 @@ reduce-spec =
     reduced-requires
     is-weak-requires
     returns
-    mul-row
-    element-set-from-row
-    mul-t15
+    mul-t14
+    element-set-from-rows
+    mul-t14-2
     element-set-from-multipliers
     add-at
     add-j
