@@ -41,7 +41,7 @@ replyTo f =
     let by-direction = replicate (f .m) (pos 0) in let by-condition = replicate (length (f .misclosures)) (pos 0) in
     adjustReply by-direction (replicate (f .m) (pos (f .q))) (f .coefficients) (f .misclosures) (lists by-direction by-direction by-direction by-condition by-condition by-condition)
 
--- all six answer lists, with the same directions
+-- all six answer lists, with directions that are all 0
 abbrev pub answersIn : Figure → Answers
 answersIn f = answersOf (tableIn f) (K (tableIn f)) (at (replicate (f .m) (pos 0)))
 
@@ -93,7 +93,7 @@ figure-4 = (refl, refl)
 abbrev pub single : ℤ → ℤ → Figure
 single a w = record { m = 1; q = 1; coefficients = a ∷ []; misclosures = w ∷ [] }
 
--- of these, answers that are all zero
+-- the six answers of such a table, all zero
 abbrev pub zeros : Answers
 zeros = let zero = pos 0 ∷ [] in lists zero zero zero zero zero zero
 

@@ -2,7 +2,7 @@
 --   WeakExactly      a reply is 6, at whatever row, exactly where this is so, and then it is 6 at row 1
 --   lone-solution    of the solution of a lone condition whose numbers are in range
 --   lone-table       of a lent table of one condition that passes the input checks
-use mathlib.Core.Path.{_≡_, refl, sym, ap, subst}
+use mathlib.Core.Path.{_≡_, refl, ap, subst}
 use mathlib.Core.Bool.{Bool, true, false}
 use mathlib.Core.Logic.{⊎-elim}
 use mathlib.Core.List.{List}
@@ -12,7 +12,7 @@ use lib.Dec.{lit≤}
 use lib.ListN.{length}
 use lib.IntN.{ℤ}
 use Rattle.exact.specs.First.{first}
-use Rattle.exact.proofs.Searching.{failed-none, first-at}
+use Rattle.exact.proofs.Searching.{failed-none}
 use Rattle.reply.specs.declared.Refusal.{Refusal}
 use Rattle.reply.specs.declared.Refusal.the-variants.{WeakRow, Correlate, Remainder, Correction}
 use Rattle.reply.specs.declared.Reply.{Reply}
@@ -27,7 +27,7 @@ use Rattle.doolittle.proofs.Lone.{Untouching, lone-weak, lone-zero}
 use Rattle.adjustment.specs.Refusals.{rowsReply, correlatesReply, remaindersReply, correctionsReply, solutionReply}
 use Rattle.adjustment.specs.Promise.{Answers, adjustReply}
 use Rattle.adjustment.proofs.Promising.{input, passed-sound, passed-solved}
-use Rattle.adjustment.proofs.Solving.{weak-refused}
+use Rattle.adjustment.proofs.Solving.{first-weak}
 
 abbrev pub WeakExactly : Reply → Type 0 → Type 0
 WeakExactly reply P = (P → reply ≡ Refused (WeakRow 1)) × ((row : ℕ) → reply ≡ Refused (WeakRow row) → P)
@@ -59,7 +59,7 @@ module _ (qs cs ws : List ℤ) (s : Sound qs cs ws) (one : length ws ≡ 1) wher
   pub lone-solution : WeakExactly (solutionReply t) (Untouching t 0)
   unfolding solutionReply
   lone-solution = (
-    (λ z. sym (weak-refused t 0 (sym (first-at (t .n) (weak t) 0 (omega arith) (failed-none (weak t)) (lone-zero qs cs ws s one z))) (omega arith))),
+    (λ z. first-weak t 0 (omega arith) (failed-none (weak t)) (lone-zero qs cs ws s one z)),
     (λ row e. by-test (weak t 0) refl row e),
   )
     where

@@ -2,12 +2,12 @@
 --   V-size, V-ext                    the corrections of correlates within 10^8, and of equal correlates
 --   same-first, each-within          of numbers tested against a limit in their order: equal ones have the same first beyond it; where none is refused, each is within it
 --   closing-is, rounding-is          the remainders of a list that holds the corrections are R, and its numbers rounded are u
---   weak-refused, large-refused, open-refused, past-refused      6, 7, 8 and 9 at their places
+--   weak-refused, large-refused, open-refused, past-refused      6, 7, 8 and 9 at their places; first-weak: 6 by the tests of the rows
 --   none-weak, none-too-large, none-open, none-past              where nothing is found, the check accepts
 --   all-accepted                     where all four accept, so does the solution
 --   remainders-close, corrections-small      what 8 and 9 leave known where they accept, of any correlates
 use mathlib.Core.Path.{_≡_, sym, _∙_, ap, subst}
-use mathlib.Core.Bool.{Bool}
+use mathlib.Core.Bool.{Bool, true}
 use mathlib.Core.List.{List}
 use Prim.Native.Nat.{ℕ, suc, _+_, _-_, _≤_, _<_}
 use native.Mathlib.Omega.{arith}
@@ -20,7 +20,7 @@ use Rattle.exact.specs.First.{first}
 use Rattle.exact.specs.Nearest.{nearest}
 use Rattle.exact.proofs.Bound.{abs-mul, mul-le}
 use Rattle.exact.proofs.Sum.{sum-ext}
-use Rattle.exact.proofs.Searching.{Failed, first-before, first-ext}
+use Rattle.exact.proofs.Searching.{Failed, first-at, first-before, first-ext}
 use Rattle.reply.specs.declared.Refusal.{Refusal}
 use Rattle.reply.specs.declared.Refusal.the-variants.{WeakRow, Correlate, Remainder, Correction}
 use Rattle.reply.specs.declared.Reply.the-variants.{Accepted, Refused}
@@ -69,6 +69,9 @@ module _ (t : Table) where
     pub none-weak : t .n ≤ sound → (rowsReply t ≡ Accepted) × Failed (weak t) (t .n)
     unfolding rowsReply
     none-weak l = (accept-first (t .n) (weak t) (λ j. WeakRow (j + 1)) (omega arith), λ h k. first-before (t .n) (weak t) h (omega arith))
+
+  pub first-weak : (j : ℕ) → j < t .n → Failed (weak t) j → weak t j ≡ true → solutionReply t ≡ Refused (WeakRow (j + 1))
+  first-weak j l f e = sym (weak-refused j (sym (first-at (t .n) (weak t) j l f e)) l)
 
   -- ---- 7
   abbrev large : ℕ → Bool

@@ -5,7 +5,7 @@
 --   light-alone              a lone condition with the coefficient 1 is no weak row, up to the limit of its correlate and past it; one with 0 is
 --   beside-a-thousandth      a pivot of 1 whose 1,000-fold is one below its entry is too low; at the entry, and one above it, it is not
 --   only-rounding            a condition that repeats another in other numbers has a pivot of 160, by rounding alone, and is refused
---   small-pivots             a correlate of 2 * 10^13, by a pivot of 1, is refused before anything is multiplied by it
+--   small-pivots             a correlate of 2 * 10^13, by a pivot of 1, is refused with 7 at its row
 --   at-one-minute            a printed correction of 60,000 passes, of either sign, and one of 60,001 is a blunder
 --   lowest-direction         of two blunders the one with the lower direction number is named, though the other is larger
 --   remainder-first          a table with a remainder that is too large and a blunder is refused for its remainder

@@ -12,11 +12,11 @@ use borrow.Author.Tests.{le-ltb}
 use lib.Dec.{ltb, leb}
 use lib.ListN.{length}
 use lib.IntN.{ℤ, pos, natAbs, _*ℤ_, *ℤ-zero}
-use lib.Signed.{ltZ, _≤ℤ_, _<ℤ_}
+use lib.Signed.{ltZ, _≤ℤ_}
 use Rattle.exact.specs.Sum.{sum}
 use Rattle.exact.proofs.Bound.{abs-mul}
-use Rattle.exact.proofs.Linear.{unknowns, linear, orders, eq-by, lt-by, lt-of}
-use Rattle.exact.proofs.Order.{mul-nonneg, square-nonneg, square-zero, lt-le, lt-true}
+use Rattle.exact.proofs.Linear.{unknowns, linear, orders, eq-by, lt-of}
+use Rattle.exact.proofs.Order.{from-one, mul-nonneg, square-nonneg, square-zero, lt-le, lt-true}
 use Rattle.exact.proofs.Ring.{*ℤ-assoc}
 use Rattle.exact.proofs.Searching.{some-none, from-test, from-failed}
 use Rattle.exact.proofs.Sum.{sum-ext, sum-zero, sum-nonneg, sum-zeros}
@@ -24,7 +24,7 @@ use Rattle.doolittle.specs.Table.{Table, tableOf}
 use Rattle.doolittle.specs.Solution.{N, reduced, D, L, multiplier, lowPivot, weak}
 use Rattle.doolittle.specs.Inner.{Sound}
 use Rattle.doolittle.proofs.Reducing.{N-size}
-use Rattle.doolittle.proofs.Weakness.{largeD, largeM, weak-by-pivot, weak-by-multiplier}
+use Rattle.doolittle.proofs.Weakness.{largeD, largeM, weak-by-low, weak-by-multiplier}
 
 -- condition j has no coefficient other than zero
 abbrev pub Untouching : Table → ℕ → Type 0
@@ -43,17 +43,14 @@ module _ (t : Table) (j : ℕ) where
   zero-entry z = entry-is ∙ sum-ext (t .m) square (λ i. pos 0) (λ i l. ap (λ (a : ℤ). t .q i *ℤ (a *ℤ a)) (z i l) ∙ *ℤ-zero (t .q i)) ∙ sum-zero (t .m)
 
   module _ (weighted : (i : ℕ) → i < t .m → pos 1 ≤ℤ t .q i) where
-    above-zero : (i : ℕ) → i < t .m → pos 0 <ℤ t .q i
-    above-zero i l = let h = weighted i l in let v = unknowns (t .q i ∷ []) in lt-by (search linear) (search linear) (omega (arith, orders))
-
     square-from-0 : (i : ℕ) → i < t .m → pos 0 ≤ℤ square i
-    square-from-0 i l = mul-nonneg (lt-le (above-zero i l)) (square-nonneg (t .a j i))
+    square-from-0 i l = mul-nonneg (lt-le (from-one (t .q i) (weighted i l))) (square-nonneg (t .a j i))
 
     pub entry-from-0 : pos 0 ≤ℤ N t j j
     entry-from-0 = rw entry-is (sum-nonneg (t .m) square square-from-0)
 
     pub no-entry : N t j j ≡ pos 0 → Untouching t j
-    no-entry e i l = square-zero (t .q i) (t .a j i) (above-zero i l) (sum-zeros (t .m) square square-from-0 (sym entry-is ∙ e) i l)
+    no-entry e i l = square-zero (t .q i) (t .a j i) (from-one (t .q i) (weighted i l)) (sum-zeros (t .m) square square-from-0 (sym entry-is ∙ e) i l)
 
 -- ---- a row whose pivot is its entry
 low-entry : (x : ℤ) → pos 0 ≤ℤ x → lowPivot x x ≡ true → x ≡ pos 0
@@ -87,7 +84,7 @@ module _ (qs cs ws : List ℤ) (s : Sound qs cs ws) (one : length ws ≡ 1) wher
   lone-row = by-test (lowPivot (N t 0 0) (N t 0 0)) refl
     where
       by-test : (b : Bool) → lowPivot (N t 0 0) (N t 0 0) ≡ b → weak t 0 ≡ b
-      by-test true e = weak-by-pivot (t .n) 0 (N t 0 0) (D t 0) (L t 0) small-coefficients small-constant e
+      by-test true e = weak-by-low (t .n) 0 (N t 0 0) (D t 0) (L t 0) e
       by-test false e = weak-by-multiplier (t .n) 0 (N t 0 0) (D t 0) (L t 0) small-coefficients small-constant e ∙ no-multipliers
 
   pub lone-weak : weak t 0 ≡ true → Untouching t 0

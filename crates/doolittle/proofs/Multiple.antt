@@ -1,8 +1,9 @@
 -- A second condition that is a multiple of the first. Its pivot would be 0 but for rounding, and rounding alone does not carry it past the test,
 -- unless the condition is light. Assumes nothing.
 --   rounding-alone       what rounding leaves of such a pivot: 2,000,000 times its size is at most |N(1,2)| + 1,000,000
---   Multiple             so many times condition 2 is so many times condition 1
---   multiple-weak        row 2 is weak, if row 1 is not, where |N(1,2)| + 1,000,000 is below 2,000*N(2,2)
+--   Multiple             so many times condition 2 is so many times condition 1; one-square: then N(1,1)*N(2,2) is N(1,2)*N(1,2)
+--   Heavy                condition 2 is not light: |N(1,2)| + 1,000,000 is below 2,000*N(2,2)
+--   multiple-weak        row 2 of such conditions is weak, if row 1 is not
 use mathlib.Core.Path.{_≡_, refl, sym, _∙_, ap}
 use mathlib.Core.Bool.{true, false}
 use mathlib.Core.List.{[], _∷_}
@@ -15,7 +16,7 @@ use lib.Signed.{ltZ, _≤ℤ_, _<ℤ_}
 use Rattle.exact.proofs.Bound.{abs-add, abs-mul}
 use Rattle.exact.proofs.Identity.{letters, polynomials, ring-by}
 use Rattle.exact.proofs.Linear.{unknowns, linear, orders, lt-by, one-sided}
-use Rattle.exact.proofs.Order.{mul-cancel, lt-yes}
+use Rattle.exact.proofs.Order.{from-size, mul-cancel, lt-yes}
 use Rattle.exact.proofs.Ring.{*ℤ-assoc, *ℤ-left-comm}
 use Rattle.exact.proofs.Rounding.{nearest-error}
 use Rattle.exact.proofs.Searching.{either}
@@ -45,9 +46,6 @@ halves a b d x y h e f g = by-order (decLe (2000000 * d) (b + 1000000))
     by-order (yes l) = l
     by-order (no l) = let k : b + 1000001 ≤ 2000000 * d = omega arith in absurd (omega (arith, mul-le-mul-left a k, mul-le-mul-left b f, mul-le-mul-left a g))
 
-above-zero : (A : ℤ) → pos 0 <ℤ A → 1 ≤ natAbs A
-above-zero A h = let v = unknowns (A ∷ []) in omega (arith, orders, one-sided)
-
 size : (a d : ℤ) → natAbs (a *ℤ (pos 1000000 *ℤ d)) ≡ natAbs a * (1000000 * natAbs d)
 size a d = abs-mul a (pos 1000000 *ℤ d) ∙ ap (λ (k : ℕ). natAbs a * k) (abs-mul (pos 1000000) d)
 
@@ -57,7 +55,7 @@ rounding-alone A B E h e = within (multiplier B A) (carried (multiplier B A) B) 
     within : (M r : ℤ) → 2 * natAbs (A *ℤ M -ℤ negℤ (pos 1000000 *ℤ B)) ≤ natAbs A → 2 * natAbs (pos 1000000 *ℤ r -ℤ M *ℤ B) ≤ 1000000 → 2000000 * natAbs (E +ℤ r) ≤ natAbs B + 1000000
     within M r f g =
         let x = A *ℤ M -ℤ negℤ (pos 1000000 *ℤ B) in let y = pos 1000000 *ℤ r -ℤ M *ℤ B in
-        halves (natAbs A) (natAbs B) (natAbs (E +ℤ r)) (natAbs x) (natAbs y) (above-zero A h)
+        halves (natAbs A) (natAbs B) (natAbs (E +ℤ r)) (natAbs x) (natAbs y) (from-size A h)
         (omega (arith, size A (E +ℤ r), ap natAbs (split A B E M r e), abs-add (B *ℤ x) (A *ℤ y), abs-mul B x, abs-mul A y)) f g
 
 -- a thousandfold that is below the entry is a low pivot
@@ -98,9 +96,11 @@ module _ (t : Table) (c d : ℤ) where
     pub one-square : pos 0 <ℤ c → N t 0 0 *ℤ N t 1 1 ≡ N t 0 1 *ℤ N t 0 1
     one-square h = mul-cancel c (N t 0 0 *ℤ N t 1 1) (N t 0 1 *ℤ N t 0 1) h (cross c (N t 0 0) (N t 1 1) d (N t 0 1) (row 1 ∙ ap (λ (z : ℤ). d *ℤ z) mirrored) (row 0))
 
-pub multiple-weak : (t : Table) (c d : ℤ) → pos 0 <ℤ c → Multiple t c d → ((i : ℕ) → i < t .m → pos 1 ≤ℤ t .q i)
-    → natAbs (N t 0 1) + 1000000 < 2000 * natAbs (N t 1 1) → weak t 0 ≡ false → weak t 1 ≡ true
+abbrev pub Heavy : Table → Type 0
+Heavy t = natAbs (N t 0 1) + 1000000 < 2000 * natAbs (N t 1 1)
+
+pub multiple-weak : (t : Table) (c d : ℤ) → pos 0 <ℤ c → Multiple t c d → Heavy t → ((i : ℕ) → i < t .m → pos 1 ≤ℤ t .q i) → weak t 0 ≡ false → weak t 1 ≡ true
 unfolding weak D reduced
-multiple-weak t c d h p weighted heavy e =
+multiple-weak t c d h p heavy weighted e =
     weak-by-low (t .n) 1 (N t 1 1) (D t 1) (L t 1)
     (low (D t 1 1) (N t 1 1) (natAbs (N t 0 1)) (entry-from-0 t 1 weighted) (rounding-alone (N t 0 0) (N t 0 1) (N t 1 1) (sound-at t 0 e .pivot .0) (one-square t c d p h)) heavy)

@@ -1,12 +1,12 @@
 -- The one test of a row. Assumes nothing.
---   weak-by-coefficient, weak-by-constant, weak-by-pivot, weak-by-multiplier      what the test says, from its parts in their order
---   weak-by-low                   whatever the parts before say, a low pivot makes a row weak
+--   largeD, largeM                the parts of the test that search the row
+--   weak-by-coefficient, weak-by-constant, weak-by-low      each of these parts by itself makes a row weak
+--   weak-by-multiplier            where they do not, the multipliers decide
 --   high-pivot                    a pivot that is not low divides, and 1,000 times it is not below its entry
 --   SoundRow, sound-row           what is known of a row that is not weak
 --   weak-ext                      the test reads the coefficients from j to n alone
 use mathlib.Core.Path.{_≡_, refl, ap, ap₂}
 use mathlib.Core.Bool.{Bool, true, false, _||_, _&&_}
-use mathlib.Core.List.{[], _∷_}
 use Prim.Native.Nat.{ℕ, suc, _≤_, _<_}
 use native.Mathlib.Nat.{le-refl}
 use native.Mathlib.Omega.{arith}
@@ -15,8 +15,7 @@ use lib.Dec.{ltb, leb}
 use lib.IntN.{ℤ, pos, natAbs, _*ℤ_}
 use lib.Signed.{ltZ, _≤ℤ_, _<ℤ_}
 use Rattle.exact.specs.First.{some-below}
-use Rattle.exact.proofs.Linear.{unknowns, linear, orders, lt-by}
-use Rattle.exact.proofs.Order.{lt-false}
+use Rattle.exact.proofs.Order.{from-one, lt-false}
 use Rattle.exact.proofs.Searching.{from-ext, from-none, neither, either}
 use Rattle.doolittle.specs.Solution.{multiplier, lowPivot, weakRow}
 use Rattle.doolittle.specs.Inner.{From}
@@ -33,32 +32,22 @@ module _ (n j : ℕ) (entry : ℤ) (d : ℕ → ℤ) (l : ℤ) where
   unfolding weakRow
   weak-by-coefficient e = rw e
 
+  pub weak-by-constant : 4000000000 < natAbs l → weakRow n j entry d l ≡ true
+  unfolding weakRow
+  weak-by-constant h = either (largeD n j d) _ (rw (lt-ltb 4000000000 (natAbs l) h))
+
   pub weak-by-low : lowPivot (d j) entry ≡ true → weakRow n j entry d l ≡ true
   unfolding weakRow
   weak-by-low h = either (largeD n j d) _ (either (ltb 4000000000 (natAbs l)) _ (rw h))
 
-  module _ (e : largeD n j d ≡ false) where
-    pub weak-by-constant : 4000000000 < natAbs l → weakRow n j entry d l ≡ true
-    unfolding weakRow
-    weak-by-constant h = rw (e, lt-ltb 4000000000 (natAbs l) h)
-
-    module _ (f : natAbs l ≤ 4000000000) where
-      pub weak-by-pivot : lowPivot (d j) entry ≡ true → weakRow n j entry d l ≡ true
-      unfolding weakRow
-      weak-by-pivot h = rw (e, le-ltb 4000000000 (natAbs l) f, h)
-
-      pub weak-by-multiplier : lowPivot (d j) entry ≡ false → weakRow n j entry d l ≡ largeM n j d
-      unfolding weakRow
-      weak-by-multiplier h = rw (e, le-ltb 4000000000 (natAbs l) f, h)
+  pub weak-by-multiplier : largeD n j d ≡ false → natAbs l ≤ 4000000000 → lowPivot (d j) entry ≡ false → weakRow n j entry d l ≡ largeM n j d
+  unfolding weakRow
+  weak-by-multiplier e f h = rw (e, le-ltb 4000000000 (natAbs l) f, h)
 
 -- ---- a row that is not weak
 pub high-pivot : (x entry : ℤ) → lowPivot x entry ≡ false → (pos 0 <ℤ x) × (entry ≤ℤ (pos 1000 *ℤ x))
 high-pivot x entry e =
-    let a = neither (ltZ x (pos 1)) (ltZ (pos 1000 *ℤ x) entry) e in
-    (above-zero x (lt-false (a .0) refl refl), lt-false (a .1) refl refl)
-  where
-    above-zero : (x : ℤ) → pos 1 ≤ℤ x → pos 0 <ℤ x
-    above-zero x h = let v = unknowns (x ∷ []) in lt-by (search linear) (search linear) (omega (arith, orders))
+    let a = neither (ltZ x (pos 1)) (ltZ (pos 1000 *ℤ x) entry) e in (from-one x (lt-false (a .0) refl refl), lt-false (a .1) refl refl)
 
 pub record SoundRow (n j : ℕ) (entry : ℤ) (d : ℕ → ℤ) (l : ℤ) : Type 0 where
   pub coefficients : From j n (λ k. natAbs (d k) ≤ 2560000000)

@@ -220,6 +220,7 @@ pub fn reduce(
     let mut at = 0;
     let mut j = 0;
     while j < n {
+        // the row of N is reduced in its own local, which spares the stack a second one: its entry is read first
         let mut row = normal_row(q, a, w, j, at);
         let entry = row[j];
         row = reduced(row, rows, multipliers, j, n);

@@ -1,10 +1,11 @@
 -- The order of ℤ: laws that lib.Signed lacks. The linear ones have one proof, `omega` over differences. Assumes nothing.
 --   le-trans, le-antisym, lt-le                 the order itself; lt-or-le: one of two numbers is the lesser
+--   from-one, from-size                         a number from 1 on is above 0; the size of a number above 0 is 1 or more
 --   add-le, sub-nonneg                          with sums
 --   mul-nonneg, mul-le-left, square-nonneg      with products
 --   same-by                                     numbers whose difference is 0 are equal
 --   mul-zero, square-zero, mul-cancel           a product is 0 only where a factor is; a square of positive weight only at 0; a factor above 0 goes out
---   lt-yes                                      the test of two numbers of which one is the lesser
+--   lt-yes                                      the test passes where the first number is the lesser
 --   lt-true, lt-false, le-true, le-false        what a test of two signed numbers told
 use mathlib.Core.Path.{_≡_, refl, sym, ap, subst, subst₂}
 use mathlib.Core.Bool.{Bool, true, false, not}
@@ -16,7 +17,7 @@ use native.Mathlib.Decide.{decLe}
 use lib.Dec.{T, le→leb}
 use lib.IntN.{ℤ, pos, negsuc, natAbs, _+ℤ_, _-ℤ_, _*ℤ_}
 use lib.Signed.{ltZ, leZ, _≤ℤ_, _<ℤ_, ltZ-yes, ltZ-no, leZ-yes}
-use Rattle.exact.proofs.Linear.{above, below, difference-neg, difference-pos, unknowns, linear, orders, eq-by, le-by, lt-by, le-of, eq-of}
+use Rattle.exact.proofs.Linear.{above, below, difference-neg, difference-pos, unknowns, linear, orders, one-sided, eq-by, le-by, lt-by, le-of, eq-of}
 
 pub le-trans : {a b c : ℤ} → a ≤ℤ b → b ≤ℤ c → a ≤ℤ c
 le-trans {a} {b} {c} h k = let v = unknowns (a ∷ b ∷ c ∷ []) in le-by (search linear) (search linear) (omega (arith, orders))
@@ -26,6 +27,12 @@ add-le {a} {b} {c} {d} h k = let v = unknowns (a ∷ b ∷ c ∷ d ∷ []) in le
 
 pub lt-le : {a b : ℤ} → a <ℤ b → a ≤ℤ b
 lt-le {a} {b} h = let v = unknowns (a ∷ b ∷ []) in le-by (search linear) (search linear) (omega (arith, orders))
+
+pub from-one : (x : ℤ) → pos 1 ≤ℤ x → pos 0 <ℤ x
+from-one x h = let v = unknowns (x ∷ []) in lt-by (search linear) (search linear) (omega (arith, orders))
+
+pub from-size : (x : ℤ) → pos 0 <ℤ x → 1 ≤ natAbs x
+from-size x h = let v = unknowns (x ∷ []) in omega (arith, orders, one-sided)
 
 pub le-antisym : {a b : ℤ} → a ≤ℤ b → b ≤ℤ a → a ≡ b
 le-antisym {a} {b} h k = let v = unknowns (a ∷ b ∷ []) in eq-by (search linear) (search linear) (omega (arith, orders))

@@ -20,6 +20,7 @@ use lib.Signed.{quotZ, remZ, _≤ℤ_, _<ℤ_}
 use Rattle.exact.specs.Nearest.{nearest, nearestℕ}
 use Rattle.exact.proofs.Linear.{Difference, unknowns, linear, orders, one-sided, eq-by, le-of, lt-of}
 use Rattle.exact.proofs.Bound.{abs-add, abs-mul}
+use Rattle.exact.proofs.Order.{from-size}
 
 -- ---- of naturals
 module _ (n d : ℕ) (h : 0 < d) where
@@ -87,17 +88,13 @@ nearest-size z d h = scaled (nearest z d) (nearest-error z d h)
 pub nearest-smaller : (z d : ℤ) → pos 0 <ℤ d → natAbs (nearest z d) ≤ natAbs z + 1
 nearest-smaller z d h = by-order (decLe (natAbs (nearest z d)) (natAbs z + 1))
   where
-    divisor : (d : ℤ) → pos 0 <ℤ d → 1 ≤ natAbs d
-    divisor (pos n) l = ltb→lt 0 n (l .lt)
-    divisor (negsuc n) l = absurd (l .lt)
-
     -- otherwise d times it would be beyond z by more than half of d
     beyond : (z d k : ℕ) → 1 ≤ d → z + 2 ≤ k → 2 * (d * k) ≤ 2 * z + d → ⊥
     beyond z d k l m e = omega (arith, mul-le-mul-left d m, mul-le-mul-right z l)
 
     by-order : Dec (natAbs (nearest z d) ≤ natAbs z + 1) → natAbs (nearest z d) ≤ natAbs z + 1
     by-order (yes l) = l
-    by-order (no l) = absurd (beyond (natAbs z) (natAbs d) (natAbs (nearest z d)) (divisor d h) (omega arith) (nearest-size z d h))
+    by-order (no l) = absurd (beyond (natAbs z) (natAbs d) (natAbs (nearest z d)) (from-size d h) (omega arith) (nearest-size z d h))
 
 -- ---- which neighbour, by the remainder of the machine's division: for the code of `nearest`
 below-zero : {n : ℕ} → pos n <ℤ pos 0 → ⊥

@@ -2,7 +2,7 @@
 --
 -- Figures 1, 2 and 4 to 8 are condition tables: so many directions of one q, the coefficients row by row, and the misclosures w. `replyTo`
 -- is the reply of the adjustment to the table, lent with all directions 0; K-in, R-in, u-in and Q-in are the lists of K, R, u and Q, and
--- answersIn has these and those of V and the adjusted directions.
+-- answersIn has these and those of V and the adjusted directions, and zeros is six lists of one 0.
 -- Figure 3 is a file and its listing, byte for byte (listing's proofs/Figure3.antt). Figures 9 and 10 are the sightings of one position at a station.
 use mathlib.Core.Path.{_≡_, refl, sym, subst}
 use mathlib.Core.List.{List, [], _∷_, _++_}
@@ -15,8 +15,7 @@ use Rattle.reply.specs.declared.Refusal.{Refusal}
 use Rattle.reply.specs.declared.Reply.{Reply}
 use Rattle.reply.specs.declared.Reply.the-variants.{Accepted, Refused}
 use Rattle.doolittle.specs.Solution.{N}
-use Rattle.adjustment.specs.Promise.{lists}
-use Rattle.adjustment.proofs.Figures.{Figure as Table, replyTo, tableIn, answersIn, K-in, R-in, u-in, Q-in, figure-1, figure-2, figure-5, figure-6, figure-7, figure-8}
+use Rattle.adjustment.proofs.Figures.{Figure as Table, replyTo, tableIn, answersIn, zeros, K-in, R-in, u-in, Q-in, figure-1, figure-2, figure-5, figure-6, figure-7, figure-8}
 use Rattle.listing.specs.File.{fileReply}
 use Rattle.listing.specs.declared.Sheet.the-variants.{Plain, WithErrors}
 use Rattle.listing.specs.File.{listingOf}
@@ -99,8 +98,8 @@ Five =
 -- 6. "a = 9, q = 1, w = 0". W-203: "Figure 6 becomes accepted with everything zero": V, u, adjusted direction, K, R and Q.
 abbrev pub Six : Type 0
 Six =
-    let t = table 1 1 (pos 9 ∷ []) (pos 0 ∷ []) in let zero = pos 0 ∷ [] in
-    (replyTo t ≡ Accepted) × (answersIn t ≡ lists zero zero zero zero zero zero)
+    let t = table 1 1 (pos 9 ∷ []) (pos 0 ∷ []) in
+    (replyTo t ≡ Accepted) × (answersIn t ≡ zeros)
 
 -- 7. "Four directions, a = 2,000, q = 10, w = 200: K = -13, R = -80,000,000, so 8."
 abbrev pub Seven : Type 0

@@ -18,7 +18,7 @@ use Rattle.exact.proofs.Searching.{from-ext, from-none}
 use Rattle.doolittle.specs.Table.{at}
 use Rattle.doolittle.specs.Solution.{multiplier, lowPivot}
 use Rattle.doolittle.specs.Inner.{From}
-use Rattle.doolittle.proofs.Weakness.{largeD, weak-by-coefficient, weak-by-constant, weak-by-pivot, weak-by-multiplier, high-pivot}
+use Rattle.doolittle.proofs.Weakness.{largeD, weak-by-coefficient, weak-by-constant, weak-by-low, weak-by-multiplier, high-pivot}
 use Rattle.doolittle.proofs.reduce.is_weak.Statement.{statement}
 use Rattle.doolittle.proofs.reduce.is_weak.Tie as tie
 
@@ -77,7 +77,7 @@ module _ (c : tie.After-magnitude) where
 returns-2 : tie.Need-returns-2
 returns-2 c =
     let b = c .before in let s = start2 b in
-    (sym (weak-by-constant (n s) (j s) (entry s) (at (row s)) (at (row s) 24) (small-d b) (rw (size-is b) at (c .if2 .taken))), not-true)
+    (sym (weak-by-constant (n s) (j s) (entry s) (at (row s)) (at (row s) 24) (rw (size-is b) at (c .if2 .taken))), not-true)
 
 mul-pivot : tie.Need-mul-pivot
 mul-pivot c = search needs
@@ -108,7 +108,7 @@ low-is c = let s = start3 (c .before) in c .is-low .ensures ∙ ap₂ lowPivot (
 returns-3 : tie.Need-returns-3
 returns-3 c =
     let b = c .before .before in let s = start3 b in
-    (sym (weak-by-pivot (n s) (j s) (entry s) (at (row s)) (at (row s) 24) (small-d (b .before .before)) (small-l b) (sym (low-is (c .before)) ∙ c .if3 .taken)), not-true)
+    (sym (weak-by-low (n s) (j s) (entry s) (at (row s)) (at (row s) 24) (sym (low-is (c .before)) ∙ c .if3 .taken)), not-true)
 
 -- the pivot is not low
 sound-pivot : (c : tie.Else3) → lowPivot (at (row (start3 (c .before .before))) (j (start3 (c .before .before)))) (entry (start3 (c .before .before))) ≡ false
