@@ -62,8 +62,9 @@ typedef char molsadriu_lengths_have_64_bits[sizeof(size_t) == 8 ? 1 : -1];
  *   3   number out of range, or i = k where that is not allowed             line, direction number or term's ordinal, or 0
  *   4   coefficient beyond 2,000                                            condition
  *   5   misclosure beyond 1,000,000                                         condition
- *   6   weak row: its pivot is below 1 or below a thousandth of N(j,j),     row
- *       or some D, its L or some M is beyond its limit
+ *   6   weak row j: D(j,j) is below 1, or 1,000*D(j,j) is below N(j,j);     row
+ *       some |D| is above 2,560,000,000, |L| above 4,000,000,000 or
+ *       some |M| above 10^9 (the normals N, the reduced row D, L, M)
  *   7   correlate too large                                                 row
  *   8   remainder R too large                                               condition
  *   9   printed correction u above 60,000 in size: past one minute          lowest such direction number

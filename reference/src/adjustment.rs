@@ -88,9 +88,8 @@ pub fn adjust(table: &ConditionTable, lengths: AnswerLengths) -> Result<Adjustme
 
 /// The normal equations N(j,k) of a lent table whose numbers are all in range.
 pub fn normals(table: &ConditionTable) -> Result<Vec<Vec<i64>>, Refusal> {
-    let lengths = AnswerLengths::fitting(table.directions.len(), table.w.len());
-    let net = Net::check(table, lengths)?;
-    Ok(net.normals().into_iter().map(answers).collect())
+    let normals = sound_net(table)?.normals();
+    Ok(normals.into_iter().map(answers).collect())
 }
 
 /// How far the rows of a net stand from two of their limits, down to the first weak one.
@@ -104,24 +103,24 @@ pub struct Margins {
 
 /// Why the first weak row of a sound table is weak, if one is.
 pub fn weakness(table: &ConditionTable) -> Option<Weakness> {
-    sound_net(table)?.weakness()
+    sound_net(table).ok()?.weakness()
 }
 
 /// The margins of a sound table. The refusal does not tell; the census does.
 pub fn margins(table: &ConditionTable) -> Option<Margins> {
-    Some(sound_net(table)?.margins())
+    Some(sound_net(table).ok()?.margins())
 }
 
 /// The printed correction for which a table is refused with 9, if it is. The refusal does
 /// not tell; the census does.
 pub fn blunder(table: &ConditionTable) -> Option<i64> {
-    sound_net(table)?.blunder()
+    sound_net(table).ok()?.blunder()
 }
 
 /// The net of a table that passes every check before the normals.
-fn sound_net(table: &ConditionTable) -> Option<Net> {
+fn sound_net(table: &ConditionTable) -> Result<Net, Refusal> {
     let lengths = AnswerLengths::fitting(table.directions.len(), table.w.len());
-    Net::check(table, lengths).ok()
+    Net::check(table, lengths)
 }
 
 /// A net whose numbers are all in range, in wide numbers.
@@ -219,12 +218,13 @@ impl Net {
         let mut margins = Margins::default();
         let mut rows = Vec::new();
         for (j, (normal, &w)) in self.normals().iter().zip(&self.w).enumerate() {
-            let (d, _) = reduced_entries(&rows, normal, w, j);
+            let (d, l) = reduced_entries(&rows, normal, w, j);
             let beside = d.iter().skip(1).map(|d| answer(d.abs() - MOST_D));
             margins.coefficients.extend(beside);
-            let row = reduced_row(&rows, normal, w, j);
+            let margin = PIVOT_PARTS * d[0] - normal[j];
+            let row = reduced_row(d, l, normal[j]);
             if matches!(row, Ok(_) | Err(Weakness::PivotBelowEntry)) {
-                margins.pivots.push(answer(PIVOT_PARTS * d[0] - normal[j]));
+                margins.pivots.push(answer(margin));
             }
             match row {
                 Ok(row) => rows.push(row),
@@ -286,7 +286,8 @@ impl Net {
 fn reduce(normals: &[Vec<i128>], w: &[i128]) -> Result<Vec<ReducedRow>, (usize, Weakness)> {
     let mut rows = Vec::new();
     for (j, (normal, &w)) in normals.iter().zip(w).enumerate() {
-        let row = reduced_row(&rows, normal, w, j).map_err(|weakness| (j, weakness))?;
+        let (d, l) = reduced_entries(&rows, normal, w, j);
+        let row = reduced_row(d, l, normal[j]).map_err(|weakness| (j, weakness))?;
         rows.push(row);
     }
     Ok(rows)
@@ -306,14 +307,8 @@ fn reduced_entries(before: &[ReducedRow], normal: &[i128], w: i128, j: usize) ->
     (d, l)
 }
 
-/// Row j with its factors, if it is not weak.
-fn reduced_row(
-    before: &[ReducedRow],
-    normal: &[i128],
-    w: i128,
-    j: usize,
-) -> Result<ReducedRow, Weakness> {
-    let (d, l) = reduced_entries(before, normal, w, j);
+/// A row with its factors, if it is not weak; `entry` is N(j,j), before any row was added to it.
+fn reduced_row(d: Vec<i128>, l: i128, entry: i128) -> Result<ReducedRow, Weakness> {
     if !d.iter().all(|&d| within(d, MOST_D)) {
         return Err(Weakness::Coefficient);
     }
@@ -324,8 +319,7 @@ fn reduced_row(
     if pivot < 1 {
         return Err(Weakness::PivotBelowOne);
     }
-    // The entry as it was formed, before any row was added to it.
-    if PIVOT_PARTS * pivot < normal[j] {
+    if PIVOT_PARTS * pivot < entry {
         return Err(Weakness::PivotBelowEntry);
     }
     let factor = |&d: &i128| nearest(-1_000_000 * d, pivot);
