@@ -16,19 +16,13 @@ ghost use Rattle.doolittle.specs.Inner.{Small, Within, Sound};
 ghost use Rattle.adjustment.specs.Inner.{closing, rounding};
 use crate::MINUTE;
 use direction::CIRCLE;
+use doolittle::reduce::plus_product;
+use doolittle::reduce::weighted;
 
 // The remainders up to the first that is too large.
 pub struct Remaining {
     pub r: [i64; 24],
     pub close: usize,
-}
-
-// s + x*y.
-fn plus_product(s: i64, x: i64, y: i64) -> i64
-    requires { ⌜ (natAbs s ≤ 7000000000000000000) × (natAbs x ≤ 2000) × (natAbs y ≤ 50000000000000) ⌝ }
-    ensures { λ r. ⌜ r ≡ s +ℤ x *ℤ y ⌝ }
-{
-    s + x * y
 }
 
 // The sum of a(j,i)*K(j) over the n conditions, at direction i.
@@ -49,14 +43,6 @@ fn combined(a: &[i64], k: [i64; 24], i: usize, m: usize, n: usize) -> i64
         j += 1;
     }
     s
-}
-
-// V(i) = q(i) times that sum.
-fn weighted(q: i64, s: i64) -> i64
-    requires { ⌜ (natAbs q ≤ 10) × (natAbs s ≤ 4800000000000) ⌝ }
-    ensures { λ r. ⌜ r ≡ q *ℤ s ⌝ }
-{
-    q * s
 }
 
 // The corrections V.

@@ -15,14 +15,14 @@ use native.Mathlib.Omega.{arith}
 use borrow.Author.Count.{below-more}
 use lib.ListN.{length, set}
 use lib.Seq.{getD-set-same, getD-set-other}
-use lib.IntN.{ℤ, pos, natAbs, _+ℤ_, _*ℤ_, +ℤ-idr, +ℤ-assoc}
+use lib.IntN.{ℤ, pos, natAbs, _+ℤ_, _*ℤ_, *ℤ-zero, zero-*ℤ, +ℤ-idr, +ℤ-assoc}
 use Rattle.exact.specs.Sum.{sum}
 use Rattle.exact.proofs.Bound.{abs-mul}
 use Rattle.exact.proofs.Sum.{sum-none, sum-more, sum-ext, sum-mul, sum-swap}
 use Rattle.exact.proofs.Searching.{Failed}
 use Rattle.doolittle.specs.Table.{Table, at, tableOf}
 use Rattle.doolittle.specs.Solution.{N, reduced, D, L, M, carried, multiplier, weakRow, weak}
-use Rattle.doolittle.specs.Inner.{Sound, CONSTANT, From, RowWithin, Holds, Rows, withAbove, rowAt, cell}
+use Rattle.doolittle.specs.Inner.{Sound, CONSTANT, From, RowWithin, Holds, Rows, part, withAbove, rowAt, cell}
 use Rattle.doolittle.proofs.Sizes.{sum-within, term-size}
 use Rattle.doolittle.proofs.Weakness.{SoundRow, sound-row, weak-ext}
 
@@ -43,6 +43,17 @@ rowAt-more P j rows row l f g =
 
 -- ---- the rules' own equations
 module _ (t : Table) where
+  -- a direction that condition j does not touch adds nothing
+  pub untouched : (j k i : ℕ) → t .a j i ≡ pos 0 → part t j k i ≡ pos 0
+  untouched j k i e = ap (λ (x : ℤ). t .q i *ℤ x *ℤ t .a k i) e ∙ ap (λ (x : ℤ). x *ℤ t .a k i) (*ℤ-zero (t .q i)) ∙ zero-*ℤ (t .a k i)
+
+  -- a row of N, one direction more
+  pub formed-more : (j i : ℕ) (l : ℤ) (row next : List ℤ) → Holds j (t .n) (λ k. sum i (part t j k)) l row → Holds j (t .n) (λ k. at row k +ℤ part t j k i) (at row CONSTANT) next → Holds j (t .n) (λ k. sum (i + 1) (part t j k)) l next
+  formed-more j i l row next g e = record {
+    coefficients = λ k a b. e .coefficients k a b ∙ ap (λ (z : ℤ). z +ℤ part t j k i) (g .coefficients k a b) ∙ sym (sum-more i (part t j k));
+    constant = e .constant ∙ g .constant;
+  }
+
   pub reduced-sum : (i : ℕ) (x : ℕ → ℤ) (j : ℕ) → reduced t i x j ≡ x j +ℤ sum i (λ h. carried (M t h j) (reduced t h x h))
   unfolding reduced M D sum
   reduced-sum zero x j = sym (+ℤ-idr (x j))
@@ -121,11 +132,15 @@ module _ (qs cs ws : List ℤ) (s : Sound qs cs ws) where
   abbrev t : Table
   t = tableOf qs cs ws
 
+  -- what the first i directions add to N(j,k)
+  pub parts-within : (j k i : ℕ) → j < t .n → k < t .n → i ≤ t .m → natAbs (sum i (part t j k)) ≤ 2560000000
+  parts-within j k i h l b =
+      sum-within i 64 40000000 (part t j k) (omega (arith, s .m-most))
+      (λ e c. let d : e < t .m = omega arith in term-size (t .q e) (t .a j e) (t .a k e) (s .q-most e d) (s .a-most j h e d) (s .a-most k l e d))
+
   pub N-size : (j k : ℕ) → j < t .n → k < t .n → natAbs (N t j k) ≤ 2560000000
   unfolding N
-  N-size j k h l =
-      sum-within (t .m) 64 40000000 (λ i. t .q i *ℤ t .a j i *ℤ t .a k i) (s .m-most)
-      (λ i e. term-size (t .q i) (t .a j i) (t .a k i) (s .q-most i e) (s .a-most j h i e) (s .a-most k l i e))
+  N-size j k h l = parts-within j k (t .m) h l (le-refl (t .m))
 
   pub normal-within : (j : ℕ) (own : List ℤ) → j < t .n → Holds j (t .n) (N t j) (pos 1000 *ℤ t .w j) own → RowWithin 2560000000 j (t .n) own
   normal-within j own l g = record {

@@ -10,7 +10,7 @@ use lib.Signed.{_≤ℤ_, _<ℤ_}
 use Rattle.exact.specs.Sum.{sum}
 use Rattle.exact.specs.Nearest.{nearest}
 use Rattle.exact.specs.First.{first}
-use Rattle.doolittle.specs.Table.{Table, at}
+use Rattle.doolittle.specs.Table.{Table, inverseWeight, at}
 use Rattle.doolittle.specs.Solution.{D, L, M, carried, weak, K}
 
 -- the first `count` numbers of a list are within B
@@ -46,6 +46,10 @@ cell rows i k = at (rowAt rows i) k
 abbrev pub From : ℕ → ℕ → (ℕ → Type 0) → Type 0
 From j n P = (k : ℕ) → j ≤ k → k < n → P k
 
+-- the places before j are as they were
+abbrev pub Before : ℕ → List ℤ → List ℤ → Type 0
+Before j row next = (k : ℕ) → k < j → at next k ≡ at row k
+
 -- a row whose coefficients and constant are within B
 pub record RowWithin (B j n : ℕ) (row : List ℤ) : Type 0 where
   pub coefficients : From j n (λ k. natAbs (at row k) ≤ B)
@@ -55,6 +59,10 @@ pub record RowWithin (B j n : ℕ) (row : List ℤ) : Type 0 where
 pub record Holds (j n : ℕ) (d : ℕ → ℤ) (l : ℤ) (row : List ℤ) : Type 0 where
   pub coefficients : From j n (λ k. at row k ≡ d k)
   pub constant : at row CONSTANT ≡ l
+
+-- what direction i adds to N(j,k)
+abbrev pub part : Table → (j k i : ℕ) → ℤ
+part t j k i = inverseWeight t i *ℤ t .a j i *ℤ t .a k i
 
 -- the number x of row j at place k with all rows above taken
 abbrev pub withAbove : ℤ → List (List ℤ) → List (List ℤ) → ℕ → ℕ → ℤ

@@ -11,7 +11,7 @@ ghost use Rattle.exact.specs.Nearest.{nearest};
 ghost use Rattle.exact.specs.First.{first, some-below};
 ghost use Rattle.doolittle.specs.Table.{at, tableOf};
 ghost use Rattle.doolittle.specs.Solution.{N, carried, multiplier, lowPivot, weakRow, weak};
-ghost use Rattle.doolittle.specs.Inner.{Small, Within, Sound, CONSTANT, From, RowWithin, Holds, Rows, withAbove, rowAt, cell};
+ghost use Rattle.doolittle.specs.Inner.{Sound, CONSTANT, From, Before, RowWithin, Holds, Rows, part, withAbove, rowAt, cell};
 
 // A reduced row: its coefficients D(j,k) at their places k, from j on, and its constant L(j) at the last place.
 pub type Row = [i64; 25];
@@ -19,33 +19,47 @@ pub type Row = [i64; 25];
 // The place of a row's constant.
 pub const CONSTANT: usize = 24;
 
-// One more term of N(j,k).
-fn with_term(s: i64, q: i64, x: i64, y: i64) -> i64
-    requires { ⌜ (natAbs s ≤ 2560000000) × (natAbs q ≤ 10) × (natAbs x ≤ 2000) × (natAbs y ≤ 2000) ⌝ }
-    ensures { λ r. ⌜ r ≡ s +ℤ q *ℤ x *ℤ y ⌝ }
+// q*x, where q is an inverse weight.
+pub fn weighted(q: i64, x: i64) -> i64
+    requires { ⌜ (natAbs q ≤ 10) × (natAbs x ≤ 4800000000000) ⌝ }
+    ensures { λ r. ⌜ r ≡ q *ℤ x ⌝ }
 {
-    s + q * x * y
+    q * x
 }
 
-// N(j,k): the rows of coefficients begin at `at` and at `to`.
-fn normal(q: &[i64], a: &[i64], at: usize, to: usize) -> i64
-    requires { ⌜ length (now q) ≤ 64 ⌝ }
-    requires { ⌜ (at + length (now q) ≤ length (now a)) × (to + length (now q) ≤ length (now a)) ⌝ }
-    requires { ⌜ Small 10 (now q) (length (now q)) ⌝ }
-    requires { ⌜ Within 2000 (now a) at (length (now q)) × Within 2000 (now a) to (length (now q)) ⌝ }
-    ensures { λ r. ⌜ r ≡ sum (length (now (q .entry)))
-        (λ i. getD (now (q .entry)) i (pos 0) *ℤ getD (now (a .entry)) (at + i) (pos 0) *ℤ getD (now (a .entry)) (to + i) (pos 0)) ⌝ }
+// s + x*y.
+pub fn plus_product(s: i64, x: i64, y: i64) -> i64
+    requires { ⌜ (natAbs s ≤ 7000000000000000000) × (natAbs x ≤ 20000) × (natAbs y ≤ 50000000000000) ⌝ }
+    ensures { λ r. ⌜ r ≡ s +ℤ x *ℤ y ⌝ }
 {
-    let mut s = 0;
-    let mut i = 0;
-    while i < q.len() {
-        let g = q[i];
-        let x = a[at + i];
-        let y = a[to + i];
-        s = with_term(s, g, x, y);
-        i += 1;
+    s + x * y
+}
+
+// What direction i adds to row j: q(i)*a(j,i)*a(k,i) to the entry at each place k from j on; nothing where the condition does not touch the direction.
+fn add_direction(q: &[i64], a: &[i64], w: &[i64], j: usize, start: usize, i: usize, row: &mut [i64])
+    requires { ⌜ Sound (now q) (now a) (now w) ⌝ }
+    requires { ⌜ (j < length (now w)) × (start ≡ j * length (now q)) × (i < length (now q)) ⌝ }
+    requires { ⌜ (24 < length (now row)) × From j (length (now w)) (λ k. natAbs (at (now row) k) ≤ 2560000000) ⌝ }
+    ensures { λ _. ⌜ Holds j (length (now (w .entry)))
+        (λ k. at (now (row .entry)) k +ℤ part (tableOf (now (q .entry)) (now (a .entry)) (now (w .entry))) j k i)
+        (at (now (row .entry)) CONSTANT) (now (row .exit)) ⌝ }
+    ensures { λ _. ⌜ Before j (now (row .entry)) (now (row .exit)) ⌝ }
+{
+    let x = a[start + i];
+    if x == 0 {
+        return;
     }
-    s
+    let g = q[i];
+    let gx = weighted(g, x);
+    let mut to = start;
+    let mut k = j;
+    while k < w.len() {
+        let s = row[k];
+        let y = a[to + i];
+        row[k] = plus_product(s, gx, y);
+        to += q.len();
+        k += 1;
+    }
 }
 
 // 1,000 times a misclosure.
@@ -56,7 +70,7 @@ fn constant(w: i64) -> i64
     1000 * w
 }
 
-// Row j before any row above it is taken: N(j,k) for k from j on, and 1,000*w(j).
+// Row j before any row above it is taken: N(j,k) for k from j on, and 1,000*w(j). It is formed direction by direction, in the row itself.
 fn normal_row(q: &[i64], a: &[i64], w: &[i64], j: usize, at: usize) -> Row
     requires { ⌜ Sound (now q) (now a) (now w) ⌝ }
     requires { ⌜ (j < length (now w)) × (at ≡ j * length (now q)) ⌝ }
@@ -66,12 +80,10 @@ fn normal_row(q: &[i64], a: &[i64], w: &[i64], j: usize, at: usize) -> Row
     let x = w[j];
     let mut row = [0i64; 25];
     row[CONSTANT] = constant(x);
-    let mut to = at;
-    let mut k = j;
-    while k < w.len() {
-        row[k] = normal(q, a, at, to);
-        to += q.len();
-        k += 1;
+    let mut i = 0;
+    while i < q.len() {
+        add_direction(q, a, w, j, at, i, &mut row);
+        i += 1;
     }
     row
 }

@@ -1,12 +1,13 @@
 -- A list whose elements are replaced in their order, one a turn, from some place on. Assumes nothing.
 --   tabulate-length, tabulate-at, tabulate-ext       a list by its elements
---   Filled                             from place `from` to place i the elements are those of g; from i on they are as they were
+--   Filled                             from place `from` to place i the elements are those of g; the others are as they were
 --   filled-none, filled-more           before the first turn, and after one more
 --   filled-all                         after the last, from place 0
 use mathlib.Core.Path.{_≡_, refl, sym, _∙_, ap, subst}
 use mathlib.Core.List.{List, _∷_}
 use Prim.Native.Nat.{ℕ, zero, suc, _+_, _<_, _≤_, zero-le}
 use native.Mathlib.Decide.{decLt}
+use native.Mathlib.Nat.{le-refl}
 use native.Mathlib.Omega.{arith}
 use lib.ListN.{length, getD, set, length-set}
 use lib.Seq.{getD-set-same, getD-set-other, ext-getD}
@@ -32,15 +33,19 @@ module _ {A : Type 0} where
 module _ {A : Type 0} (d : A) where
   pub record Filled (g : ℕ → A) (from i : ℕ) (xs ys : List A) : Type 0 where
     pub long : length ys ≡ length xs
+    pub begun : from ≤ i
+    pub before : (j : ℕ) → j < from → getD ys j d ≡ getD xs j d
     pub done : (j : ℕ) → from ≤ j → j < i → getD ys j d ≡ g j
     pub rest : (j : ℕ) → i ≤ j → getD ys j d ≡ getD xs j d
 
   pub filled-none : (g : ℕ → A) (from : ℕ) (xs : List A) → Filled g from from xs xs
-  filled-none g from xs = record { long = refl; done = λ j h k. absurd (omega arith); rest = λ j h. refl }
+  filled-none g from xs = record { long = refl; begun = le-refl from; before = λ j h. refl; done = λ j h k. absurd (omega arith); rest = λ j h. refl }
 
   pub filled-more : (g : ℕ → A) (from i : ℕ) (xs ys : List A) (v : A) → i < length xs → Filled g from i xs ys → v ≡ g i → Filled g from (i + 1) xs (set ys i v)
   filled-more g from i xs ys v l u e = record {
     long = length-set ys i v ∙ u .long;
+    begun = omega (arith, u .begun);
+    before = λ j h. getD-set-other ys i j v d (λ f. omega (arith, u .begun)) ∙ u .before j h;
     done = λ j f h. pick j (decLt j i) f h;
     rest = λ j h. getD-set-other ys i j v d (λ f. omega arith) ∙ u .rest j (omega arith);
   }

@@ -88,7 +88,7 @@ plus-product-requires : tie.Need-plus-product-requires Inv-loop μ-loop
 plus-product-requires c κs =
     let s = start c in let l : j c < s .args .n = omega arith in (
       sum-size c,
-      rw (coefficient-is c) (s .pre .1 .0 (j c) l),
+      rw (coefficient-is c) (omega (arith, s .pre .1 .0 (j c) l)),
       omega (arith, read-within (getD (s .args .t2) (j c) (pos 0)) (c .y .given) (s .pre .1 .1 (j c) l)),
     )
 

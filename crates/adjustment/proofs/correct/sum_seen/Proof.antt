@@ -72,7 +72,7 @@ plus-product-requires : tie.Need-plus-product-requires Inv-loop μ-loop
 plus-product-requires c κs =
     let s = start c in let l : i c < s .args .m = omega arith in (
       sum-size c,
-      read-within (getD (now (s .args .a)) (s .args .at + i c) (pos 0)) (c .before .c .given) (s .pre .1 .0 (i c) l),
+      omega (arith, read-within (getD (now (s .args .a)) (s .args .at + i c) (pos 0)) (c .before .c .given) (s .pre .1 .0 (i c) l)),
       omega (arith, read-within (getD (now (s .args .x)) (i c) (pos 0)) (c .y .given) (s .pre .1 .1 (i c) l)),
     )
 

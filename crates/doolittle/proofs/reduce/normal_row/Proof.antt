@@ -1,29 +1,38 @@
 -- `reduce::normal_row` meets its contract. Assumes nothing.
-use mathlib.Core.Path.{_≡_, sym, _∙_, ap, ap₂, subst}
+use mathlib.Core.Path.{_≡_, sym, _∙_, ap}
 use mathlib.Core.List.{List}
-use Prim.Native.Nat.{ℕ, _+_, _*_, _-_, _≤_, _<_}
+use Prim.Native.Nat.{ℕ, _-_, _≤_}
 use native.Mathlib.Omega.{arith}
 use borrow.Author.Needs.{needs}
 use denote.Ref.{now}
-use lib.ListN.{length, getD, set, replicate}
+use lib.ListN.{length, getD, replicate, length-set, length-replicate, getD-replicate}
+use lib.Seq.{getD-set-same, getD-set-other}
 use lib.IntN.{ℤ, pos, _*ℤ_}
 use mir.Syntax.{w64}
 use mir.Val.{toZ, ofZ}
 use Rattle.exact.specs.Sum.{sum}
+use Rattle.exact.proofs.Sum.{sum-none}
 use Rattle.exact.proofs.Bound.{read-at, read-within}
-use Rattle.exact.proofs.Filling.{Filled, filled-none, filled-more}
-use Rattle.doolittle.specs.Table.{tableOf}
+use Rattle.doolittle.specs.Table.{Table, at, tableOf}
 use Rattle.doolittle.specs.Solution.{N}
-use Rattle.doolittle.specs.Inner.{Within}
-use Rattle.doolittle.proofs.Sizes.{row-end, next-row}
+use Rattle.doolittle.specs.Inner.{Holds, part}
+use Rattle.doolittle.proofs.Reducing.{parts-within, formed-more}
 use Rattle.doolittle.proofs.reduce.normal_row.Statement.{statement}
 use Rattle.doolittle.proofs.reduce.normal_row.Tie as tie
 
+-- what the first i directions give
+abbrev Formed : Table → ℕ → ℕ → List ℤ → Type 0
+Formed t j i row = Holds j (t .n) (λ k. sum i (part t j k)) (pos 1000 *ℤ t .w j) row
+
 abbrev Inv-loop : tie.InvT-loop
-Inv-loop q a w j at x row₀ to₀ k₀ row to k = (j ≤ k) × (k ≤ length w) × (to ≡ k * length q) × Filled (pos 0) (N (tableOf q a w) j) j k row₀ row
+Inv-loop q a w j at x row₀ i₀ row i = (i ≤ length q) × (length row ≡ 25) × Formed (tableOf q a w) j i row
 
 abbrev μ-loop : tie.MeasureT-loop
-μ-loop q a w j at x row₀ to₀ k₀ row to k = length w - k
+μ-loop q a w j at x row₀ i₀ row i = length q - i
+
+-- the table
+abbrev table : tie.Start Inv-loop μ-loop → Table
+table s = tableOf (now (s .args .q)) (now (s .args .a)) (now (s .args .w))
 
 mul-x : tie.Need-mul-x Inv-loop μ-loop
 mul-x c = search needs
@@ -38,82 +47,52 @@ constant-requires c κs =
 array-set-from-row : tie.Need-array-set-from-row Inv-loop μ-loop
 array-set-from-row c = search needs
 
--- the row as the loop finds it: the constant alone
-abbrev first-row : tie.After-constant Inv-loop μ-loop → List ℤ
-first-row c = set (replicate 25 (pos 0)) 24 (toZ w64 (ofZ w64 (c .constant .result)))
-
 loop-holds : tie.Need-loop-holds Inv-loop μ-loop
 loop-holds c =
-    let s = c .before .before in (
+    let s = c .before .before in let x = toZ w64 (ofZ w64 (c .constant .result)) in let zeros = replicate 25 (pos 0) in (
       omega arith,
-      omega arith,
-      s .pre .1 .1,
-      filled-none (pos 0) (N (tableOf (now (s .args .q)) (now (s .args .a)) (now (s .args .w))) (s .args .j)) (s .args .j) (first-row c),
+      length-set zeros 24 x ∙ length-replicate 25 (pos 0),
+      record {
+        coefficients = λ k h l. getD-set-other zeros 24 k x (pos 0) (λ e. omega (arith, s .pre .0 .n-most)) ∙ getD-replicate 25 k (pos 0) (pos 0) (omega (arith, s .pre .0 .n-most)) ∙ sym (sum-none (part (table s) (s .args .j) k));
+        constant = getD-set-same zeros 24 x (pos 0) (omega (arith, length-replicate 25 (pos 0))) ∙ read-at (c .constant .result) (c .constant .ok) ∙ c .constant .ensures
+            ∙ ap (λ (z : ℤ). pos 1000 *ℤ z) (read-at (getD (now (s .args .w)) (s .args .j) (pos 0)) (c .before .x .given));
+      },
     )
 
-normal-requires : tie.Need-normal-requires Inv-loop μ-loop
-normal-requires c κs =
-    let l = c .before in let s = l .before .before .before in let t = s .pre .0 in let i = l .loop .inv in let k = l .loop .k in
-    let m = length (now (s .args .q)) in let n = length (now (s .args .w)) in let h : k < n = omega arith in (
-      t .m-most,
+slice-aggregate-add-direction : tie.Need-slice-aggregate-add-direction Inv-loop μ-loop
+slice-aggregate-add-direction c = sym (c .before .before .loop .inv .1)
+
+add-direction-requires : tie.Need-add-direction-requires Inv-loop μ-loop
+add-direction-requires c κs =
+    let l = c .before .before in let s = l .before .before .before in let t = table s in let v = l .loop .inv in let j = s .args .j in (
+      s .pre .0,
       (
-        (
-          row-end (s .args .j) n m (s .pre .1 .0) (t .long) (s .pre .1 .1),
-          row-end k n m h (t .long) (i .2),
-        ),
-        (
-          t .q-most,
-          (
-            subst (λ (at : ℕ). Within 2000 (now (s .args .a)) at m) (sym (s .pre .1 .1)) (t .a-most (s .args .j) (s .pre .1 .0)),
-            subst (λ (at : ℕ). Within 2000 (now (s .args .a)) at m) (sym (i .2)) (t .a-most k h),
-          ),
-        ),
+        (s .pre .1 .0, s .pre .1 .1, omega arith),
+        (omega (arith, v .1), λ k h b. rw (v .2 .coefficients k h b) (parts-within (now (s .args .q)) (now (s .args .a)) (now (s .args .w)) (s .pre .0) j k (l .loop .i) (s .pre .1 .0) b (v .0))),
       ),
     )
 
-mul-row : tie.Need-mul-row Inv-loop μ-loop
-mul-row c = search needs
-
-array-set-from-row-2 : tie.Need-array-set-from-row-2 Inv-loop μ-loop
-array-set-from-row-2 c = search needs
-
-add-to : tie.Need-add-to Inv-loop μ-loop
-add-to c =
-    let l = c .before .before in let s = l .before .before .before in
-    omega (arith, row-end (l .loop .k) (length (now (s .args .w))) (length (now (s .args .q))) (omega arith) (s .pre .0 .long) (l .loop .inv .2))
-
-add-k : tie.Need-add-k Inv-loop μ-loop
-add-k c = search needs
+add-i : tie.Need-add-i Inv-loop μ-loop
+add-i c = search needs
 
 loop-less : tie.Need-loop-less Inv-loop μ-loop
 loop-less c = search needs
 
--- the entry at place k
-entry-is : (c : tie.After-normal Inv-loop μ-loop) →
-    c .normal .result ≡ N (tableOf (now (c .before .before .before .before .before .args .q)) (now (c .before .before .before .before .before .args .a)) (now (c .before .before .before .before .before .args .w))) (c .before .before .before .before .before .args .j) (c .before .before .loop .k)
-unfolding N
-entry-is c =
-    let l = c .before .before in let s = l .before .before .before in let q = now (s .args .q) in let a = now (s .args .a) in
-    c .normal .ensures
-    ∙ ap₂ (λ (x y : ℕ). sum (length q) (λ i. getD q i (pos 0) *ℤ getD a (x + i) (pos 0) *ℤ getD a (y + i) (pos 0))) (s .pre .1 .1) (l .loop .inv .2)
-
 loop-again : tie.Need-loop-again Inv-loop μ-loop
 loop-again c =
-    let l = c .before .before in let s = l .before .before .before in let i = l .loop .inv in let k = l .loop .k in (
+    let d = c .before in let l = d .before .before .before in let s = l .before .before .before in let v = l .loop .inv in (
       omega arith,
-      omega arith,
-      next-row k (length (now (s .args .q))) (i .2),
-      filled-more (pos 0) (N (tableOf (now (s .args .q)) (now (s .args .a)) (now (s .args .w))) (s .args .j)) (s .args .j) k (first-row (l .before)) (l .loop .row)
-          (toZ w64 (ofZ w64 (c .normal .result))) (omega (arith, s .pre .0 .n-most)) (i .3) (read-at (c .normal .result) (c .normal .ok) ∙ entry-is c),
+      d .add-direction .kept .1 .1 .1 .1 .1 .1 .0 ∙ v .1,
+      formed-more (table s) (s .args .j) (l .loop .i) (pos 1000 *ℤ table s .w (s .args .j)) (l .loop .row) _ (v .2) (d .add-direction .ensures .0),
     )
 
 returns : tie.Need-returns Inv-loop μ-loop
+unfolding N
 returns c =
-    let l = c .before in let k = l .before in let s = k .before .before in let i = l .loop .inv in
+    let l = c .before in let s = l .before .before .before in let e : l .loop .i ≡ length (now (s .args .q)) = omega arith in
     record {
-      coefficients = λ h e f. i .3 .done h e (omega arith);
-      constant = i .3 .rest 24 (omega (arith, s .pre .0 .n-most)) ∙ read-at (k .constant .result) (k .constant .ok) ∙ k .constant .ensures
-          ∙ ap (λ (z : ℤ). pos 1000 *ℤ z) (read-at (getD (now (s .args .w)) (s .args .j) (pos 0)) (k .before .x .given));
+      coefficients = λ k h b. l .loop .inv .2 .coefficients k h b ∙ ap (λ (i : ℕ). sum i (part (table s) (s .args .j) k)) e;
+      constant = l .loop .inv .2 .constant;
     }
 
 pub normal-row-spec : {M : Type 1} → statement M
@@ -127,11 +106,9 @@ normal-row-spec =
     constant-requires
     array-set-from-row
     loop-holds
-    normal-requires
-    mul-row
-    array-set-from-row-2
-    add-to
-    add-k
+    slice-aggregate-add-direction
+    add-direction-requires
+    add-i
     loop-less
     loop-again
     returns)

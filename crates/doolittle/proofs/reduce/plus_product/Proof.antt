@@ -1,7 +1,7 @@
--- `correct::plus_product` meets its contract. Assumes nothing.
+-- `reduce::plus_product` meets its contract. Assumes nothing.
 use Rattle.exact.proofs.Bound.{bounded, bounds, fits-in, read}
-use Rattle.adjustment.proofs.correct.plus_product.Statement.{statement}
-use Rattle.adjustment.proofs.correct.plus_product.Tie as tie
+use Rattle.doolittle.proofs.reduce.plus_product.Statement.{statement}
+use Rattle.doolittle.proofs.reduce.plus_product.Tie as tie
 
 mul-result : tie.Need-mul-result
 mul-result c = let x = bounded (c .args .x) (c .pre .1) in let y = bounded (c .args .y) (c .pre .2) in fits-in (search bounds) tt
