@@ -1,17 +1,19 @@
 -- The promise of `adjust`, from what its checks have said. Assumes nothing.
---   by-counts, by-lengths, by-directions, by-conditions, by-solution      the reply, where the checks before have accepted
+--   refused-input            what the input checks refuse is refused
 --   refused-adjusts          a refusal that is the rule's reply, with the lists as they were lent, keeps the promise
 --   accepted-adjusts         so does an accepted table whose lists are the rules' answers: what the promise says of accepted tables holds of them
 --   passed-sound, passed-solved      of every table that passes the input checks: its numbers are in range, and the solution replies
+--   Passed, passed-table     and all that the code needs to know of it: also the lengths of its lists
 --   accepted-counts, accepted-weights      of every table that the rules accept: its counts and its q are in range
 --   accepted-pivots          of every table that the rules accept: each pivot is above 0, and 1,000 times it is not below its entry N(j,j)
 --   accepted-demand3, accepted-within-minute      of every table that the rules accept: demand 3, and no printed correction is past one minute
 --   refusal-leaves-lists     a refusal that keeps the promise leaves the six lent lists as they were
 --   only-reply               two replies that keep the promise are equal, and leave equal lists
 use mathlib.Core.Path.{_≡_, refl, sym, _∙_, ap, subst}
-use mathlib.Core.Bool.{Bool, true, false}
+use mathlib.Core.Bool.{Bool, false}
 use mathlib.Core.List.{List}
 use Prim.Native.Nat.{ℕ, _+_, _<_}
+use native.Mathlib.Omega.{arith}
 use lib.ListN.{length}
 use lib.IntN.{ℤ, pos, _-ℤ_, _*ℤ_}
 use lib.Signed.{_≤ℤ_, _<ℤ_}
@@ -33,11 +35,20 @@ use Rattle.adjustment.specs.Corrections.{V-of, R-of, u-of, Q-of}
 use Rattle.adjustment.specs.Refusals.{countsAmiss, lengthsAmiss, conditionsReply, rowsReply, correlatesReply, remaindersReply, correctionsReply, solutionReply, inputReply}
 use Rattle.adjustment.specs.Demand.{Demand3}
 use Rattle.adjustment.specs.Promise.{Answers, adjustReply, answersOf, WithinMinute, Adjusts}
-use Rattle.doolittle.specs.Inner.{Sound}
+use Rattle.doolittle.specs.Inner.{Small, Sound}
 use Rattle.doolittle.proofs.Reducing.{sound-at}
-use Rattle.adjustment.proofs.Admitting.{counts-known, Lengths, lengths-known, sound-table}
+use Rattle.adjustment.proofs.Admitting.{counts-known, Lengths, lengths-known, directions-known, sound-table}
 use Rattle.adjustment.proofs.Demands.{demand-3, demand-ext}
 use Rattle.adjustment.proofs.Solving.{remainders-close, corrections-small}
+
+-- what is known of a table that has passed its input checks, and of the six answer lists
+pub record Passed (ds qs cs ws : List ℤ) (lent : Answers) : Type 0 where
+  pub sound : Sound qs cs ws
+  pub reply : adjustReply ds qs cs ws lent ≡ solutionReply (tableOf qs cs ws)
+  pub directions : length ds ≡ length qs
+  pub in-circle : Small 1296000000 ds (length qs)
+  pub by-direction : (length (lent .corrections) ≡ length qs) × (length (lent .printed) ≡ length qs) × (length (lent .adjusted) ≡ length qs)
+  pub by-condition : (length (lent .correlates) ≡ length ws) × (length (lent .remainders) ≡ length ws) × (length (lent .misses) ≡ length ws)
 
 module _ (ds qs cs ws : List ℤ) (lent : Answers) where
   abbrev t : Table
@@ -50,29 +61,9 @@ module _ (ds qs cs ws : List ℤ) (lent : Answers) where
   abbrev pub input : Reply
   input = inputReply ds qs cs ws (length (lent .corrections)) (length (lent .printed)) (length (lent .adjusted)) (length (lent .correlates)) (length (lent .remainders)) (length (lent .misses))
 
-  -- ---- the reply
-  pub by-counts : countsAmiss (length ds) (length ws) ≡ true → adjustReply ds qs cs ws lent ≡ Refused (Count 0)
-  unfolding adjustReply inputReply
-  by-counts e = rw e
-
-  module _ (a : countsAmiss (length ds) (length ws) ≡ false) where
-    pub by-lengths : lengths-amiss ≡ true → adjustReply ds qs cs ws lent ≡ Refused (Count 0)
-    unfolding adjustReply inputReply
-    by-lengths e = rw (a, e)
-
-    module _ (b : lengths-amiss ≡ false) where
-      pub by-directions : {why : Refusal} → directionsReply ds qs ≡ Refused why → adjustReply ds qs cs ws lent ≡ Refused why
-      unfolding adjustReply inputReply
-      by-directions e = rw (a, b, e)
-
-      module _ (c : directionsReply ds qs ≡ Accepted) where
-        pub by-conditions : {why : Refusal} → conditionsReply t ≡ Refused why → adjustReply ds qs cs ws lent ≡ Refused why
-        unfolding adjustReply inputReply
-        by-conditions e = rw (a, b, c, e)
-
-        pub by-solution : conditionsReply t ≡ Accepted → adjustReply ds qs cs ws lent ≡ solutionReply t
-        unfolding adjustReply inputReply
-        by-solution e = rw (a, b, c, e)
+  pub refused-input : {why : Refusal} → input ≡ Refused why → adjustReply ds qs cs ws lent ≡ Refused why
+  unfolding adjustReply
+  refused-input e = rw e
 
   -- ---- the promise
   pub refused-adjusts : (why : Refusal) → adjustReply ds qs cs ws lent ≡ Refused why → Adjusts ds qs cs ws lent (Refused why) lent
@@ -130,6 +121,18 @@ module _ (ds qs cs ws : List ℤ) (lent : Answers) where
     pub passed-solved : adjustReply ds qs cs ws lent ≡ solutionReply t
     unfolding adjustReply
     passed-solved = rw passed
+
+    pub passed-table : Passed ds qs cs ws lent
+    passed-table =
+        let l = lengths-sound in let q = sym (l .of-q) in
+        record {
+          sound = passed-sound;
+          reply = passed-solved;
+          directions = q;
+          in-circle = λ i h. directions-known ds qs (ranged .0) i (omega (arith, l .of-q)) .size;
+          by-direction = (l .by-direction .0 ∙ q, l .by-direction .1 ∙ q, l .by-direction .2 ∙ q);
+          by-condition = l .by-condition;
+        }
 
   -- ---- of every table that the rules accept
   module _ (e : adjustReply ds qs cs ws lent ≡ Accepted) where

@@ -5,11 +5,13 @@ use Prim.Native.Nat.{ℕ, _<_}
 use lib.ListN.{getD}
 use lib.IntN.{ℤ, pos, _+ℤ_, _*ℤ_}
 use Rattle.exact.specs.Nearest.{nearest}
-use Rattle.doolittle.specs.Table.{Table}
+use Rattle.reply.specs.declared.Reply.{Reply}
+use Rattle.reply.specs.declared.Reply.the-variants.{Accepted}
+use Rattle.doolittle.specs.Table.{Table, at, tableOf}
 use Rattle.doolittle.specs.Solution.{K}
 use Rattle.adjustment.specs.Corrections.{V-of, R-of, u-of}
 use Rattle.adjustment.specs.Demand.{seen}
-use Rattle.adjustment.specs.Promise.{WithinMinute}
+use Rattle.adjustment.specs.Promise.{Answers, adjustReply, answersOf, WithinMinute}
 
 -- R(j) by a and V: sum of a*V + 10^7*w(j)
 abbrev pub closing : Table → (ℕ → ℤ) → ℕ → ℤ
@@ -26,3 +28,8 @@ pub record Solved (t : Table) (ks vs us rs : List ℤ) : Type 0 where
   pub u : (i : ℕ) → i < t .m → getD us i (pos 0) ≡ u-of t (K t) i
   pub r : (j : ℕ) → j < t .n → getD rs j (pos 0) ≡ R-of t (K t) j
   pub u-most : WithinMinute t (u-of t (K t))
+
+-- the reply to a lent table, and the answers of an accepted one; what a refusal leaves in the lists is not said
+pub record AdjustsOwn (ds qs cs ws : List ℤ) (lent : Answers) (reply : Reply) (left : Answers) : Type 0 where
+  pub answer : reply ≡ adjustReply ds qs cs ws lent
+  pub lists : reply ≡ Accepted → left ≡ answersOf (tableOf qs cs ws) (K (tableOf qs cs ws)) (at ds)

@@ -19,18 +19,12 @@ use direction::CIRCLE;
 use doolittle::reduce::plus_product;
 use doolittle::reduce::weighted;
 
-// The remainders up to the first that is too large.
-pub struct Remaining {
-    pub r: [i64; 24],
-    pub close: usize,
-}
-
 // The sum of a(j,i)*K(j) over the n conditions, at direction i.
-fn combined(a: &[i64], k: [i64; 24], i: usize, m: usize, n: usize) -> i64
+fn combined(a: &[i64], k: &[i64], i: usize, m: usize, n: usize) -> i64
     requires { ⌜ (i < m) × (m ≤ 64) × (n ≤ 24) × (length (now a) ≡ n * m) ⌝ }
     requires { ⌜ ((j : ℕ) → j < n → natAbs (getD (now a) (j * m + i) (pos 0)) ≤ 2000) ⌝ }
-    requires { ⌜ Small 100000000 k n ⌝ }
-    ensures { λ r. ⌜ r ≡ sum n (λ j. getD (now (a .entry)) (j * m + i) (pos 0) *ℤ getD k j (pos 0)) ⌝ }
+    requires { ⌜ (n ≤ length (now k)) × Small 100000000 (now k) n ⌝ }
+    ensures { λ r. ⌜ r ≡ sum n (λ j. getD (now (a .entry)) (j * m + i) (pos 0) *ℤ getD (now (k .entry)) j (pos 0)) ⌝ }
 {
     let mut s = 0;
     let mut at = i;
@@ -45,16 +39,16 @@ fn combined(a: &[i64], k: [i64; 24], i: usize, m: usize, n: usize) -> i64
     s
 }
 
-// The corrections V.
-pub fn corrections(q: &[i64], a: &[i64], w: &[i64], k: [i64; 24]) -> [i64; 64]
+// The corrections V of the correlates k, into a lent list.
+pub fn corrections(q: &[i64], a: &[i64], w: &[i64], k: &[i64], v: &mut [i64])
     requires { ⌜ Sound (now q) (now a) (now w) ⌝ }
-    requires { ⌜ Small 100000000 k (length (now w)) ⌝ }
-    ensures { λ r. ⌜ ((i : ℕ) → i < length (now (q .entry)) →
-        getD r i (pos 0) ≡ V-of (tableOf (now (q .entry)) (now (a .entry)) (now (w .entry))) (at k) i) ⌝ }
+    requires { ⌜ (length (now w) ≤ length (now k)) × Small 100000000 (now k) (length (now w)) ⌝ }
+    requires { ⌜ length (now q) ≤ length (now v) ⌝ }
+    ensures { λ _. ⌜ ((i : ℕ) → i < length (now (q .entry)) →
+        getD (now (v .exit)) i (pos 0) ≡ V-of (tableOf (now (q .entry)) (now (a .entry)) (now (w .entry))) (at (now (k .entry))) i) ⌝ }
 {
     let m = q.len();
     let n = w.len();
-    let mut v = [0i64; 64];
     let mut i = 0;
     while i < m {
         let g = q[i];
@@ -62,7 +56,6 @@ pub fn corrections(q: &[i64], a: &[i64], w: &[i64], k: [i64; 24]) -> [i64; 64]
         v[i] = weighted(g, s);
         i += 1;
     }
-    v
 }
 
 // The sum of a(j,i)*x(i) over the m directions, where row j begins at `at`.
@@ -91,17 +84,17 @@ fn remainder(s: i64, w: i64) -> i64
     s + 10000000 * w
 }
 
-// The remainders of the corrections V, up to the first beyond 50,000,000.
-pub fn remainders(q: &[i64], a: &[i64], w: &[i64], v: &[i64]) -> Remaining
+// The remainders of the corrections V, up to the first beyond 50,000,000, into a lent list; which that is, or n.
+pub fn remainders(q: &[i64], a: &[i64], w: &[i64], v: &[i64], r: &mut [i64]) -> usize
     requires { ⌜ Sound (now q) (now a) (now w) ⌝ }
     requires { ⌜ (length (now q) ≤ length (now v)) × Small 48000000000000 (now v) (length (now q)) ⌝ }
-    ensures { λ r. ⌜ r .close ≡ first (length (now (w .entry)))
+    requires { ⌜ length (now w) ≤ length (now r) ⌝ }
+    ensures { λ close. ⌜ close ≡ first (length (now (w .entry)))
         (λ j. ltb 50000000 (natAbs (closing (tableOf (now (q .entry)) (now (a .entry)) (now (w .entry))) (at (now (v .entry))) j))) ⌝ }
-    ensures { λ r. ⌜ ((j : ℕ) → j < r .close →
-        getD (r .r) j (pos 0) ≡ closing (tableOf (now (q .entry)) (now (a .entry)) (now (w .entry))) (at (now (v .entry))) j) ⌝ }
+    ensures { λ close. ⌜ ((j : ℕ) → j < close →
+        getD (now (r .exit)) j (pos 0) ≡ closing (tableOf (now (q .entry)) (now (a .entry)) (now (w .entry))) (at (now (v .entry))) j) ⌝ }
 {
     let m = q.len();
-    let mut r = [0i64; 24];
     let mut at = 0;
     let mut j = 0;
     while j < w.len() {
@@ -109,13 +102,13 @@ pub fn remainders(q: &[i64], a: &[i64], w: &[i64], v: &[i64]) -> Remaining
         let x = w[j];
         let z = remainder(s, x);
         if 50000000 < exact::magnitude(z) {
-            return Remaining { r, close: j };
+            return j;
         }
         r[j] = z;
         at += m;
         j += 1;
     }
-    Remaining { r, close: j }
+    j
 }
 
 // u = nearest(V / 10^5) of m directions, up to the first beyond 60,000; which that is, or m.

@@ -1,4 +1,5 @@
 // Adjustment of a condition table: the one public operation, `adjust`. It checks the lent table, solves it, and only then writes the lent answer lists.
+// `adjust_own` is the same for `listing`, whose lists are its own: it needs no second set of them.
 mod correct;
 mod table;
 
@@ -11,7 +12,7 @@ ghost use Rattle.doolittle.specs.Solution.{K};
 ghost use Rattle.adjustment.specs.Refusals.{countsAmiss, solutionReply};
 ghost use Rattle.adjustment.specs.Promise.{Adjusts, lists, answersOf};
 ghost use Rattle.doolittle.specs.Inner.{Small, Sound};
-ghost use Rattle.adjustment.specs.Inner.{Solved};
+ghost use Rattle.adjustment.specs.Inner.{Solved, AdjustsOwn};
 use reply::Refusal;
 use reply::Reply;
 
@@ -37,76 +38,56 @@ pub fn counts_amiss(m: usize, n: usize) -> bool
     m < n
 }
 
-// The correlates, corrections and remainders of a table that is accepted.
-struct Solution {
-    pub reply: Reply,
-    pub k: [i64; 24],
-    pub v: [i64; 64],
-    pub r: [i64; 24],
-}
-
-fn refused(why: Refusal) -> Solution
-    ensures { λ s. ⌜ s .reply ≡ Reply.Refused why ⌝ }
-{
-    Solution {
-        reply: Reply::Refused(why),
-        k: [0i64; 24],
-        v: [0i64; 64],
-        r: [0i64; 24],
-    }
-}
-
-// 6 by row, 7 in back order, 8 by condition, 9 by direction; else the solution, and its printed corrections in u.
-fn solve(q: &[i64], a: &[i64], w: &[i64], u: &mut [i64]) -> Solution
+// 6 by row, 7 in back order, 8 by condition, 9 by direction; else the corrections, printed corrections, correlates and remainders are in the four lists.
+fn solve(
+    q: &[i64],
+    a: &[i64],
+    w: &[i64],
+    v: &mut [i64],
+    u: &mut [i64],
+    k: &mut [i64],
+    r: &mut [i64],
+) -> Reply
     requires { ⌜ Sound (now q) (now a) (now w) ⌝ }
-    requires { ⌜ length (now q) ≤ length (now u) ⌝ }
-    ensures { λ s. ⌜ s .reply ≡ solutionReply (tableOf (now (q .entry)) (now (a .entry)) (now (w .entry))) ⌝ }
-    ensures { λ s. ⌜ (s .reply ≡ Accepted →
-        Solved (tableOf (now (q .entry)) (now (a .entry)) (now (w .entry))) (s .k) (s .v) (now (u .exit)) (s .r)) ⌝ }
+    requires { ⌜ (length (now q) ≤ length (now v)) × (length (now q) ≤ length (now u)) ⌝ }
+    requires { ⌜ (length (now w) ≤ length (now k)) × (length (now w) ≤ length (now r)) ⌝ }
+    ensures { λ reply. ⌜ reply ≡ solutionReply (tableOf (now (q .entry)) (now (a .entry)) (now (w .entry))) ⌝ }
+    ensures { λ reply. ⌜ (reply ≡ Accepted →
+        Solved (tableOf (now (q .entry)) (now (a .entry)) (now (w .entry))) (now (k .exit)) (now (v .exit)) (now (u .exit)) (now (r .exit))) ⌝ }
 {
     let m = q.len();
     let n = w.len();
     let mut rows = [[0i64; 25]; 24];
-    let mut multipliers = [[0i64; 24]; 24];
-    let sound = doolittle::reduce::reduce(q, a, w, &mut rows, &mut multipliers);
+    let sound = doolittle::reduce::reduce(q, a, w, &mut rows);
     if sound < n {
-        return refused(Refusal::WeakRow((sound + 1) as u64));
+        return Reply::Refused(Refusal::WeakRow((sound + 1) as u64));
     }
-    let correlated = doolittle::correlate::correlates(&rows, &multipliers, n);
-    let from = correlated.from;
+    let from = doolittle::correlate::correlates(&rows, n, k);
     if 0 < from {
-        return refused(Refusal::Correlate(from as u64));
+        return Reply::Refused(Refusal::Correlate(from as u64));
     }
-    let k = correlated.k;
-    let v = correct::corrections(q, a, w, k);
-    let remaining = correct::remainders(q, a, w, &v);
-    let close = remaining.close;
+    correct::corrections(q, a, w, k, v);
+    let close = correct::remainders(q, a, w, v, r);
     if close < n {
-        return refused(Refusal::Remainder((close + 1) as u64));
+        return Reply::Refused(Refusal::Remainder((close + 1) as u64));
     }
-    let r = remaining.r;
-    let within = correct::print_corrections(&v, m, u);
+    let within = correct::print_corrections(v, m, u);
     if within < m {
-        return refused(Refusal::Correction((within + 1) as u64));
+        return Reply::Refused(Refusal::Correction((within + 1) as u64));
     }
-    Solution {
-        reply: Reply::Accepted,
-        k,
-        v,
-        r,
-    }
+    Reply::Accepted
 }
 
-// The answers, into the lent lists.
+// The answers of a table that is solved, into the lent lists.
 fn answer(
     directions: &[i64],
     q: &[i64],
     a: &[i64],
     w: &[i64],
-    k: [i64; 24],
-    v: [i64; 64],
+    v: &[i64],
     u: &[i64],
-    r: [i64; 24],
+    k: &[i64],
+    r: &[i64],
     corrections: &mut [i64],
     printed: &mut [i64],
     adjusted: &mut [i64],
@@ -115,24 +96,25 @@ fn answer(
     misses: &mut [i64],
 )
     requires { ⌜ Sound (now q) (now a) (now w) ⌝ }
-    requires { ⌜ Solved (tableOf (now q) (now a) (now w)) k v (now u) r ⌝ }
-    requires { ⌜ (length (now q) ≤ length (now u)) × (length (now directions) ≡ length (now q)) × Small 1296000000 (now directions) (length (now q)) ⌝ }
+    requires { ⌜ Solved (tableOf (now q) (now a) (now w)) (now k) (now v) (now u) (now r) ⌝ }
+    requires { ⌜ (length (now q) ≤ length (now v)) × (length (now q) ≤ length (now u)) × (length (now w) ≤ length (now k)) × (length (now w) ≤ length (now r)) ⌝ }
+    requires { ⌜ (length (now directions) ≡ length (now q)) × Small 1296000000 (now directions) (length (now q)) ⌝ }
     requires { ⌜ (length (now corrections) ≡ length (now q)) × (length (now printed) ≡ length (now q)) × (length (now adjusted) ≡ length (now q)) ⌝ }
     requires { ⌜ (length (now correlates) ≡ length (now w)) × (length (now remainders) ≡ length (now w)) × (length (now misses) ≡ length (now w)) ⌝ }
     ensures { λ _. ⌜ lists (now (corrections .exit)) (now (printed .exit)) (now (adjusted .exit)) (now (correlates .exit)) (now (remainders .exit)) (now (misses .exit))
         ≡ answersOf (tableOf (now (q .entry)) (now (a .entry)) (now (w .entry)))
         (K (tableOf (now (q .entry)) (now (a .entry)) (now (w .entry)))) (at (now (directions .entry))) ⌝ }
 {
-    correct::store(&v, corrections);
+    correct::store(v, corrections);
     correct::store(u, printed);
-    correct::store(&k, correlates);
-    correct::store(&r, remainders);
+    correct::store(k, correlates);
+    correct::store(r, remainders);
     correct::adjust_directions(directions, u, adjusted);
     correct::print_remainders(q, a, w, u, misses);
 }
 
 // Adjusts a lent condition table: m directions with their inverse weights q, n rows of m coefficients, n misclosures. The answers V, u, adjusted
-// directions, K, R and Q go into the lent lists; a refusal leaves them as they were.
+// directions, K, R and Q go into the lent lists; a refusal leaves them as they were, so the solution is worked out in lists of its own.
 pub fn adjust(
     directions: &[i64],
     q: &[i64],
@@ -150,51 +132,38 @@ pub fn adjust(
         reply
         (lists (now (corrections .exit)) (now (printed .exit)) (now (adjusted .exit)) (now (correlates .exit)) (now (remainders .exit)) (now (misses .exit))) ⌝ }
 {
-    let m = directions.len();
-    let n = w.len();
-    if counts_amiss(m, n) {
-        return Reply::Refused(Refusal::Count(0));
-    }
-    if table::lengths_amiss(
-        m,
-        n,
-        q.len(),
-        a.len(),
+    let input = table::check(
+        directions,
+        q,
+        a,
+        w,
         corrections.len(),
         printed.len(),
         adjusted.len(),
         correlates.len(),
         remainders.len(),
         misses.len(),
-    ) {
-        return Reply::Refused(Refusal::Count(0));
-    }
-    let by_direction = direction::check(directions, q);
-    if let Reply::Refused(why) = by_direction {
+    );
+    if let Reply::Refused(why) = input {
         return Reply::Refused(why);
     }
-    let by_condition = table::check_conditions(q, a, w);
-    if let Reply::Refused(why) = by_condition {
-        return Reply::Refused(why);
-    }
+    let mut v = [0i64; 64];
     let mut u = [0i64; 64];
-    let solution = solve(q, a, w, &mut u);
-    let reply = solution.reply;
+    let mut k = [0i64; 24];
+    let mut r = [0i64; 24];
+    let reply = solve(q, a, w, &mut v, &mut u, &mut k, &mut r);
     if let Reply::Refused(why) = reply {
         return Reply::Refused(why);
     }
-    let k = solution.k;
-    let v = solution.v;
-    let r = solution.r;
     answer(
         directions,
         q,
         a,
         w,
-        k,
-        v,
+        &v,
         &u,
-        r,
+        &k,
+        &r,
         corrections,
         printed,
         adjusted,
@@ -202,5 +171,47 @@ pub fn adjust(
         remainders,
         misses,
     );
+    Reply::Accepted
+}
+
+// The same where the six lists are the caller's own: the solution is worked out in them, and a refusal may leave anything there.
+pub fn adjust_own(
+    directions: &[i64],
+    q: &[i64],
+    a: &[i64],
+    w: &[i64],
+    v: &mut [i64],
+    u: &mut [i64],
+    adjusted: &mut [i64],
+    k: &mut [i64],
+    r: &mut [i64],
+    misses: &mut [i64],
+) -> Reply
+    ensures { λ reply. ⌜ AdjustsOwn (now (directions .entry)) (now (q .entry)) (now (a .entry)) (now (w .entry))
+        (lists (now (v .entry)) (now (u .entry)) (now (adjusted .entry)) (now (k .entry)) (now (r .entry)) (now (misses .entry)))
+        reply
+        (lists (now (v .exit)) (now (u .exit)) (now (adjusted .exit)) (now (k .exit)) (now (r .exit)) (now (misses .exit))) ⌝ }
+{
+    let input = table::check(
+        directions,
+        q,
+        a,
+        w,
+        v.len(),
+        u.len(),
+        adjusted.len(),
+        k.len(),
+        r.len(),
+        misses.len(),
+    );
+    if let Reply::Refused(why) = input {
+        return Reply::Refused(why);
+    }
+    let reply = solve(q, a, w, v, u, k, r);
+    if let Reply::Refused(why) = reply {
+        return Reply::Refused(why);
+    }
+    correct::adjust_directions(directions, u, adjusted);
+    correct::print_remainders(q, a, w, u, misses);
     Reply::Accepted
 }

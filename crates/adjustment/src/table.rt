@@ -1,4 +1,5 @@
-// Input checks of a lent condition table: 2 for lengths, 4 and 5 by condition. (2 for counts is in `lib`, 3 by direction in `direction`.)
+// Input checks of a lent condition table, `check` all of them in their order: 2 for counts and lengths, 3 by direction, 4 and 5 by condition.
+// (2 for counts is in `lib`, 3 in `direction`.)
 ghost use mathlib.Core.Path.{_≡_};
 ghost use Prim.Native.Nat.{_+_, _*_, _≤_};
 ghost use lib.ListN.{length, getD};
@@ -6,7 +7,7 @@ ghost use lib.IntN.{pos, natAbs};
 ghost use lib.Dec.{ltb};
 ghost use Rattle.exact.specs.First.{some-below};
 ghost use Rattle.doolittle.specs.Table.{tableOf};
-ghost use Rattle.adjustment.specs.Refusals.{differs, lengthsAmiss, conditionsReply};
+ghost use Rattle.adjustment.specs.Refusals.{differs, lengthsAmiss, conditionsReply, inputReply};
 use reply::Refusal;
 use reply::Reply;
 
@@ -87,4 +88,34 @@ pub fn check_conditions(q: &[i64], a: &[i64], w: &[i64]) -> Reply
         j += 1;
     }
     Reply::Accepted
+}
+
+// All input checks, in their order; the last six numbers are the lengths of the lent answer lists V, u, adjusted, K, R and Q.
+pub fn check(
+    directions: &[i64],
+    q: &[i64],
+    a: &[i64],
+    w: &[i64],
+    v: usize,
+    u: usize,
+    adjusted: usize,
+    k: usize,
+    r: usize,
+    s: usize,
+) -> Reply
+    ensures { λ reply. ⌜ reply ≡ inputReply (now (directions .entry)) (now (q .entry)) (now (a .entry)) (now (w .entry)) v u adjusted k r s ⌝ }
+{
+    let m = directions.len();
+    let n = w.len();
+    if crate::counts_amiss(m, n) {
+        return Reply::Refused(Refusal::Count(0));
+    }
+    if lengths_amiss(m, n, q.len(), a.len(), v, u, adjusted, k, r, s) {
+        return Reply::Refused(Refusal::Count(0));
+    }
+    let by_direction = direction::check(directions, q);
+    if let Reply::Refused(why) = by_direction {
+        return Reply::Refused(why);
+    }
+    check_conditions(q, a, w)
 }

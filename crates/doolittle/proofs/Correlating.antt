@@ -23,7 +23,7 @@ use Rattle.exact.proofs.Sum.{sum-ext}
 use Rattle.exact.proofs.Searching.{Failed, first-at, first-none}
 use Rattle.doolittle.specs.Table.{Table, at}
 use Rattle.doolittle.specs.Solution.{D, L, M, carried, back, K}
-use Rattle.doolittle.specs.Inner.{Triangle, BackWithin, From, backOf, rowAt}
+use Rattle.doolittle.specs.Inner.{Triangle, BackWithin, From, backOf, cell}
 use Rattle.doolittle.proofs.Reducing.{sound-at}
 
 -- a list written from the back: what holds of all places after j and of the value at j holds from j on
@@ -59,8 +59,8 @@ module _ (t : Table) where
       (λ e l. ap (carried (M t j (suc j + e))) (sym (ap (λ (n : ℕ). getD (back t (L t) n) (suc j + e) (pos 0)) rest ∙ suffix (L t) (suc j) b e))))
 
   -- ---- the code's rows
-  module _ (rows multipliers : List (List ℤ)) (r : Triangle t rows multipliers) where
-    pub triangle-within : (j : ℕ) → j < t .n → BackWithin j (t .n) (rowAt rows j) (rowAt multipliers j)
+  module _ (rows : List (List ℤ)) (r : Triangle t rows) where
+    pub triangle-within : (j : ℕ) → j < t .n → BackWithin j (t .n) rows
     unfolding M
     triangle-within j l =
         let g = sound-at t j (r .sound j l) in let row = r .all .reduced j l in
@@ -70,11 +70,11 @@ module _ (t : Table) where
           multipliers = λ k h i. rw (r .all .multiplied j l k h i) (g .multipliers k h i);
         }
 
-    pub next-correlate : (j : ℕ) (k : List ℤ) → j < t .n → From (suc j) (t .n) (λ e. at k e ≡ K t e) → backOf (rowAt rows j) (rowAt multipliers j) k j (t .n) ≡ K t j
+    pub next-correlate : (j : ℕ) (k : List ℤ) → j < t .n → From (suc j) (t .n) (λ e. at k e ≡ K t e) → backOf rows k j (t .n) ≡ K t j
     next-correlate j k l f =
         let row = r .all .reduced j l in
         ap₂ _+ℤ_ (ap₂ (λ (x y : ℤ). nearest (negℤ (pos 10000 *ℤ x)) y) (row .constant) (row .coefficients j (le-refl j) l))
-        (sum-ext (t .n - suc j) (λ e. carried (at (rowAt multipliers j) (suc j + e)) (at k (suc j + e))) (λ e. carried (M t j (suc j + e)) (K t (suc j + e)))
+        (sum-ext (t .n - suc j) (λ e. carried (cell rows (suc j + e) j) (at k (suc j + e))) (λ e. carried (M t j (suc j + e)) (K t (suc j + e)))
         (λ e i. ap₂ carried (r .all .multiplied j l (suc j + e) (omega arith) (omega arith)) (f (suc j + e) (omega arith) (omega arith))))
         ∙ sym (K-rule j l)
 

@@ -1,5 +1,6 @@
 pub mod Sizes
 pub mod Weakness
+pub mod Keeping
 pub mod Reducing
 pub mod Correlating
 pub mod Lone

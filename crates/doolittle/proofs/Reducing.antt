@@ -5,16 +5,15 @@
 --   sound-at                        what is known of a row that is not weak
 --   N-size, normal-within, above-within      bounds of an entry and of a row of N, and of the rows above it: what the code adds and multiplies fits
 --   row-reduced, row-weak, row-multiplied       a row of N with all rows above taken is the reduced row; its test; its multipliers
---   rows-none, rows-more            the triangle, row by row
+--   untouched, formed-more          a direction that a condition does not touch adds nothing to its row; a row of N with one direction more
+--   rows-none, rows-more            the rows, one after another
 use mathlib.Core.Path.{_≡_, sym, _∙_, ap, ap₂}
 use mathlib.Core.Bool.{false}
-use mathlib.Core.List.{List, []}
+use mathlib.Core.List.{List}
 use Prim.Native.Nat.{ℕ, zero, suc, _+_, _≤_, _<_}
 use native.Mathlib.Nat.{le-refl}
 use native.Mathlib.Omega.{arith}
 use borrow.Author.Count.{below-more}
-use lib.ListN.{length, set}
-use lib.Seq.{getD-set-same, getD-set-other}
 use lib.IntN.{ℤ, pos, natAbs, _+ℤ_, _*ℤ_, *ℤ-zero, zero-*ℤ, +ℤ-idr, +ℤ-assoc}
 use Rattle.exact.specs.Sum.{sum}
 use Rattle.exact.proofs.Bound.{abs-mul}
@@ -33,13 +32,6 @@ parts-none own f = sym (ap (λ (z : ℤ). own +ℤ z) (sum-none f) ∙ +ℤ-idr 
 
 pub parts-more : (own : ℤ) (f : ℕ → ℤ) (b : ℕ) → (own +ℤ sum b f) +ℤ f b ≡ own +ℤ sum (b + 1) f
 parts-more own f b = +ℤ-assoc own (sum b f) (f b) ∙ ap (λ (z : ℤ). own +ℤ z) (sym (sum-more b f))
-
--- what holds of the first j rows of a list and of the row that is put at place j holds of the first j + 1
-rowAt-more : (P : ℕ → List ℤ → Type 0) (j : ℕ) (rows : List (List ℤ)) (row : List ℤ) → j < length rows → ((h : ℕ) → h < j → P h (rowAt rows h)) → P j row → (h : ℕ) → h < j + 1 → P h (rowAt (set rows j row) h)
-rowAt-more P j rows row l f g =
-    below-more (λ h. P h (rowAt (set rows j row) h)) j
-    (λ h k. rw (getD-set-other rows j h row [] (λ e. omega arith)) (f h k))
-    (rw (getD-set-same rows j row [] l) g)
 
 -- ---- the rules' own equations
 module _ (t : Table) where
@@ -81,8 +73,8 @@ module _ (t : Table) where
   sound-at j e = sound-row (t .n) j (N t j j) (D t j) (L t j) e
 
   -- ---- row j, from the rows above it
-  module _ (j : ℕ) (rows multipliers : List (List ℤ)) (r : Rows t j rows multipliers) (l : j < t .n) where
-    pub above-within : Failed (weak t) j → (i : ℕ) → i < j → (natAbs (cell multipliers i j) ≤ 1000000000) × RowWithin 4000000000 j (t .n) (rowAt rows i)
+  module _ (j : ℕ) (rows : List (List ℤ)) (r : Rows t j rows) (l : j < t .n) where
+    pub above-within : Failed (weak t) j → (i : ℕ) → i < j → (natAbs (cell rows j i) ≤ 1000000000) × RowWithin 4000000000 j (t .n) (rowAt rows i)
     unfolding M
     above-within f i h =
         let g = sound-at i (f i h) in let row = r .reduced i h in (
@@ -96,12 +88,12 @@ module _ (t : Table) where
         wider : {a : ℕ} → a ≤ 2560000000 → a ≤ 4000000000
         wider u = omega arith
 
-    -- a column of the triangle holds the numbers X of the rows above
-    above-is : (x y : ℤ) (k : ℕ) (X : ℕ → ℤ) → x ≡ y → ((i : ℕ) → i < j → cell rows i k ≡ X i) → withAbove x rows multipliers j k ≡ y +ℤ sum j (λ i. carried (M t i j) (X i))
+    -- a column of the rows above holds the numbers X
+    above-is : (x y : ℤ) (k : ℕ) (X : ℕ → ℤ) → x ≡ y → ((i : ℕ) → i < j → cell rows i k ≡ X i) → withAbove x rows j k ≡ y +ℤ sum j (λ i. carried (M t i j) (X i))
     above-is x y k X e f =
-        ap₂ _+ℤ_ e (sum-ext j (λ i. carried (cell multipliers i j) (cell rows i k)) (λ i. carried (M t i j) (X i)) (λ i h. ap₂ carried (r .multiplied i h j h l) (f i h)))
+        ap₂ _+ℤ_ e (sum-ext j (λ i. carried (cell rows j i) (cell rows i k)) (λ i. carried (M t i j) (X i)) (λ i h. ap₂ carried (r .multiplied i h j h l) (f i h)))
 
-    pub row-reduced : (own next : List ℤ) → Holds j (t .n) (N t j) (pos 1000 *ℤ t .w j) own → Holds j (t .n) (λ k. withAbove (at own k) rows multipliers j k) (withAbove (at own CONSTANT) rows multipliers j CONSTANT) next → Holds j (t .n) (D t j) (L t j) next
+    pub row-reduced : (own next : List ℤ) → Holds j (t .n) (N t j) (pos 1000 *ℤ t .w j) own → Holds j (t .n) (λ k. withAbove (at own k) rows j k) (withAbove (at own CONSTANT) rows j CONSTANT) next → Holds j (t .n) (D t j) (L t j) next
     row-reduced own next g e = record {
       coefficients = λ k a b. e .coefficients k a b
           ∙ above-is (at own k) (N t j k) k (λ i. D t i k) (g .coefficients k a b) (λ i h. r .reduced i h .coefficients k (omega arith) b) ∙ sym (D-rule j k);
@@ -113,18 +105,18 @@ module _ (t : Table) where
     unfolding weak
     row-weak entry e = weak-ext (t .n) j entry (N t j j) (at row) (D t j) (at row CONSTANT) (L t j) l e (g .coefficients) (g .constant)
 
-    pub row-multiplied : (m : List ℤ) → From (suc j) (t .n) (λ k. at m k ≡ multiplier (at row k) (at row j)) → From (suc j) (t .n) (λ k. at m k ≡ M t j k)
+    pub row-multiplied : (m : ℕ → ℤ) → From (suc j) (t .n) (λ k. m k ≡ multiplier (at row k) (at row j)) → From (suc j) (t .n) (λ k. m k ≡ M t j k)
     unfolding M
     row-multiplied m e k a b = e k a b ∙ ap₂ multiplier (g .coefficients k (omega arith) b) (g .coefficients j (le-refl j) l)
 
-  -- ---- the triangle, row by row
-  pub rows-none : (rows multipliers : List (List ℤ)) → Rows t 0 rows multipliers
-  rows-none rows multipliers = record { reduced = λ h l. absurd (omega arith); multiplied = λ h l. absurd (omega arith) }
+  -- ---- the rows, one after another
+  pub rows-none : (rows : List (List ℤ)) → Rows t 0 rows
+  rows-none rows = record { reduced = λ h l. absurd (omega arith); multiplied = λ h l. absurd (omega arith) }
 
-  pub rows-more : (j : ℕ) (rows multipliers : List (List ℤ)) (row m : List ℤ) → j < length rows → j < length multipliers → Rows t j rows multipliers → Holds j (t .n) (D t j) (L t j) row → From (suc j) (t .n) (λ k. at m k ≡ M t j k) → Rows t (j + 1) (set rows j row) (set multipliers j m)
-  rows-more j rows multipliers row m a b r g e = record {
-    reduced = rowAt-more (λ h row. Holds h (t .n) (D t h) (L t h) row) j rows row a (r .reduced) g;
-    multiplied = rowAt-more (λ h m. From (suc h) (t .n) (λ k. at m k ≡ M t h k)) j multipliers m b (r .multiplied) e;
+  pub rows-more : (j : ℕ) (rows : List (List ℤ)) → Rows t j rows → Holds j (t .n) (D t j) (L t j) (rowAt rows j) → From (suc j) (t .n) (λ k. cell rows k j ≡ M t j k) → Rows t (j + 1) rows
+  rows-more j rows r g e = record {
+    reduced = below-more (λ h. Holds h (t .n) (D t h) (L t h) (rowAt rows h)) j (r .reduced) g;
+    multiplied = below-more (λ h. From (suc h) (t .n) (λ k. cell rows k h ≡ M t h k)) j (r .multiplied) e;
   }
 
 -- ---- a row of N

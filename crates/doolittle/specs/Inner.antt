@@ -64,29 +64,43 @@ pub record Holds (j n : ℕ) (d : ℕ → ℤ) (l : ℤ) (row : List ℤ) : Type
 abbrev pub part : Table → (j k i : ℕ) → ℤ
 part t j k i = inverseWeight t i *ℤ t .a j i *ℤ t .a k i
 
+-- ---- the triangle: row j has the multipliers M(i,j) of the rows above it at places i before j, D(j,k) from place j on, and L(j) at the last place
+-- 24 rows of 25 places
+pub record Shaped (rows : List (List ℤ)) : Type 0 where
+  pub long : length rows ≡ 24
+  pub wide : (h : ℕ) → h < 24 → length (rowAt rows h) ≡ 25
+
+-- the first j rows are as they were, and in every row the places before j
+pub record Kept (j : ℕ) (rows next : List (List ℤ)) : Type 0 where
+  pub shape : Shaped next
+  pub above : (h : ℕ) → h < j → rowAt next h ≡ rowAt rows h
+  pub left : (h k : ℕ) → k < j → cell next h k ≡ cell rows h k
+
 -- the number x of row j at place k with all rows above taken
-abbrev pub withAbove : ℤ → List (List ℤ) → List (List ℤ) → ℕ → ℕ → ℤ
-withAbove x rows multipliers j k = x +ℤ sum j (λ i. carried (cell multipliers i j) (cell rows i k))
+abbrev pub withAbove : ℤ → List (List ℤ) → ℕ → ℕ → ℤ
+withAbove x rows j k = x +ℤ sum j (λ i. carried (cell rows j i) (cell rows i k))
 
 -- the first j reduced rows of a table, with their multipliers
-pub record Rows (t : Table) (j : ℕ) (rows multipliers : List (List ℤ)) : Type 0 where
+pub record Rows (t : Table) (j : ℕ) (rows : List (List ℤ)) : Type 0 where
   pub reduced : (h : ℕ) → h < j → Holds h (t .n) (D t h) (L t h) (rowAt rows h)
-  pub multiplied : (h : ℕ) → h < j → From (suc h) (t .n) (λ k. cell multipliers h k ≡ M t h k)
+  pub multiplied : (h : ℕ) → h < j → From (suc h) (t .n) (λ k. cell rows k h ≡ M t h k)
 
 -- the rows of a table, none of them weak
-pub record Triangle (t : Table) (rows multipliers : List (List ℤ)) : Type 0 where
-  pub all : Rows t (t .n) rows multipliers
+pub record Triangle (t : Table) (rows : List (List ℤ)) : Type 0 where
+  pub all : Rows t (t .n) rows
   pub sound : (j : ℕ) → j < t .n → weak t j ≡ false
 
--- row j of n rows and its multipliers m, as far as the correlates read them
-pub record BackWithin (j n : ℕ) (row m : List ℤ) : Type 0 where
-  pub constant : natAbs (at row CONSTANT) ≤ 4000000000
-  pub pivot : pos 0 <ℤ at row j
-  pub multipliers : From (suc j) n (λ k. natAbs (at m k) ≤ 1000000000)
+-- row j of n rows and its multipliers, as far as the correlates read them
+pub record BackWithin (j n : ℕ) (rows : List (List ℤ)) : Type 0 where
+  pub constant : natAbs (cell rows j CONSTANT) ≤ 4000000000
+  pub pivot : pos 0 <ℤ cell rows j j
+  pub multipliers : From (suc j) n (λ k. natAbs (cell rows k j) ≤ 1000000000)
 
--- K(j) from a row, its multipliers and the correlates k of the rows below
-abbrev pub backOf : (row m k : List ℤ) (j n : ℕ) → ℤ
-backOf row m k j n = nearest (negℤ (pos 10000 *ℤ at row CONSTANT)) (at row j) +ℤ sum (n - suc j) (λ e. carried (at m (suc j + e)) (at k (suc j + e)))
+-- K(j) from its row, its multipliers and the correlates k of the rows below
+abbrev pub backOf : (rows : List (List ℤ)) (k : List ℤ) (j n : ℕ) → ℤ
+backOf rows k j n =
+    nearest (negℤ (pos 10000 *ℤ cell rows j CONSTANT)) (cell rows j j)
+    +ℤ sum (n - suc j) (λ e. carried (cell rows (suc j + e) j) (at k (suc j + e)))
 
 -- correlates in back order: all of them where `from` is 0; else row `from`, counted from 1, has the first that is too large
 pub record Solves (t : Table) (k : List ℤ) (from : ℕ) : Type 0 where

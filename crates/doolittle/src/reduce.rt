@@ -1,4 +1,5 @@
-// The normals and the reduced rows. A row is formed from its entries of N, each formed once; every row above it adds its part, each product once; then it is tested.
+// The normals and the reduced rows. A row is formed direction by direction; every row above it adds its part, each product once; then it is tested, and its
+// multipliers go into the rows below it.
 ghost use mathlib.Core.Path.{_≡_};
 ghost use mathlib.Core.Bool.{true, false, _&&_};
 ghost use Prim.Native.Nat.{ℕ, suc, _+_, _*_, _≤_, _<_};
@@ -11,9 +12,10 @@ ghost use Rattle.exact.specs.Nearest.{nearest};
 ghost use Rattle.exact.specs.First.{first, some-below};
 ghost use Rattle.doolittle.specs.Table.{at, tableOf};
 ghost use Rattle.doolittle.specs.Solution.{N, carried, multiplier, lowPivot, weakRow, weak};
-ghost use Rattle.doolittle.specs.Inner.{Sound, CONSTANT, From, Before, RowWithin, Holds, Rows, part, withAbove, rowAt, cell};
+ghost use Rattle.doolittle.specs.Inner.{Sound, CONSTANT, From, Before, RowWithin, Holds, Shaped, Kept, Rows, part, withAbove, rowAt, cell};
 
-// A reduced row: its coefficients D(j,k) at their places k, from j on, and its constant L(j) at the last place.
+// Row j of the triangle: the multipliers M(i,j) of the rows above it at places i before j, its coefficients D(j,k) at their places k from j on, and its
+// constant L(j) at the last place. A row's own multipliers stand in the rows below it, where those read them.
 pub type Row = [i64; 25];
 
 // The place of a row's constant.
@@ -43,7 +45,6 @@ fn add_direction(q: &[i64], a: &[i64], w: &[i64], j: usize, start: usize, i: usi
     ensures { λ _. ⌜ Holds j (length (now (w .entry)))
         (λ k. at (now (row .entry)) k +ℤ part (tableOf (now (q .entry)) (now (a .entry)) (now (w .entry))) j k i)
         (at (now (row .entry)) CONSTANT) (now (row .exit)) ⌝ }
-    ensures { λ _. ⌜ Before j (now (row .entry)) (now (row .exit)) ⌝ }
 {
     let x = a[start + i];
     if x == 0 {
@@ -71,18 +72,18 @@ fn constant(w: i64) -> i64
 }
 
 // Row j before any row above it is taken: N(j,k) for k from j on, and 1,000*w(j). It is formed direction by direction, in the row itself.
-fn normal_row(q: &[i64], a: &[i64], w: &[i64], j: usize, at: usize) -> Row
+fn normal_row(q: &[i64], a: &[i64], w: &[i64], j: usize, start: usize) -> Row
     requires { ⌜ Sound (now q) (now a) (now w) ⌝ }
-    requires { ⌜ (j < length (now w)) × (at ≡ j * length (now q)) ⌝ }
+    requires { ⌜ (j < length (now w)) × (start ≡ j * length (now q)) ⌝ }
     ensures { λ r. ⌜ Holds j (length (now (w .entry))) (N (tableOf (now (q .entry)) (now (a .entry)) (now (w .entry))) j)
-        (pos 1000 *ℤ getD (now (w .entry)) j (pos 0)) r ⌝ }
+        (pos 1000 *ℤ at (now (w .entry)) j) r ⌝ }
 {
     let x = w[j];
     let mut row = [0i64; 25];
     row[CONSTANT] = constant(x);
     let mut i = 0;
     while i < q.len() {
-        add_direction(q, a, w, j, at, i, &mut row);
+        add_direction(q, a, w, j, start, i, &mut row);
         i += 1;
     }
     row
@@ -105,15 +106,15 @@ pub fn plus_carried(s: i64, m: i64, x: i64) -> i64
 }
 
 // The number x of row j at place k with all rows above taken: x + sum over i<j of nearest(M(i,j)*D(i,k) / 10^6). Coefficients and constants alike.
-fn with_above(x: i64, rows: &[Row; 24], multipliers: &[[i64; 24]; 24], j: usize, k: usize) -> i64
+fn with_above(x: i64, rows: &[Row; 24], j: usize, k: usize) -> i64
     requires { ⌜ (j < 24) × (k < 25) × (natAbs x ≤ 2560000000) ⌝ }
-    requires { ⌜ ((i : ℕ) → i < j → (natAbs (cell (now multipliers) i j) ≤ 1000000000) × (natAbs (cell (now rows) i k) ≤ 4000000000)) ⌝ }
-    ensures { λ r. ⌜ r ≡ withAbove x (now (rows .entry)) (now (multipliers .entry)) j k ⌝ }
+    requires { ⌜ ((i : ℕ) → i < j → (natAbs (cell (now rows) j i) ≤ 1000000000) × (natAbs (cell (now rows) i k) ≤ 4000000000)) ⌝ }
+    ensures { λ r. ⌜ r ≡ withAbove x (now (rows .entry)) j k ⌝ }
 {
     let mut s = x;
     let mut i = 0;
     while i < j {
-        let m = multipliers[i][j];
+        let m = rows[j][i];
         let y = rows[i][k];
         s = plus_carried(s, m, y);
         i += 1;
@@ -121,21 +122,21 @@ fn with_above(x: i64, rows: &[Row; 24], multipliers: &[[i64; 24]; 24], j: usize,
     s
 }
 
-// Row j with all rows above it taken.
-fn reduced(row: Row, rows: &[Row; 24], multipliers: &[[i64; 24]; 24], j: usize, n: usize) -> Row
-    requires { ⌜ (j < n) × (n ≤ 24) ⌝ }
+// Row j with all rows above it taken, behind their multipliers.
+fn reduced(row: Row, rows: &[Row; 24], j: usize, n: usize) -> Row
+    requires { ⌜ (j < n) × (n ≤ 24) × Shaped (now rows) ⌝ }
     requires { ⌜ RowWithin 2560000000 j n row ⌝ }
-    requires { ⌜ ((i : ℕ) → i < j → (natAbs (cell (now multipliers) i j) ≤ 1000000000) × RowWithin 4000000000 j n (rowAt (now rows) i)) ⌝ }
-    ensures { λ r. ⌜ Holds j n (λ k. withAbove (at row k) (now (rows .entry)) (now (multipliers .entry)) j k)
-        (withAbove (at row CONSTANT) (now (rows .entry)) (now (multipliers .entry)) j CONSTANT) r ⌝ }
+    requires { ⌜ ((i : ℕ) → i < j → (natAbs (cell (now rows) j i) ≤ 1000000000) × RowWithin 4000000000 j n (rowAt (now rows) i)) ⌝ }
+    ensures { λ r. ⌜ Holds j n (λ k. withAbove (at row k) (now (rows .entry)) j k) (withAbove (at row CONSTANT) (now (rows .entry)) j CONSTANT) r ⌝ }
+    ensures { λ r. ⌜ Before j (rowAt (now (rows .entry)) j) r ⌝ }
 {
     let l = row[CONSTANT];
-    let mut next = [0i64; 25];
-    next[CONSTANT] = with_above(l, rows, multipliers, j, CONSTANT);
+    let mut next = rows[j];
+    next[CONSTANT] = with_above(l, rows, j, CONSTANT);
     let mut k = j;
     while k < n {
         let d = row[k];
-        next[k] = with_above(d, rows, multipliers, j, k);
+        next[k] = with_above(d, rows, j, k);
         k += 1;
     }
     next
@@ -165,21 +166,26 @@ pub fn by_pivot(factor: i64, x: i64, pivot: i64) -> i64
     exact::nearest(-(factor * x), pivot)
 }
 
-// The multipliers M(j,k) of row j, at their places k, from j + 1 on.
-fn multiplied(row: Row, j: usize, n: usize) -> [i64; 24]
-    requires { ⌜ (j < n) × (n ≤ 24) ⌝ }
+// The multipliers M(j,k) of row j, each into its place in row k, up to the first that is larger than 10^9; whether one is.
+fn multiply(row: Row, j: usize, n: usize, rows: &mut [Row; 24]) -> bool
+    requires { ⌜ (j < n) × (n ≤ 24) × Shaped (now rows) ⌝ }
     requires { ⌜ From j n (λ k. natAbs (at row k) ≤ 2560000000) × (pos 0 <ℤ at row j) ⌝ }
-    ensures { λ r. ⌜ From (suc j) n (λ k. at r k ≡ multiplier (at row k) (at row j)) ⌝ }
+    ensures { λ r. ⌜ r ≡ some-below n (λ k. ltb j k && ltb 1000000000 (natAbs (multiplier (at row k) (at row j)))) ⌝ }
+    ensures { λ r. ⌜ (r ≡ false → From (suc j) n (λ k. cell (now (rows .exit)) k j ≡ multiplier (at row k) (at row j))) ⌝ }
+    ensures { λ _. ⌜ Kept j (now (rows .entry)) (now (rows .exit)) ⌝ }
 {
     let pivot = row[j];
-    let mut m = [0i64; 24];
     let mut k = j + 1;
     while k < n {
         let x = row[k];
-        m[k] = by_pivot(1000000, x, pivot);
+        let m = by_pivot(1000000, x, pivot);
+        if 1000000000 < exact::magnitude(m) {
+            return true;
+        }
+        rows[k][j] = m;
         k += 1;
     }
-    m
+    false
 }
 
 // The pivot D(j,j) is below 1, or 1,000 times it below the entry N(j,j) with which the row began.
@@ -193,11 +199,13 @@ fn is_low(pivot: i64, entry: i64) -> bool
     1000 * pivot < entry
 }
 
-// The one test of a row, each part as soon as what it tests is complete. `entry` is its N(j,j). The multipliers of a row that is not weak go into m.
-fn is_weak(row: Row, entry: i64, j: usize, n: usize, m: &mut [i64; 24]) -> bool
-    requires { ⌜ (j < n) × (n ≤ 24) ⌝ }
+// The one test of row j, each part as soon as what it tests is complete. `entry` is its N(j,j). The multipliers of a row that is not weak go into the rows
+// below it.
+fn is_weak(row: Row, entry: i64, j: usize, n: usize, rows: &mut [Row; 24]) -> bool
+    requires { ⌜ (j < n) × (n ≤ 24) × Shaped (now rows) ⌝ }
     ensures { λ r. ⌜ r ≡ weakRow n j entry (at row) (at row CONSTANT) ⌝ }
-    ensures { λ r. ⌜ (r ≡ false → From (suc j) n (λ k. at (now (m .exit)) k ≡ multiplier (at row k) (at row j))) ⌝ }
+    ensures { λ r. ⌜ (r ≡ false → From (suc j) n (λ k. cell (now (rows .exit)) k j ≡ multiplier (at row k) (at row j))) ⌝ }
+    ensures { λ _. ⌜ Kept j (now (rows .entry)) (now (rows .exit)) ⌝ }
 {
     if some_large(&row, j, n, 2560000000) {
         return true;
@@ -210,39 +218,30 @@ fn is_weak(row: Row, entry: i64, j: usize, n: usize, m: &mut [i64; 24]) -> bool
     if is_low(pivot, entry) {
         return true;
     }
-    *m = multiplied(row, j, n);
-    some_large(m, j + 1, n, 1000000000)
+    multiply(row, j, n, rows)
 }
 
-// All rows in their order, up to the first weak one, into the triangle, and their multipliers; how many they are.
-pub fn reduce(
-    q: &[i64],
-    a: &[i64],
-    w: &[i64],
-    rows: &mut [Row; 24],
-    multipliers: &mut [[i64; 24]; 24],
-) -> usize
+// All rows in their order, up to the first weak one, into the triangle, with their multipliers; how many they are.
+pub fn reduce(q: &[i64], a: &[i64], w: &[i64], rows: &mut [Row; 24]) -> usize
     requires { ⌜ Sound (now q) (now a) (now w) ⌝ }
-    requires { ⌜ (length (now rows) ≡ 24) × (length (now multipliers) ≡ 24) ⌝ }
+    requires { ⌜ Shaped (now rows) ⌝ }
     ensures { λ r. ⌜ r ≡ first (length (now (w .entry)))
         (weak (tableOf (now (q .entry)) (now (a .entry)) (now (w .entry)))) ⌝ }
-    ensures { λ r. ⌜ Rows (tableOf (now (q .entry)) (now (a .entry)) (now (w .entry))) r (now (rows .exit)) (now (multipliers .exit)) ⌝ }
+    ensures { λ r. ⌜ Rows (tableOf (now (q .entry)) (now (a .entry)) (now (w .entry))) r (now (rows .exit)) ⌝ }
 {
     let n = w.len();
-    let mut at = 0;
+    let mut start = 0;
     let mut j = 0;
     while j < n {
         // the row of N is reduced in its own local, which spares the stack a second one: its entry is read first
-        let mut row = normal_row(q, a, w, j, at);
+        let mut row = normal_row(q, a, w, j, start);
         let entry = row[j];
-        row = reduced(row, rows, multipliers, j, n);
-        let mut m = [0i64; 24];
-        if is_weak(row, entry, j, n, &mut m) {
+        row = reduced(row, rows, j, n);
+        if is_weak(row, entry, j, n, rows) {
             return j;
         }
         rows[j] = row;
-        multipliers[j] = m;
-        at += q.len();
+        start += q.len();
         j += 1;
     }
     n

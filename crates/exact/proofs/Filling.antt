@@ -1,5 +1,5 @@
 -- A list whose elements are replaced in their order, one a turn, from some place on. Assumes nothing.
---   tabulate-length, tabulate-at, tabulate-ext       a list by its elements
+--   tabulate-length, tabulate-at, tabulate-ext, tabulate-is       a list by its elements
 --   Filled                             from place `from` to place i the elements are those of g; the others are as they were
 --   filled-none, filled-more           before the first turn, and after one more
 --   filled-all                         after the last, from place 0
@@ -31,6 +31,10 @@ module _ {A : Type 0} where
   tabulate-ext (suc n) g h e = λ t. e 0 (omega arith) t ∷ tabulate-ext n (λ i. g (suc i)) (λ i. h (suc i)) (λ i l. e (suc i) (omega arith)) t
 
 module _ {A : Type 0} (d : A) where
+  pub tabulate-is : (n : ℕ) (g : ℕ → A) (xs : List A) → length xs ≡ n → ((i : ℕ) → i < n → getD xs i d ≡ g i) → xs ≡ tabulate n g
+  tabulate-is n g xs e f =
+      ext-getD d xs (tabulate n g) (e ∙ sym (tabulate-length n g)) (λ i l. f i (omega (arith, e)) ∙ sym (tabulate-at n g i d (omega (arith, e))))
+
   pub record Filled (g : ℕ → A) (from i : ℕ) (xs ys : List A) : Type 0 where
     pub long : length ys ≡ length xs
     pub begun : from ≤ i
@@ -58,6 +62,4 @@ module _ {A : Type 0} (d : A) where
       pick j (no k) f h = subst (λ (n : ℕ). getD (set ys i v) n d ≡ g n) (last j k h) (getD-set-same ys i v d (omega (arith, u .long)) ∙ e)
 
   pub filled-all : (g : ℕ → A) (n : ℕ) (xs ys : List A) → length xs ≡ n → Filled g 0 n xs ys → ys ≡ tabulate n g
-  filled-all g n xs ys e u =
-      ext-getD d ys (tabulate n g) (u .long ∙ e ∙ sym (tabulate-length n g))
-      (λ i l. u .done i zero-le (omega (arith, u .long)) ∙ sym (tabulate-at n g i d (omega (arith, u .long))))
+  filled-all g n xs ys e u = tabulate-is n g ys (u .long ∙ e) (λ i l. u .done i zero-le l)

@@ -16,12 +16,13 @@ use Rattle.exact.proofs.Filling.{tabulate-length}
 use Rattle.reply.specs.declared.Refusal.{Refusal}
 use Rattle.reply.specs.declared.Reply.{Reply}
 use Rattle.reply.specs.declared.Reply.the-variants.{Accepted, Refused}
-use Rattle.reply.specs.Checks.{_andThen_, leaves}
+use Rattle.reply.specs.Checks.{_andThen_}
 use Rattle.reply.proofs.Checking.{never}
 use Rattle.doolittle.specs.Table.{Table, at, tableOf}
 use Rattle.doolittle.specs.Solution.{K}
 use Rattle.adjustment.specs.Corrections.{u-of}
-use Rattle.adjustment.specs.Promise.{Answers, adjustReply, answersOf, Adjusts}
+use Rattle.adjustment.specs.Promise.{Answers, adjustReply, answersOf}
+use Rattle.adjustment.specs.Inner.{AdjustsOwn}
 use Rattle.precision.specs.declared.Errors.{Errors}
 use Rattle.precision.specs.Errors.{errorsOf}
 use Rattle.precision.specs.Promise.{errorsReply}
@@ -60,13 +61,13 @@ module _ (ds q a w : List ℤ) {lent : Answers} (l : Lent (length ds) (length w)
   abbrev answers : Answers
   answers = answersOf (tableOf q a w) (K (tableOf q a w)) (at ds)
 
-  module _ {reply : Reply} {left : Answers} (p : Adjusts ds q a w lent reply left) where
+  module _ {reply : Reply} {left : Answers} (p : AdjustsOwn ds q a w lent reply left) where
     pub answered : adjustReply ds q a w (room (length ds) (length w)) ≡ reply
     answered = by-room ∙ sym (p .answer)
 
     module _ (e : reply ≡ Accepted) where
       left-is : left ≡ answers
-      left-is = p .lists ∙ ap (λ (r : Reply). leaves r answers lent) e
+      left-is = p .lists e
 
       -- its errors are not refused
       pub errors-accepted : errorsReply (left .printed) q (length w) ≡ Accepted

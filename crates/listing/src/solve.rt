@@ -56,7 +56,7 @@ fn list_table(
         (adjustReply (now (directions .entry)) (now (q .entry)) (now (a .entry)) (now (w .entry)) (room (length (now (directions .entry))) (length (now (w .entry)))))
         (tableListing sheet (now (directions .entry)) (now (q .entry)) (now (a .entry)) (now (w .entry))) (now (out .entry)) l (now (out .exit)) ⌝ }
 {
-    let reply = adjustment::adjust(directions, q, a, w, v, u, adjusted, k, r, misses);
+    let reply = adjustment::adjust_own(directions, q, a, w, v, u, adjusted, k, r, misses);
     if let Reply::Refused(why) = reply {
         return Listed {
             reply: Reply::Refused(why),

@@ -16,23 +16,14 @@ use Rattle.adjustment.proofs.Answering.{corrections-list, printed-list,
 use Rattle.adjustment.proofs.answer.Statement.{statement}
 use Rattle.adjustment.proofs.answer.Tie as tie
 
-slice-aggregate-store : tie.Need-slice-aggregate-store
-slice-aggregate-store c = search needs
-
 store-requires : tie.Need-store-requires
 store-requires c κs = search needs
 
 store-requires-2 : tie.Need-store-requires-2
 store-requires-2 c κs = search needs
 
-slice-aggregate-store-2 : tie.Need-slice-aggregate-store-2
-slice-aggregate-store-2 c = search needs
-
 store-requires-3 : tie.Need-store-requires-3
 store-requires-3 c κs = search needs
-
-slice-aggregate-store-3 : tie.Need-slice-aggregate-store-3
-slice-aggregate-store-3 c = search needs
 
 store-requires-4 : tie.Need-store-requires-4
 store-requires-4 c κs = search needs
@@ -43,30 +34,30 @@ module _ (s : tie.Start) where
   t = tableOf (now (s .args .q)) (now (s .args .a)) (now (s .args .w))
 
   abbrev k : List ℤ
-  k = s .args .t5
+  k = now (s .args .k)
 
   abbrev v : List ℤ
-  v = s .args .t6
+  v = now (s .args .v)
 
   abbrev u : List ℤ
   u = now (s .args .u)
 
   abbrev r : List ℤ
-  r = s .args .t8
+  r = now (s .args .r)
 
   solved : Solved t k v u r
   solved = s .pre .1 .0
 
 adjust-directions-requires : tie.Need-adjust-directions-requires
 adjust-directions-requires c κs =
-    let s = c .before .before .before .before .before .before .before .before .before .before .before .before .before .before .before .before in let p = s .pre .1 .1 in let e = p .1 .0 .2 in (
-      (omega (arith, e, p .0 .1), omega (arith, e, p .0 .0)),
-      ((λ i l. p .0 .2 i (omega (arith, e))), λ i l. u-size (solved s) i (omega (arith, e))),
+    let s = c .before .before .before .before .before .before .before .before .before .before .before .before .before in let p = s .pre .1 .1 in let e = p .1 .1 .0 .2 in (
+      (omega (arith, e, p .1 .0 .0), omega (arith, e, p .0 .1)),
+      ((λ i l. p .1 .0 .1 i (omega (arith, e))), λ i l. u-size (solved s) i (omega (arith, e))),
     )
 
 print-remainders-requires : tie.Need-print-remainders-requires
 print-remainders-requires c κs =
-    let s = c .before .before .before .before .before .before .before .before .before .before .before .before .before .before .before .before .before .before .before in let p = s .pre .1 .1 in (s .pre .0, ((p .0 .0, p .1 .1 .2), u-size (solved s)))
+    let s = c .before .before .before .before .before .before .before .before .before .before .before .before .before .before .before .before in let p = s .pre .1 .1 in (s .pre .0, ((p .0 .1, p .1 .1 .1 .2), u-size (solved s)))
 
 same-length : tie.Need-same-length
 same-length c = search needs
@@ -88,7 +79,7 @@ same-length-6 c = search needs
 
 returns : tie.Need-returns
 returns c =
-    let a = c .before .before .before .before in let st4 = a .before .before .before in let st3 = st4 .before .before .before .before in let st2 = st3 .before .before .before .before in let st = st2 .before .before .before in let s = st .before .before .before in let p = s .pre .1 .1 .1 in let e = solved s in
+    let a = c .before .before .before .before in let st4 = a .before .before .before in let st3 = st4 .before .before .before in let st2 = st3 .before .before .before in let st = st2 .before .before .before in let s = st .before .before in let p = s .pre .1 .1 .1 .1 in let e = solved s in
     λ i. lists
     ((st .store .ensures ∙ ap (λ (m : ℕ). tabulate m (at (v s))) (p .0 .0) ∙ corrections-list e) i)
     ((st2 .store2 .ensures ∙ ap (λ (m : ℕ). tabulate m (at (u s))) (p .0 .1) ∙ printed-list e) i)
@@ -101,12 +92,9 @@ pub answer-spec : {M : Type 1} → statement M
 answer-spec =
     tie.close
     (tie.spec
-    slice-aggregate-store
     store-requires
     store-requires-2
-    slice-aggregate-store-2
     store-requires-3
-    slice-aggregate-store-3
     store-requires-4
     adjust-directions-requires
     print-remainders-requires

@@ -23,15 +23,15 @@ abbrev term : List ℤ → List ℤ → ℕ → ℕ → ℕ → ℤ
 term a k i m j = getD a (j * m + i) (pos 0) *ℤ getD k j (pos 0)
 
 abbrev Inv-loop : tie.InvT-loop
-Inv-loop a i m n k s₀ at₀ j₀ s at j = (j ≤ n) × (at ≡ j * m + i) × (toZ w64 s ≡ sum j (term a k i m))
+Inv-loop a k i m n s₀ at₀ j₀ s at j = (j ≤ n) × (at ≡ j * m + i) × (toZ w64 s ≡ sum j (term a k i m))
 
 abbrev μ-loop : tie.MeasureT-loop
-μ-loop a i m n k s₀ at₀ j₀ s at j = n - j
+μ-loop a k i m n s₀ at₀ j₀ s at j = n - j
 
 loop-holds : tie.Need-loop-holds Inv-loop μ-loop
 loop-holds c =
     let s = c .args in
-    (omega arith, rw (zero-mul (s .m)) (omega arith), sym (sum-none (term (now (s .a)) (s .t2) (s .i) (s .m))))
+    (omega arith, rw (zero-mul (s .m)) (omega arith), sym (sum-none (term (now (s .a)) (now (s .k)) (s .i) (s .m))))
 
 -- direction i of row j lies within the list
 within : (j n m i : ℕ) {len at : ℕ} → j < n → i < m → len ≡ n * m → at ≡ j * m + i → at < len
@@ -51,8 +51,8 @@ shared-slice-copy-out-x c = in-list c
 mul-y : tie.Need-mul-y Inv-loop μ-loop
 mul-y c = search needs
 
-array-copy-out-y : tie.Need-array-copy-out-y Inv-loop μ-loop
-array-copy-out-y c = search needs
+shared-slice-copy-out-y : tie.Need-shared-slice-copy-out-y Inv-loop μ-loop
+shared-slice-copy-out-y c = search needs
 
 -- in a turn
 module _ (c : tie.After-y Inv-loop μ-loop) where
@@ -66,7 +66,7 @@ module _ (c : tie.After-y Inv-loop μ-loop) where
   a = now (start .args .a)
 
   abbrev terms : ℕ → ℤ
-  terms = term a (start .args .t2) (start .args .i) (start .args .m)
+  terms = term a (now (start .args .k)) (start .args .i) (start .args .m)
 
   abbrev j : ℕ
   j = loop .loop .j
@@ -77,7 +77,7 @@ module _ (c : tie.After-y Inv-loop μ-loop) where
       (omega (
         arith,
         sum-within j 24 200000000000 terms (omega arith)
-            (λ h l. product-size (getD a (h * start .args .m + start .args .i) (pos 0)) (getD (start .args .t2) h (pos 0)) (start .pre .1 .0 h (omega arith)) (start .pre .1 .1 h (omega arith))),
+            (λ h l. product-size (getD a (h * start .args .m + start .args .i) (pos 0)) (getD (now (start .args .k)) h (pos 0)) (start .pre .1 .0 h (omega arith)) (start .pre .1 .1 .1 h (omega arith))),
       ))
 
   -- the coefficient, as the code finds it
@@ -89,7 +89,7 @@ plus-product-requires c κs =
     let s = start c in let l : j c < s .args .n = omega arith in (
       sum-size c,
       rw (coefficient-is c) (omega (arith, s .pre .1 .0 (j c) l)),
-      omega (arith, read-within (getD (s .args .t2) (j c) (pos 0)) (c .y .given) (s .pre .1 .1 (j c) l)),
+      omega (arith, read-within (getD (now (s .args .k)) (j c) (pos 0)) (c .y .given) (s .pre .1 .1 .1 (j c) l)),
     )
 
 add-at : tie.Need-add-at Inv-loop μ-loop
@@ -107,14 +107,14 @@ loop-again c =
       omega arith,
       omega (arith, loop b .loop .inv .1, next-row (j b) (s .args .m) {at = j b * s .args .m} refl),
       read-at (c .plus-product .result) (c .plus-product .ok) ∙ c .plus-product .ensures
-          ∙ ap₂ _+ℤ_ (loop b .loop .inv .2) (ap₂ _*ℤ_ (coefficient-is b) (read-at (getD (s .args .t2) (j b) (pos 0)) (b .y .given)))
+          ∙ ap₂ _+ℤ_ (loop b .loop .inv .2) (ap₂ _*ℤ_ (coefficient-is b) (read-at (getD (now (s .args .k)) (j b) (pos 0)) (b .y .given)))
           ∙ sym (sum-more (j b) (terms b)),
     )
 
 returns : tie.Need-returns Inv-loop μ-loop
 returns c =
     let s = c .before .before in let e : c .before .loop .j ≡ s .args .n = omega arith in
-    c .before .loop .inv .2 ∙ ap (λ (k : ℕ). sum k (term (now (s .args .a)) (s .args .t2) (s .args .i) (s .args .m))) e
+    c .before .loop .inv .2 ∙ ap (λ (k : ℕ). sum k (term (now (s .args .a)) (now (s .args .k)) (s .args .i) (s .args .m))) e
 
 pub combined-spec : {M : Type 1} → statement M
 combined-spec =
@@ -126,7 +126,7 @@ combined-spec =
     mul-x
     shared-slice-copy-out-x
     mul-y
-    array-copy-out-y
+    shared-slice-copy-out-y
     plus-product-requires
     add-at
     add-j

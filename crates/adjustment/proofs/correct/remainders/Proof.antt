@@ -1,5 +1,5 @@
 -- `correct::remainders` meets its contract. Assumes nothing.
-use mathlib.Core.Path.{_≡_, refl, sym, _∙_, ap, ap₂, subst}
+use mathlib.Core.Path.{_≡_, sym, _∙_, ap, ap₂, subst}
 use mathlib.Core.Bool.{Bool}
 use mathlib.Core.List.{List}
 use Prim.Native.Nat.{ℕ, _+_, _*_, _-_, _≤_, _<_, zero-le}
@@ -9,7 +9,7 @@ use borrow.Author.Needs.{needs}
 use borrow.Author.Tests.{lt-ltb, le-ltb}
 use denote.Ref.{now}
 use lib.Dec.{ltb}
-use lib.ListN.{length, getD, replicate, length-set}
+use lib.ListN.{length, getD}
 use lib.IntN.{ℤ, pos, natAbs, _+ℤ_, _*ℤ_}
 use mir.Syntax.{w64}
 use mir.Val.{toZ, ofZ}
@@ -30,26 +30,25 @@ abbrev large : Table → List ℤ → ℕ → Bool
 large t v j = ltb 50000000 (natAbs (closing t (at v) j))
 
 abbrev Inv-loop : tie.InvT-loop
-Inv-loop q a w v m r₀ at₀ j₀ r at j = (j ≤ length w) × (at ≡ j * length q) × (length r ≡ 24) × Failed (large (tableOf q a w) v) j × Filled (pos 0) (closing (tableOf q a w) (λ i. getD v i (pos 0))) 0 j r₀ r
+Inv-loop q a w v r₀ m at₀ j₀ r at j = (j ≤ length w) × (at ≡ j * length q) × Failed (large (tableOf q a w) v) j × Filled (pos 0) (closing (tableOf q a w) (λ i. getD v i (pos 0))) 0 j r₀ r
 
 abbrev μ-loop : tie.MeasureT-loop
-μ-loop q a w v m r₀ at₀ j₀ r at j = length w - j
+μ-loop q a w v r₀ m at₀ j₀ r at j = length w - j
 
 loop-holds : tie.Need-loop-holds Inv-loop μ-loop
 loop-holds c =
     let a = c .args in let t = tableOf (now (a .q)) (now (a .a)) (now (a .w)) in (
       omega arith,
       sym (zero-mul (length (now (a .q)))),
-      refl,
       failed-none (large t (now (a .v))),
-      filled-none (pos 0) (closing t (at (now (a .v)))) 0 (replicate 24 (pos 0)),
+      filled-none (pos 0) (closing t (at (now (a .v)))) 0 (now (a .r)),
     )
 
 sum-seen-requires : tie.Need-sum-seen-requires Inv-loop μ-loop
 sum-seen-requires c κs =
     let l = c .before in let s = l .before in let t = s .pre .0 in let m = length (now (s .args .q)) in let h : l .loop .j < length (now (s .args .w)) = omega arith in (
-      (t .m-most, row-end (l .loop .j) (length (now (s .args .w))) m h (t .long) (l .loop .inv .1), s .pre .1 .0),
-      (subst (λ (k : ℕ). Within 2000 (now (s .args .a)) k m) (sym (l .loop .inv .1)) (t .a-most (l .loop .j) h), s .pre .1 .1),
+      (t .m-most, row-end (l .loop .j) (length (now (s .args .w))) m h (t .long) (l .loop .inv .1), s .pre .1 .0 .0),
+      (subst (λ (k : ℕ). Within 2000 (now (s .args .a)) k m) (sym (l .loop .inv .1)) (t .a-most (l .loop .j) h), s .pre .1 .0 .1),
     )
 
 mul-x : tie.Need-mul-x Inv-loop μ-loop
@@ -85,7 +84,7 @@ module _ (c : tie.After-sum-seen Inv-loop μ-loop) where
   sum-size =
       rw sum-is
       (sum-within (t .m) 64 96000000000000000 (λ i. t .a j i *ℤ at v i) (start .pre .0 .m-most)
-      (λ i l. product-size (t .a j i) (at v i) (start .pre .0 .a-most j below i l) (start .pre .1 .1 i l)))
+      (λ i l. product-size (t .a j i) (at v i) (start .pre .0 .a-most j below i l) (start .pre .1 .0 .1 i l)))
 
 remainder-requires : tie.Need-remainder-requires Inv-loop μ-loop
 remainder-requires c κs =
@@ -110,18 +109,21 @@ module _ (c : tie.After-magnitude Inv-loop μ-loop) where
   size-is : c .magnitude .result ≡ natAbs (closing (t turn) (at (v turn)) (j turn))
   size-is = c .magnitude .ensures ∙ ap natAbs (read-at (c .before .remainder .result) (c .before .remainder .ok) ∙ remainder-is)
 
+same-length : tie.Need-same-length Inv-loop μ-loop
+same-length c = loop (turn (c .before)) .loop .inv .3 .long
+
 returns : tie.Need-returns Inv-loop μ-loop
 returns c =
     let b = c .before in let u = turn b in let i = loop u .loop .inv in (
-      sym (first-at (t u .n) (large (t u) (v u)) (j u) (below u) (i .3) (lt-ltb 50000000 (natAbs (closing (t u) (at (v u)) (j u))) (rw (size-is b) at (c .if1 .taken)))),
-      λ h l. i .4 .done h zero-le l,
+      sym (first-at (t u .n) (large (t u) (v u)) (j u) (below u) (i .2) (lt-ltb 50000000 (natAbs (closing (t u) (at (v u)) (j u))) (rw (size-is b) at (c .if1 .taken)))),
+      λ h l. i .3 .done h zero-le l,
     )
 
-mul-r : tie.Need-mul-r Inv-loop μ-loop
-mul-r c = search needs
+mul-z : tie.Need-mul-z Inv-loop μ-loop
+mul-z c = search needs
 
-array-set-from-r : tie.Need-array-set-from-r Inv-loop μ-loop
-array-set-from-r c = search needs
+slice-set-from-z : tie.Need-slice-set-from-z Inv-loop μ-loop
+slice-set-from-z c = let u = turn (c .before) in omega (arith, below u, loop u .loop .inv .3 .long, start u .pre .1 .1)
 
 add-at : tie.Need-add-at Inv-loop μ-loop
 add-at c =
@@ -139,17 +141,19 @@ loop-again c =
     let b = c .before in let u = turn b in let i = loop u .loop .inv in (
       omega arith,
       next-row (j u) (t u .m) (i .1),
-      length-set (loop u .loop .r) (j u) (toZ w64 (ofZ w64 (b .before .remainder .result))) ∙ i .2,
-      failed-more (large (t u) (v u)) (j u) (i .3) (le-ltb 50000000 (natAbs (closing (t u) (at (v u)) (j u))) (rw (size-is b) at (c .if1 .left))),
-      filled-more (pos 0) (closing (t u) (at (v u))) 0 (j u) (replicate 24 (pos 0)) (loop u .loop .r) (toZ w64 (ofZ w64 (b .before .remainder .result)))
-          (omega (arith, start u .pre .0 .n-most, below u)) (i .4) (read-at (b .before .remainder .result) (b .before .remainder .ok) ∙ remainder-is b),
+      failed-more (large (t u) (v u)) (j u) (i .2) (le-ltb 50000000 (natAbs (closing (t u) (at (v u)) (j u))) (rw (size-is b) at (c .if1 .left))),
+      filled-more (pos 0) (closing (t u) (at (v u))) 0 (j u) (now (start u .args .r)) (loop u .loop .r) (toZ w64 (ofZ w64 (b .before .remainder .result)))
+          (omega (arith, start u .pre .1 .1, below u)) (i .3) (read-at (b .before .remainder .result) (b .before .remainder .ok) ∙ remainder-is b),
     )
+
+same-length-2 : tie.Need-same-length-2 Inv-loop μ-loop
+same-length-2 c = c .before .loop .inv .3 .long
 
 returns-2 : tie.Need-returns-2 Inv-loop μ-loop
 returns-2 c =
     let l = c .before in let s = l .before in let t = tableOf (now (s .args .q)) (now (s .args .a)) (now (s .args .w)) in let test = large t (now (s .args .v)) in
     let e : l .loop .j ≡ t .n = omega arith in
-    (e ∙ sym (first-none (t .n) test (subst (Failed test) e (l .loop .inv .3))), λ h k. l .loop .inv .4 .done h zero-le k)
+    (e ∙ sym (first-none (t .n) test (subst (Failed test) e (l .loop .inv .2))), λ h k. l .loop .inv .3 .done h zero-le k)
 
 pub remainders-spec : {M : Type 1} → statement M
 remainders-spec =
@@ -163,11 +167,13 @@ remainders-spec =
     shared-slice-copy-out-x
     remainder-requires
     magnitude-requires
+    same-length
     returns
-    mul-r
-    array-set-from-r
+    mul-z
+    slice-set-from-z
     add-at
     add-j
     loop-less
     loop-again
+    same-length-2
     returns-2)

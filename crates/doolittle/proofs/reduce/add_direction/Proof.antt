@@ -69,13 +69,11 @@ x-is c =
 
 returns : tie.Need-returns Inv-loop μ-loop
 returns c =
-    let s = c .before .before in (
-      record {
-        coefficients = λ k h l. sym (ap (λ (z : ℤ). at (row s) k +ℤ z) (untouched (t s) (j s) k (i s) (sym (x-is (c .before)) ∙ ap (toZ w64) (c .if1 .taken))) ∙ +ℤ-idr (at (row s) k));
-        constant = refl;
-      },
-      λ k h. refl,
-    )
+    let s = c .before .before in
+    record {
+      coefficients = λ k h l. sym (ap (λ (z : ℤ). at (row s) k +ℤ z) (untouched (t s) (j s) k (i s) (sym (x-is (c .before)) ∙ ap (toZ w64) (c .if1 .taken))) ∙ +ℤ-idr (at (row s) k));
+      constant = refl;
+    }
 
 mul-g : tie.Need-mul-g Inv-loop μ-loop
 mul-g c = search needs
@@ -199,10 +197,8 @@ same-length c = c .before .loop .inv .2 .long
 
 returns-2 : tie.Need-returns-2 Inv-loop μ-loop
 returns-2 c =
-    let l = c .before in let s = start (l .before) in let v = l .loop .inv in (
-      record { coefficients = λ h e f. v .2 .done h e (omega arith); constant = v .2 .rest 24 (omega (arith, v .0, s .pre .0 .n-most)) },
-      v .2 .before,
-    )
+    let l = c .before in let s = start (l .before) in let v = l .loop .inv in
+    record { coefficients = λ h e f. v .2 .done h e (omega arith); constant = v .2 .rest 24 (omega (arith, v .0, s .pre .0 .n-most)) }
 
 pub add-direction-spec : {M : Type 1} → statement M
 add-direction-spec =

@@ -1,24 +1,23 @@
 -- `reduce::is_weak` meets its contract. Assumes nothing.
 use mathlib.Core.Path.{_≡_, sym, _∙_, ap, ap₂}
-use mathlib.Core.Bool.{true, false, _&&_}
+use mathlib.Core.Bool.{false}
 use mathlib.Core.List.{List}
-use Prim.Native.Nat.{ℕ, suc, _≤_}
+use Prim.Native.Nat.{ℕ, _≤_}
 use native.Mathlib.Nat.{le-refl}
-use native.Mathlib.Omega.{arith}
-use native.Mathlib.Numerals.{add-one}
 use borrow.Author.Needs.{needs}
 use borrow.Author.Tests.{ltb-false}
-use lib.Dec.{ltb, leb}
+use denote.Ref.{now}
+use lib.Dec.{ltb}
 use lib.IntN.{ℤ, natAbs}
 use mir.Syntax.{w64}
 use mir.Val.{toZ, ofZ}
-use Rattle.exact.specs.First.{first}
 use Rattle.exact.proofs.Bound.{read, read-at, read-within}
-use Rattle.exact.proofs.Searching.{from-ext, from-none}
+use Rattle.exact.proofs.Searching.{from-none}
 use Rattle.doolittle.specs.Table.{at}
-use Rattle.doolittle.specs.Solution.{multiplier, lowPivot}
-use Rattle.doolittle.specs.Inner.{From}
-use Rattle.doolittle.proofs.Weakness.{largeD, weak-by-coefficient, weak-by-constant, weak-by-low, weak-by-multiplier, high-pivot}
+use Rattle.doolittle.specs.Solution.{lowPivot}
+use Rattle.doolittle.specs.Inner.{From, Kept}
+use Rattle.doolittle.proofs.Keeping.{kept-none}
+use Rattle.doolittle.proofs.Weakness.{not-true, largeD, weak-by-coefficient, weak-by-constant, weak-by-low, weak-by-multiplier, high-pivot}
 use Rattle.doolittle.proofs.reduce.is_weak.Statement.{statement}
 use Rattle.doolittle.proofs.reduce.is_weak.Tie as tie
 
@@ -27,9 +26,6 @@ slice-aggregate-some-large c = search needs
 
 some-large-requires : tie.Need-some-large-requires
 some-large-requires c κs = search needs
-
-not-true : {A : Type 0} → true ≡ false → A
-not-true e = let z : _≡_ {A = ℕ} 0 1 = cc in absurd (omega arith)
 
 -- the row, and the first test
 module _ (s : tie.Start) where
@@ -45,13 +41,17 @@ module _ (s : tie.Start) where
   abbrev n : ℕ
   n = s .args .n
 
+  -- a refusal before the multipliers leaves all rows as they were
+  all-kept : Kept j (now (s .args .rows)) (now (s .args .rows))
+  all-kept = kept-none (now (s .args .rows)) (s .pre .2) j
+
 large-is : (c : tie.After-some-large) → c .some-large .result ≡ largeD (n (c .before .before)) (j (c .before .before)) (at (row (c .before .before)))
 large-is c = c .some-large .ensures
 
 returns : tie.Need-returns
 returns c =
     let s = c .before .before .before in
-    (sym (weak-by-coefficient (n s) (j s) (entry s) (at (row s)) (at (row s) 24) (sym (large-is (c .before)) ∙ c .if1 .taken)), not-true)
+    (sym (weak-by-coefficient (n s) (j s) (entry s) (at (row s)) (at (row s) 24) (sym (large-is (c .before)) ∙ c .if1 .taken)), (not-true, all-kept s))
 
 array-copy-out-l : tie.Need-array-copy-out-l
 array-copy-out-l c = search needs
@@ -77,7 +77,7 @@ module _ (c : tie.After-magnitude) where
 returns-2 : tie.Need-returns-2
 returns-2 c =
     let b = c .before in let s = start2 b in
-    (sym (weak-by-constant (n s) (j s) (entry s) (at (row s)) (at (row s) 24) (rw (size-is b) at (c .if2 .taken))), not-true)
+    (sym (weak-by-constant (n s) (j s) (entry s) (at (row s)) (at (row s) 24) (rw (size-is b) at (c .if2 .taken))), (not-true, all-kept s))
 
 mul-pivot : tie.Need-mul-pivot
 mul-pivot c = search needs
@@ -108,34 +108,21 @@ low-is c = let s = start3 (c .before) in c .is-low .ensures ∙ ap₂ lowPivot (
 returns-3 : tie.Need-returns-3
 returns-3 c =
     let b = c .before .before in let s = start3 b in
-    (sym (weak-by-low (n s) (j s) (entry s) (at (row s)) (at (row s) 24) (sym (low-is (c .before)) ∙ c .if3 .taken)), not-true)
+    (sym (weak-by-low (n s) (j s) (entry s) (at (row s)) (at (row s) 24) (sym (low-is (c .before)) ∙ c .if3 .taken)), (not-true, all-kept s))
 
 -- the pivot is not low
 sound-pivot : (c : tie.Else3) → lowPivot (at (row (start3 (c .before .before))) (j (start3 (c .before .before)))) (entry (start3 (c .before .before))) ≡ false
 sound-pivot c = sym (low-is (c .before)) ∙ c .if3 .left
 
-multiplied-requires : tie.Need-multiplied-requires
-multiplied-requires c κs =
-    let b = c .before .before in let s = start3 b in
-    (s .pre, (small-coefficients (b .before .before), high-pivot (at (row s) (j s)) (entry s) (sound-pivot c) .0))
-
-add-some-large : tie.Need-add-some-large
-add-some-large c = search needs
-
-some-large-requires-2 : tie.Need-some-large-requires-2
-some-large-requires-2 c κs = search needs
+multiply-requires : tie.Need-multiply-requires
+multiply-requires c κs =
+    let e = c .before in let b = e .before .before in let s = start3 b in
+    (s .pre, (small-coefficients (b .before .before), high-pivot (at (row s) (j s)) (entry s) (sound-pivot e) .0))
 
 returns-4 : tie.Need-returns-4
 returns-4 c =
-    let d = c .before .before .before in let e = d .before in let b = e .before .before in let s = start3 b in let m = at (d .multiplied .result) in (
-      c .some-large2 .ensures
-          ∙ ap (λ (k : ℕ). ltb k (n s))
-          (ap (λ (i : ℕ). first (n s) (λ k. leb i k && ltb 1000000000 (natAbs (m k)))) (add-one (j s))
-          ∙ from-ext (n s) (suc (j s)) (λ k. ltb 1000000000 (natAbs (m k))) (λ k. ltb 1000000000 (natAbs (multiplier (at (row s) k) (at (row s) (j s)))))
-          (λ k h l. ap (λ (z : ℤ). ltb 1000000000 (natAbs z)) (d .multiplied .ensures k h l)))
-          ∙ sym (weak-by-multiplier (n s) (j s) (entry s) (at (row s)) (at (row s) 24) (small-d (b .before .before)) (small-l b) (sound-pivot e)),
-      (λ f. d .multiplied .ensures),
-    )
+    let e = c .before .before in let b = e .before .before in let s = start3 b in let r = c .multiply .ensures in
+    (r .0 ∙ sym (weak-by-multiplier (n s) (j s) (entry s) (at (row s)) (at (row s) 24) (small-d (b .before .before)) (small-l b) (sound-pivot e)), r .1)
 
 pub is-weak-spec : {M : Type 1} → statement M
 is-weak-spec =
@@ -151,7 +138,5 @@ is-weak-spec =
     array-copy-out-pivot
     is-low-requires
     returns-3
-    multiplied-requires
-    add-some-large
-    some-large-requires-2
+    multiply-requires
     returns-4)

@@ -5,7 +5,7 @@ use Prim.Native.Nat.{ℕ, _-_, _≤_}
 use native.Mathlib.Omega.{arith}
 use borrow.Author.Needs.{needs}
 use denote.Ref.{now}
-use lib.ListN.{length, getD, replicate, length-set, length-replicate, getD-replicate}
+use lib.ListN.{length, replicate, length-set, length-replicate, getD-replicate}
 use lib.Seq.{getD-set-same, getD-set-other}
 use lib.IntN.{ℤ, pos, _*ℤ_}
 use mir.Syntax.{w64}
@@ -25,10 +25,10 @@ abbrev Formed : Table → ℕ → ℕ → List ℤ → Type 0
 Formed t j i row = Holds j (t .n) (λ k. sum i (part t j k)) (pos 1000 *ℤ t .w j) row
 
 abbrev Inv-loop : tie.InvT-loop
-Inv-loop q a w j at x row₀ i₀ row i = (i ≤ length q) × (length row ≡ 25) × Formed (tableOf q a w) j i row
+Inv-loop q a w j start x row₀ i₀ row i = (i ≤ length q) × (length row ≡ 25) × Formed (tableOf q a w) j i row
 
 abbrev μ-loop : tie.MeasureT-loop
-μ-loop q a w j at x row₀ i₀ row i = length q - i
+μ-loop q a w j start x row₀ i₀ row i = length q - i
 
 -- the table
 abbrev table : tie.Start Inv-loop μ-loop → Table
@@ -42,7 +42,7 @@ shared-slice-copy-out-x c = search needs
 
 constant-requires : tie.Need-constant-requires Inv-loop μ-loop
 constant-requires c κs =
-    let s = c .before in read-within (getD (now (s .args .w)) (s .args .j) (pos 0)) (c .x .given) (s .pre .0 .w-most (s .args .j) (s .pre .1 .0))
+    let s = c .before in read-within (at (now (s .args .w)) (s .args .j)) (c .x .given) (s .pre .0 .w-most (s .args .j) (s .pre .1 .0))
 
 array-set-from-row : tie.Need-array-set-from-row Inv-loop μ-loop
 array-set-from-row c = search needs
@@ -55,7 +55,7 @@ loop-holds c =
       record {
         coefficients = λ k h l. getD-set-other zeros 24 k x (pos 0) (λ e. omega (arith, s .pre .0 .n-most)) ∙ getD-replicate 25 k (pos 0) (pos 0) (omega (arith, s .pre .0 .n-most)) ∙ sym (sum-none (part (table s) (s .args .j) k));
         constant = getD-set-same zeros 24 x (pos 0) (omega (arith, length-replicate 25 (pos 0))) ∙ read-at (c .constant .result) (c .constant .ok) ∙ c .constant .ensures
-            ∙ ap (λ (z : ℤ). pos 1000 *ℤ z) (read-at (getD (now (s .args .w)) (s .args .j) (pos 0)) (c .before .x .given));
+            ∙ ap (λ (z : ℤ). pos 1000 *ℤ z) (read-at (at (now (s .args .w)) (s .args .j)) (c .before .x .given));
       },
     )
 
@@ -83,7 +83,7 @@ loop-again c =
     let d = c .before in let l = d .before .before .before in let s = l .before .before .before in let v = l .loop .inv in (
       omega arith,
       d .add-direction .kept .1 .1 .1 .1 .1 .1 .0 ∙ v .1,
-      formed-more (table s) (s .args .j) (l .loop .i) (pos 1000 *ℤ table s .w (s .args .j)) (l .loop .row) _ (v .2) (d .add-direction .ensures .0),
+      formed-more (table s) (s .args .j) (l .loop .i) (pos 1000 *ℤ table s .w (s .args .j)) (l .loop .row) _ (v .2) (d .add-direction .ensures),
     )
 
 returns : tie.Need-returns Inv-loop μ-loop

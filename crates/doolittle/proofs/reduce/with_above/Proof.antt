@@ -18,17 +18,17 @@ use Rattle.doolittle.proofs.reduce.with_above.Statement.{statement}
 use Rattle.doolittle.proofs.reduce.with_above.Tie as tie
 
 -- what row i adds
-abbrev part : List (List ℤ) → List (List ℤ) → ℕ → ℕ → ℕ → ℤ
-part rows multipliers j k i = carried (cell multipliers i j) (cell rows i k)
+abbrev part : List (List ℤ) → ℕ → ℕ → ℕ → ℤ
+part rows j k i = carried (cell rows j i) (cell rows i k)
 
 abbrev Inv-loop : tie.InvT-loop
-Inv-loop x rows multipliers j k s₀ i₀ s i = (i ≤ j) × (toZ w64 s ≡ toZ w64 x +ℤ sum i (part rows multipliers j k))
+Inv-loop x rows j k s₀ i₀ s i = (i ≤ j) × (toZ w64 s ≡ toZ w64 x +ℤ sum i (part rows j k))
 
 abbrev μ-loop : tie.MeasureT-loop
-μ-loop x rows multipliers j k s₀ i₀ s i = j - i
+μ-loop x rows j k s₀ i₀ s i = j - i
 
 loop-holds : tie.Need-loop-holds Inv-loop μ-loop
-loop-holds c = (omega arith, parts-none (toZ w64 (ofZ w64 (c .args .x))) (part (now (c .args .rows)) (now (c .args .multipliers)) (c .args .j) (c .args .k)))
+loop-holds c = (omega arith, parts-none (toZ w64 (ofZ w64 (c .args .x))) (part (now (c .args .rows)) (c .args .j) (c .args .k)))
 
 mul-m : tie.Need-mul-m Inv-loop μ-loop
 mul-m c = search needs
@@ -66,7 +66,7 @@ module _ (c : tie.After-y Inv-loop μ-loop) where
   i = loop .loop .i
 
   abbrev m : ℕ → ℤ
-  m h = cell (now (start .args .multipliers)) h (start .args .j)
+  m h = cell (now (start .args .rows)) (start .args .j) h
 
   abbrev y : ℕ → ℤ
   y h = cell (now (start .args .rows)) h (start .args .k)
@@ -108,7 +108,7 @@ loop-again c =
 returns : tie.Need-returns Inv-loop μ-loop
 returns c =
     let s = c .before .before in let e : c .before .loop .i ≡ s .args .j = omega arith in
-    c .before .loop .inv .1 ∙ ap₂ (λ (x : ℤ) (i : ℕ). x +ℤ sum i (part (now (s .args .rows)) (now (s .args .multipliers)) (s .args .j) (s .args .k))) (read (s .fits .x)) e
+    c .before .loop .inv .1 ∙ ap₂ (λ (x : ℤ) (i : ℕ). x +ℤ sum i (part (now (s .args .rows)) (s .args .j) (s .args .k))) (read (s .fits .x)) e
 
 pub with-above-spec : {M : Type 1} → statement M
 with-above-spec =

@@ -13,11 +13,11 @@ use Rattle.listing.proofs.Tabling.{Lent, answered, errors-accepted, tab
 use Rattle.listing.proofs.solve.list_table.Statement.{statement}
 use Rattle.listing.proofs.solve.list_table.Tie as tie
 
-adjust-requires : tie.Need-adjust-requires
-adjust-requires c κs = search needs
+adjust-own-requires : tie.Need-adjust-own-requires
+adjust-own-requires c κs = search needs
 
--- ---- what `adjust` has answered
-module _ (c : tie.After-adjust) where
+-- ---- what `adjust_own` has answered
+module _ (c : tie.After-adjust-own) where
   abbrev start : tie.Start
   start = c .before .before .before .before .before .before .before .before
 
@@ -51,7 +51,7 @@ same-length-6 c = search needs
 returns : tie.Need-returns
 returns c =
     let r = c .before in let a = r .before .before .before .before .before .before .before .before in let s = start a in
-    listed-refused _ (answered (now (s .args .directions)) (now (s .args .q)) (now (s .args .a)) (now (s .args .w)) (lent-lists a) (a .adjust .ensures) ∙ r .reply .given .1)
+    listed-refused _ (answered (now (s .args .directions)) (now (s .args .q)) (now (s .args .a)) (now (s .args .w)) (lent-lists a) (a .adjust-own .ensures) ∙ r .reply .given .1)
 
 enum-told : tie.Need-enum-told
 enum-told c = search needs
@@ -59,7 +59,7 @@ enum-told c = search needs
 put-accepted-requires : tie.Need-put-accepted-requires
 put-accepted-requires c κs =
     let a = c .before .before .before .before .before .before .before .before .before .before .before .before .before .before in let s = start a in
-    let p = s .pre in let k = a .adjust .kept .1 .1 .1 .1 .1 in (
+    let p = s .pre in let k = a .adjust-own .kept .1 .1 .1 .1 .1 in (
       omega (arith, p .0 .0, p .0 .1, p .0 .2, plain-fits (s .args .sheet)),
       (omega (arith, k .0, p .1 .0 .1), (omega (arith, k .1 .0, p .1 .0 .2), (omega (arith, k .1 .1 .0, p .1 .1 .0), (omega (arith, k .1 .1 .1 .0, p .1 .1 .1), omega (arith, k .1 .1 .1 .1 .0, p .1 .1 .2))))),
     )
@@ -69,7 +69,7 @@ module _ (c : tie.After-put-accepted) where
   abbrev told : tie.After-enum-told
   told = c .before .before .before .before .before .before .before
 
-  abbrev adjusted : tie.After-adjust
+  abbrev adjusted : tie.After-adjust-own
   adjusted = told .before .before .before .before .before .before .before .before
 
   abbrev s : tie.Start
@@ -77,13 +77,13 @@ module _ (c : tie.After-put-accepted) where
 
   within : c .put-accepted .result ≤ 6560
   within =
-      let p = s .pre .0 in let f = adjusted .adjust .last .1 .1 .1 .1 .1 in
+      let p = s .pre .0 in let f = adjusted .adjust-own .last .1 .1 .1 .1 .1 in
       omega (arith, c .put-accepted .ensures .place, accepted-most (length (now (s .args .directions))) (length (now (s .args .w))) (f .0) (f .1 .0) (f .1 .1 .0) (f .1 .1 .1 .0) (f .1 .1 .1 .1 .0), p .0, p .1)
 
 put-errors-requires : tie.Need-put-errors-requires
 put-errors-requires c κs =
     let p = c .before .before .before .before in let a = adjusted p in let s = s p in (
-      errors-accepted (now (s .args .directions)) (now (s .args .q)) (now (s .args .a)) (now (s .args .w)) (lent-lists a) (a .adjust .ensures) (told p .enum-told .given .1),
+      errors-accepted (now (s .args .directions)) (now (s .args .q)) (now (s .args .a)) (now (s .args .w)) (lent-lists a) (a .adjust-own .ensures) (told p .enum-told .given .1),
       (within p, omega (arith, s .pre .0 .2, wrote-length (p .put-accepted .ensures))),
     )
 
@@ -112,15 +112,15 @@ returns-2 : tie.Need-returns-2
 returns-2 c =
     let e = c .before .before in let p = e .before .before .before .before .before in let a = adjusted p in let s = s p in
     let accepted = told p .enum-told .given .1 in
-    listed-accepted (answered (now (s .args .directions)) (now (s .args .q)) (now (s .args .a)) (now (s .args .w)) (lent-lists a) (a .adjust .ensures) ∙ accepted)
-    (rewrote (table-accepted (now (s .args .directions)) (now (s .args .q)) (now (s .args .a)) (now (s .args .w)) (lent-lists a) (a .adjust .ensures) accepted (s .args .sheet) (s .pre .0 .3))
+    listed-accepted (answered (now (s .args .directions)) (now (s .args .q)) (now (s .args .a)) (now (s .args .w)) (lent-lists a) (a .adjust-own .ensures) ∙ accepted)
+    (rewrote (table-accepted (now (s .args .directions)) (now (s .args .q)) (now (s .args .a)) (now (s .args .w)) (lent-lists a) (a .adjust-own .ensures) accepted (s .args .sheet) (s .pre .0 .3))
     (then (p .put-accepted .ensures) (e .put-errors .ensures)))
 
 pub list-table-spec : {M : Type 1} → statement M
 list-table-spec =
     tie.close
     (tie.spec
-    adjust-requires
+    adjust-own-requires
     enum-known-reply
     same-length
     same-length-2
