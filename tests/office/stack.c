@@ -1,5 +1,5 @@
-/* stack FILE.net: how many bytes of stack each function of include/molsadriu.h takes, with the fullest input that it accepts; FILE.net is
- * the fullest network file.
+/* stack FILE.net: how many bytes of stack each function of include/molsadriu.h takes, with the fullest input that it accepts, and whether
+ * one takes more than its limit; FILE.net is the fullest network file.
  * A thread is given a stack that has been painted. It makes one call, and the lowest byte that is no longer paint says how far down the call
  * went. It is counted from the frame of the C function that makes the call, so that arguments passed on the stack are in it. Bytes that are
  * reserved and never written are not seen. Each call is made once before, so that the work of the dynamic loader is not counted, and with
@@ -189,12 +189,24 @@ static size_t painted(void (*call)(void), char *stack, char paint)
     return one.taken;
 }
 
-static void measure(const char *name, void (*call)(void), char *stack)
+/* The limits are x86-64's; another back end lays its frames out in another way, and may take this much more. */
+#ifdef __x86_64__
+#define MORE 0
+#else
+#define MORE 64
+#endif
+
+static int above; /* how many functions took more than their limits */
+
+static void measure(const char *name, void (*call)(void), size_t limit, char *stack)
 {
     call();
     if (answered != 0) stop(name);
     size_t one = painted(call, stack, 0x5a), other = painted(call, stack, (char)0xa5);
-    printf("%-24s %6zu\n", name, one > other ? one : other);
+    size_t taken = one > other ? one : other;
+    limit += MORE;
+    printf("%-24s %6zu %6zu%s\n", name, taken, limit, taken > limit ? "  too much" : "");
+    if (taken > limit) above++;
 }
 
 int main(int count, char **words)
@@ -203,19 +215,20 @@ int main(int count, char **words)
     if (count != 2) stop("usage: stack FILE.net");
     if (posix_memalign(&stack, 4096, STACK) != 0) stop("no memory");
     fill(words[1]);
-    printf("bytes of stack, from the caller's frame down\n");
-    measure("molsadriu_station_means", station_means, stack);
-    measure("molsadriu_station_book", station_book, stack);
-    measure("molsadriu_coefficients", coefficients, stack);
-    measure("molsadriu_misclosure", misclosure, stack);
-    measure("molsadriu_adjust_table", adjust_table, stack);
-    measure("molsadriu_adjust_file", adjust_file, stack);
-    measure("molsadriu_probable_error", probable_error, stack);
-    measure("molsadriu_probable_file", probable_file, stack);
-    measure("molsadriu_refused_line", refused_line, stack);
-    measure("molsadriu_list_file", list_file, stack);
-    measure("molsadriu_line", line, stack);
-    measure("molsadriu_line_status", line_status, stack);
+    printf("bytes of stack, from the caller's frame down; and the limit\n");
+    measure("molsadriu_station_means", station_means, 8520, stack);
+    measure("molsadriu_station_book", station_book, 25320, stack);
+    measure("molsadriu_coefficients", coefficients, 1136, stack);
+    measure("molsadriu_misclosure", misclosure, 624, stack);
+    measure("molsadriu_adjust_table", adjust_table, 7 * 1024, stack);
+    measure("molsadriu_adjust_file", adjust_file, 21 * 1024, stack);
+    measure("molsadriu_probable_error", probable_error, 112, stack);
+    measure("molsadriu_probable_file", probable_file, 21 * 1024, stack);
+    measure("molsadriu_refused_line", refused_line, 992, stack);
+    measure("molsadriu_list_file", list_file, 21 * 1024, stack);
+    measure("molsadriu_line", line, 8, stack);
+    measure("molsadriu_line_status", line_status, 8, stack);
     free(stack);
+    if (above > 0) stop("above a limit");
     return 0;
 }
