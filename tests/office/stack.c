@@ -189,11 +189,12 @@ static size_t painted(void (*call)(void), char *stack, char paint)
     return one.taken;
 }
 
-/* The limits are x86-64's; another back end lays its frames out in another way, and may take this much more. */
+/* The limits: what the functions took before W-204, but 8 KiB for a table and 22 KiB for a file's three, where that request asks for 16 and 30.
+ * They are x86-64's; another back end lays its frames out in another way, and may take this much more. */
 #ifdef __x86_64__
 #define MORE 0
 #else
-#define MORE 64
+#define MORE 96
 #endif
 
 static int above; /* how many functions took more than their limits */
@@ -220,12 +221,12 @@ int main(int count, char **words)
     measure("molsadriu_station_book", station_book, 25320, stack);
     measure("molsadriu_coefficients", coefficients, 1136, stack);
     measure("molsadriu_misclosure", misclosure, 624, stack);
-    measure("molsadriu_adjust_table", adjust_table, 7 * 1024, stack);
-    measure("molsadriu_adjust_file", adjust_file, 21 * 1024, stack);
+    measure("molsadriu_adjust_table", adjust_table, 8 * 1024, stack);
+    measure("molsadriu_adjust_file", adjust_file, 22 * 1024, stack);
     measure("molsadriu_probable_error", probable_error, 112, stack);
-    measure("molsadriu_probable_file", probable_file, 21 * 1024, stack);
+    measure("molsadriu_probable_file", probable_file, 22 * 1024, stack);
     measure("molsadriu_refused_line", refused_line, 992, stack);
-    measure("molsadriu_list_file", list_file, 21 * 1024, stack);
+    measure("molsadriu_list_file", list_file, 22 * 1024, stack);
     measure("molsadriu_line", line, 8, stack);
     measure("molsadriu_line_status", line_status, 8, stack);
     free(stack);

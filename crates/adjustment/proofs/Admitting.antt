@@ -3,7 +3,7 @@
 --   Counts, counts-known          from the counts
 --   Lengths, lengths-known        from the lengths
 --   weight-known                  the range of an inverse weight
---   directions-known              the ranges of the directions and of q
+--   InRange, directions-known     the ranges of the directions and of q
 --   sound-table                   all that the solution needs
 use mathlib.Core.Path.{_≡_, refl, sym, _∙_, ap, subst}
 use mathlib.Core.Bool.{Bool, true, false, _||_, not, cond}
@@ -22,7 +22,6 @@ use Rattle.exact.proofs.Order.{lt-false}
 use Rattle.exact.proofs.Searching.{all-failed, neither}
 use Rattle.reply.specs.declared.Refusal.{Refusal}
 use Rattle.reply.specs.declared.Refusal.the-variants.{Count, OutOfRange, Coefficient, Misclosure}
-use Rattle.reply.specs.declared.Reply.{Reply}
 use Rattle.reply.specs.declared.Reply.the-variants.{Accepted, Refused}
 use Rattle.reply.proofs.Checking.{none-refused}
 use Rattle.direction.specs.Ranges.{weightOutOfRange, outOfRange, faultAt, directionsReply}
@@ -32,27 +31,24 @@ use Rattle.doolittle.specs.Inner.{Sound}
 
 -- ---- the reply; the six numbers are the lengths of the answer lists
 module _ (ds qs cs ws : List ℤ) (v u adjusted k r Q : ℕ) where
-  abbrev input : Reply
-  input = inputReply ds qs cs ws v u adjusted k r Q
-
   abbrev lengths-amiss : Bool
   lengths-amiss = lengthsAmiss (length ds) (length ws) (length qs) (length cs) v u adjusted k r Q
 
-  pub by-counts : countsAmiss (length ds) (length ws) ≡ true → input ≡ Refused (Count 0)
+  pub by-counts : countsAmiss (length ds) (length ws) ≡ true → inputReply ds qs cs ws v u adjusted k r Q ≡ Refused (Count 0)
   unfolding inputReply
   by-counts e = rw e
 
   module _ (a : countsAmiss (length ds) (length ws) ≡ false) where
-    pub by-lengths : lengths-amiss ≡ true → input ≡ Refused (Count 0)
+    pub by-lengths : lengths-amiss ≡ true → inputReply ds qs cs ws v u adjusted k r Q ≡ Refused (Count 0)
     unfolding inputReply
     by-lengths e = rw (a, e)
 
     module _ (b : lengths-amiss ≡ false) where
-      pub by-directions : {why : Refusal} → directionsReply ds qs ≡ Refused why → input ≡ Refused why
+      pub by-directions : {why : Refusal} → directionsReply ds qs ≡ Refused why → inputReply ds qs cs ws v u adjusted k r Q ≡ Refused why
       unfolding inputReply
       by-directions e = rw (a, b, e)
 
-      pub by-conditions : directionsReply ds qs ≡ Accepted → input ≡ conditionsReply (tableOf qs cs ws)
+      pub by-conditions : directionsReply ds qs ≡ Accepted → inputReply ds qs cs ws v u adjusted k r Q ≡ conditionsReply (tableOf qs cs ws)
       unfolding inputReply
       by-conditions e = rw (a, b, e)
 

@@ -1,4 +1,5 @@
--- The promise of `adjust`, from what its checks have said. Assumes nothing.
+-- The promise of `adjust`, from what its checks have said, and what `adjust_own` needs of it. Assumes nothing.
+--   input                    the reply of the input checks
 --   refused-input            what the input checks refuse is refused
 --   refused-adjusts          a refusal that is the rule's reply, with the lists as they were lent, keeps the promise
 --   accepted-adjusts         so does an accepted table whose lists are the rules' answers: what the promise says of accepted tables holds of them
@@ -9,6 +10,7 @@
 --   accepted-demand3, accepted-within-minute      of every table that the rules accept: demand 3, and no printed correction is past one minute
 --   refusal-leaves-lists     a refusal that keeps the promise leaves the six lent lists as they were
 --   only-reply               two replies that keep the promise are equal, and leave equal lists
+--   only-own                 so are those of a caller with lists of its own, whose lists are equal where the table is accepted
 use mathlib.Core.Path.{_≡_, refl, sym, _∙_, ap, subst}
 use mathlib.Core.Bool.{Bool, false}
 use mathlib.Core.List.{List}
@@ -35,6 +37,7 @@ use Rattle.adjustment.specs.Corrections.{V-of, R-of, u-of, Q-of}
 use Rattle.adjustment.specs.Refusals.{countsAmiss, lengthsAmiss, conditionsReply, rowsReply, correlatesReply, remaindersReply, correctionsReply, solutionReply, inputReply}
 use Rattle.adjustment.specs.Demand.{Demand3}
 use Rattle.adjustment.specs.Promise.{Answers, adjustReply, answersOf, WithinMinute, Adjusts}
+use Rattle.adjustment.specs.Inner.{AdjustsOwn}
 use Rattle.doolittle.specs.Inner.{Small, Sound}
 use Rattle.doolittle.proofs.Reducing.{sound-at}
 use Rattle.adjustment.proofs.Admitting.{counts-known, Lengths, lengths-known, directions-known, sound-table}
@@ -171,3 +174,6 @@ module _ (ds qs cs ws : List ℤ) (lent : Answers) where
   only-reply r r' left left' a b =
       let e : r ≡ r' = a .answer ∙ sym (b .answer) in
       (e, a .lists ∙ ap (λ (x : Reply). leaves x (answersOf t (K t) (at ds)) lent) e ∙ sym (b .lists))
+
+  pub only-own : (r r' : Reply) (left left' : Answers) → AdjustsOwn ds qs cs ws lent r left → AdjustsOwn ds qs cs ws lent r' left' → (r ≡ r') × (r ≡ Accepted → left ≡ left')
+  only-own r r' left left' a b = let e : r ≡ r' = a .answer ∙ sym (b .answer) in (e, λ f. a .lists f ∙ sym (b .lists (sym e ∙ f)))

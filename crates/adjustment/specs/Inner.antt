@@ -1,4 +1,4 @@
--- What the inner functions hand each other. No part of the promise.
+-- What the inner functions hand each other, and `adjust_own` the crate above. No part of the promise.
 use mathlib.Core.Path.{_≡_}
 use mathlib.Core.List.{List}
 use Prim.Native.Nat.{ℕ, _<_}

@@ -1,5 +1,5 @@
 // Adjustment of a condition table: the one public operation, `adjust`. It checks the lent table, solves it, and only then writes the lent answer lists.
-// `adjust_own` is the same for `listing`, whose lists are its own: it needs no second set of them.
+// `adjust_own` is for `listing` alone, whose answer lists are its own: there a refusal may leave anything, and no second set of lists is needed.
 mod correct;
 mod table;
 

@@ -25,7 +25,7 @@ fn differ(count: usize, x: usize, y: usize, z: usize) -> bool
 }
 
 // Some length disagrees with the counts: q and the coefficients, the three answers by direction (V, u, adjusted), the three by condition (K, R, Q).
-pub fn lengths_amiss(
+fn lengths_amiss(
     m: usize,
     n: usize,
     q: usize,
@@ -69,7 +69,7 @@ fn coefficient_fault(a: &[i64], at: usize, m: usize) -> bool
 }
 
 // Refuses the first condition with a coefficient or a misclosure beyond its range, the coefficients first.
-pub fn check_conditions(q: &[i64], a: &[i64], w: &[i64]) -> Reply
+fn check_conditions(q: &[i64], a: &[i64], w: &[i64]) -> Reply
     requires { ⌜ length (now a) ≡ length (now w) * length (now q) ⌝ }
     ensures { λ r. ⌜ r ≡ conditionsReply (tableOf (now (q .entry)) (now (a .entry)) (now (w .entry))) ⌝ }
 {

@@ -1,6 +1,6 @@
 -- The rows in their one table, as one row after another is written. Assumes nothing.
 --   zero-rows                       the rows before anything is written
---   row-put, row-cases              the rows, one of them replaced
+--   row-put                         the rows, one of them replaced
 --   kept-none, kept-put, kept-then  what a function leaves as it was: nothing written, one row replaced, one step after another
 --   column-more                     a column of the rows, written downwards, one number more
 --   rows-kept                       the first rows of a table stay its first rows
@@ -22,7 +22,7 @@ module _ (rows : List (List ℤ)) (shape : Shaped rows) where
     row-put = getD-set-same rows g row [] (omega (arith, shape .long))
 
     -- what holds of a row as it was, and of the new row at its place, holds of it now
-    pub row-cases : (P : ℕ → List ℤ → Type 0) → P g row → (h : ℕ) → P h (rowAt rows h) → P h (rowAt (set rows g row) h)
+    row-cases : (P : ℕ → List ℤ → Type 0) → P g row → (h : ℕ) → P h (rowAt rows h) → P h (rowAt (set rows g row) h)
     row-cases P new h old = pick (ℕ-discrete h g)
       where
         pick : Dec (h ≡ g) → P h (rowAt (set rows g row) h)

@@ -11,7 +11,7 @@ use native.Mathlib.Omega.{arith}
 use borrow.Author.Tests.{le-ltb}
 use lib.Dec.{ltb, leb}
 use lib.ListN.{length}
-use lib.IntN.{ℤ, pos, natAbs, _*ℤ_, *ℤ-zero}
+use lib.IntN.{ℤ, pos, natAbs, _*ℤ_}
 use lib.Signed.{ltZ, _≤ℤ_}
 use Rattle.exact.specs.Sum.{sum}
 use Rattle.exact.proofs.Bound.{abs-mul}
@@ -22,8 +22,8 @@ use Rattle.exact.proofs.Searching.{some-none, from-test, from-failed}
 use Rattle.exact.proofs.Sum.{sum-ext, sum-zero, sum-nonneg, sum-zeros}
 use Rattle.doolittle.specs.Table.{Table, tableOf}
 use Rattle.doolittle.specs.Solution.{N, reduced, D, L, multiplier, lowPivot, weak}
-use Rattle.doolittle.specs.Inner.{Sound}
-use Rattle.doolittle.proofs.Reducing.{N-size}
+use Rattle.doolittle.specs.Inner.{Sound, share}
+use Rattle.doolittle.proofs.Reducing.{untouched, N-size}
 use Rattle.doolittle.proofs.Weakness.{largeD, largeM, weak-by-low, weak-by-multiplier}
 
 -- condition j has no coefficient other than zero
@@ -40,7 +40,8 @@ module _ (t : Table) (j : ℕ) where
   entry-is = sum-ext (t .m) (λ i. t .q i *ℤ t .a j i *ℤ t .a j i) square (λ i l. *ℤ-assoc (t .q i) (t .a j i) (t .a j i))
 
   pub zero-entry : Untouching t j → N t j j ≡ pos 0
-  zero-entry z = entry-is ∙ sum-ext (t .m) square (λ i. pos 0) (λ i l. ap (λ (a : ℤ). t .q i *ℤ (a *ℤ a)) (z i l) ∙ *ℤ-zero (t .q i)) ∙ sum-zero (t .m)
+  unfolding N
+  zero-entry z = sum-ext (t .m) (share t j j) (λ i. pos 0) (λ i l. untouched t j j i (z i l)) ∙ sum-zero (t .m)
 
   module _ (weighted : (i : ℕ) → i < t .m → pos 1 ≤ℤ t .q i) where
     square-from-0 : (i : ℕ) → i < t .m → pos 0 ≤ℤ square i

@@ -1,11 +1,13 @@
 -- The reduction of the rows. Assumes nothing.
 --   parts-none, parts-more          a number with the parts that rows add to it, as a loop adds them
+--   untouched                       a direction that a condition does not touch adds nothing to its row of N
+--   Formed, formed-more, formed-all a row of N as the first directions give it; with one direction more; with all
 --   reduced-sum, D-rule, L-rule     the rules' own equations of D and L
 --   check-column                    the row sum of N(j,k) is the sum over directions of q*a(j)*(sum of that direction's coefficients)
 --   sound-at                        what is known of a row that is not weak
---   N-size, normal-within, above-within      bounds of an entry and of a row of N, and of the rows above it: what the code adds and multiplies fits
+--   parts-within, N-size, normal-within, above-within      bounds of an entry of N, as far as it is formed and whole, of a row of N, and of the rows above
+--                                   it: what the code adds and multiplies fits
 --   row-reduced, row-weak, row-multiplied       a row of N with all rows above taken is the reduced row; its test; its multipliers
---   untouched, formed-more          a direction that a condition does not touch adds nothing to its row; a row of N with one direction more
 --   rows-none, rows-more            the rows, one after another
 use mathlib.Core.Path.{_≡_, sym, _∙_, ap, ap₂}
 use mathlib.Core.Bool.{false}
@@ -19,9 +21,9 @@ use Rattle.exact.specs.Sum.{sum}
 use Rattle.exact.proofs.Bound.{abs-mul}
 use Rattle.exact.proofs.Sum.{sum-none, sum-more, sum-ext, sum-mul, sum-swap}
 use Rattle.exact.proofs.Searching.{Failed}
-use Rattle.doolittle.specs.Table.{Table, at, tableOf}
+use Rattle.doolittle.specs.Table.{Table, inverseWeight, at, tableOf}
 use Rattle.doolittle.specs.Solution.{N, reduced, D, L, M, carried, multiplier, weakRow, weak}
-use Rattle.doolittle.specs.Inner.{Sound, CONSTANT, From, RowWithin, Holds, Rows, part, withAbove, rowAt, cell}
+use Rattle.doolittle.specs.Inner.{Sound, CONSTANT, From, RowWithin, Holds, Rows, share, withAbove, rowAt, cell}
 use Rattle.doolittle.proofs.Sizes.{sum-within, term-size}
 use Rattle.doolittle.proofs.Weakness.{SoundRow, sound-row, weak-ext}
 
@@ -33,19 +35,29 @@ parts-none own f = sym (ap (λ (z : ℤ). own +ℤ z) (sum-none f) ∙ +ℤ-idr 
 pub parts-more : (own : ℤ) (f : ℕ → ℤ) (b : ℕ) → (own +ℤ sum b f) +ℤ f b ≡ own +ℤ sum (b + 1) f
 parts-more own f b = +ℤ-assoc own (sum b f) (f b) ∙ ap (λ (z : ℤ). own +ℤ z) (sym (sum-more b f))
 
--- ---- the rules' own equations
+-- ---- a row of N, direction by direction
 module _ (t : Table) where
   -- a direction that condition j does not touch adds nothing
-  pub untouched : (j k i : ℕ) → t .a j i ≡ pos 0 → part t j k i ≡ pos 0
-  untouched j k i e = ap (λ (x : ℤ). t .q i *ℤ x *ℤ t .a k i) e ∙ ap (λ (x : ℤ). x *ℤ t .a k i) (*ℤ-zero (t .q i)) ∙ zero-*ℤ (t .a k i)
+  pub untouched : (j k i : ℕ) → t .a j i ≡ pos 0 → share t j k i ≡ pos 0
+  untouched j k i e =
+      ap (λ (x : ℤ). inverseWeight t i *ℤ x *ℤ t .a k i) e ∙ ap (λ (x : ℤ). x *ℤ t .a k i) (*ℤ-zero (inverseWeight t i)) ∙ zero-*ℤ (t .a k i)
 
-  -- a row of N, one direction more
-  pub formed-more : (j i : ℕ) (l : ℤ) (row next : List ℤ) → Holds j (t .n) (λ k. sum i (part t j k)) l row → Holds j (t .n) (λ k. at row k +ℤ part t j k i) (at row CONSTANT) next → Holds j (t .n) (λ k. sum (i + 1) (part t j k)) l next
-  formed-more j i l row next g e = record {
-    coefficients = λ k a b. e .coefficients k a b ∙ ap (λ (z : ℤ). z +ℤ part t j k i) (g .coefficients k a b) ∙ sym (sum-more i (part t j k));
+  -- what the first i directions give of row j
+  abbrev pub Formed : (j i : ℕ) → List ℤ → Type 0
+  Formed j i row = Holds j (t .n) (λ k. sum i (share t j k)) (pos 1000 *ℤ t .w j) row
+
+  pub formed-more : (j i : ℕ) (row next : List ℤ) → Formed j i row → Holds j (t .n) (λ k. at row k +ℤ share t j k i) (at row CONSTANT) next → Formed j (i + 1) next
+  formed-more j i row next g e = record {
+    coefficients = λ k a b. e .coefficients k a b ∙ ap (λ (z : ℤ). z +ℤ share t j k i) (g .coefficients k a b) ∙ sym (sum-more i (share t j k));
     constant = e .constant ∙ g .constant;
   }
 
+  pub formed-all : (j : ℕ) (row : List ℤ) → Formed j (t .m) row → Holds j (t .n) (N t j) (pos 1000 *ℤ t .w j) row
+  unfolding N
+  formed-all j row g = g
+
+-- ---- the rules' own equations
+module _ (t : Table) where
   pub reduced-sum : (i : ℕ) (x : ℕ → ℤ) (j : ℕ) → reduced t i x j ≡ x j +ℤ sum i (λ h. carried (M t h j) (reduced t h x h))
   unfolding reduced M D sum
   reduced-sum zero x j = sym (+ℤ-idr (x j))
@@ -125,9 +137,9 @@ module _ (qs cs ws : List ℤ) (s : Sound qs cs ws) where
   t = tableOf qs cs ws
 
   -- what the first i directions add to N(j,k)
-  pub parts-within : (j k i : ℕ) → j < t .n → k < t .n → i ≤ t .m → natAbs (sum i (part t j k)) ≤ 2560000000
+  pub parts-within : (j k i : ℕ) → j < t .n → k < t .n → i ≤ t .m → natAbs (sum i (share t j k)) ≤ 2560000000
   parts-within j k i h l b =
-      sum-within i 64 40000000 (part t j k) (omega (arith, s .m-most))
+      sum-within i 64 40000000 (share t j k) (omega (arith, s .m-most))
       (λ e c. let d : e < t .m = omega arith in term-size (t .q e) (t .a j e) (t .a k e) (s .q-most e d) (s .a-most j h e d) (s .a-most k l e d))
 
   pub N-size : (j k : ℕ) → j < t .n → k < t .n → natAbs (N t j k) ≤ 2560000000

@@ -1,7 +1,7 @@
 -- Bounds under which no step of the solution overflows. Assumes nothing.
 --   carried-size       what a row above adds: at most 1,000 times the bound of what it multiplies, and one
 --   sum-within         a sum of at most so many terms, each within a bound
---   term-size, product-size      a term of N(j,k); one of the sums of a*V, a*u and a*K
+--   term-size, product-size      a term of N(j,k); a product of numbers with bounds of their own
 --   parts-size         a number with the parts that up to 24 rows add to it
 --   own-size           a row's own part of its correlate
 --   row-end, next-row  where row j of a flat list ends, and where the next begins
@@ -33,7 +33,7 @@ sum-within n most B f h k = le-trans (sum-abs n B f k) (mul-le h (le-refl B))
 pub term-size : (q x y : ℤ) → natAbs q ≤ 10 → natAbs x ≤ 2000 → natAbs y ≤ 2000 → natAbs (q *ℤ x *ℤ y) ≤ 40000000
 term-size q x y f g h = let a = bounded q f in let b = bounded x g in let c = bounded y h in abs-in {z = q *ℤ x *ℤ y} (search bounds) tt
 
--- a term of a sum of products: of a*V, a*u or a*K
+-- a product: a term of a sum of a*V, a*u or a*K, or q*a
 pub product-size : (x y : ℤ) {A B : ℕ} → natAbs x ≤ A → natAbs y ≤ B → natAbs (x *ℤ y) ≤ A * B
 product-size x y f g = rw (abs-mul x y) (mul-le f g)
 

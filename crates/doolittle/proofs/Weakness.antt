@@ -2,7 +2,6 @@
 --   largeD, largeM                the parts of the test that search the row
 --   weak-by-coefficient, weak-by-constant, weak-by-low      each of these parts by itself makes a row weak
 --   weak-by-multiplier            where they do not, the multipliers decide
---   not-true                      a row is weak or it is not
 --   high-pivot                    a pivot that is not low divides, and 1,000 times it is not below its entry
 --   SoundRow, sound-row           what is known of a row that is not weak
 --   weak-ext                      the test reads the coefficients from j to n alone
@@ -44,10 +43,6 @@ module _ (n j : ℕ) (entry : ℤ) (d : ℕ → ℤ) (l : ℤ) where
   pub weak-by-multiplier : largeD n j d ≡ false → natAbs l ≤ 4000000000 → lowPivot (d j) entry ≡ false → weakRow n j entry d l ≡ largeM n j d
   unfolding weakRow
   weak-by-multiplier e f h = rw (e, le-ltb 4000000000 (natAbs l) f, h)
-
--- what is said of a row that is not weak says nothing of one that is
-pub not-true : {A : Type 0} → true ≡ false → A
-not-true e = let z : _≡_ {A = ℕ} 0 1 = cc in absurd (omega arith)
 
 -- ---- a row that is not weak
 pub high-pivot : (x entry : ℤ) → lowPivot x entry ≡ false → (pos 0 <ℤ x) × (entry ≤ℤ (pos 1000 *ℤ x))

@@ -35,7 +35,7 @@ pub record Sound (qs cs ws : List ℤ) : Type 0 where
 abbrev pub CONSTANT : ℕ
 CONSTANT = 24
 
--- row i of a triangle, or of the multipliers; what stands at its place k
+-- row i of a triangle; what stands at its place k
 abbrev pub rowAt : List (List ℤ) → ℕ → List ℤ
 rowAt rows i = getD rows i []
 
@@ -61,10 +61,11 @@ pub record Holds (j n : ℕ) (d : ℕ → ℤ) (l : ℤ) (row : List ℤ) : Type
   pub constant : at row CONSTANT ≡ l
 
 -- what direction i adds to N(j,k)
-abbrev pub part : Table → (j k i : ℕ) → ℤ
-part t j k i = inverseWeight t i *ℤ t .a j i *ℤ t .a k i
+abbrev pub share : Table → (j k i : ℕ) → ℤ
+share t j k i = inverseWeight t i *ℤ t .a j i *ℤ t .a k i
 
 -- ---- the triangle: row j has the multipliers M(i,j) of the rows above it at places i before j, D(j,k) from place j on, and L(j) at the last place
+
 -- 24 rows of 25 places
 pub record Shaped (rows : List (List ℤ)) : Type 0 where
   pub long : length rows ≡ 24

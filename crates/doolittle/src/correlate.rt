@@ -30,8 +30,8 @@ fn correlate(rows: &[Row; 24], k: &[i64], j: usize, n: usize) -> i64
     s
 }
 
-// All correlates in back order, up to the first that is beyond 10^8, into a lent list. The answer is 0 where none is; else row `answer`, counted from 1, has
-// the first. Whatever table the rows are of, they are its correlates.
+// All correlates in back order, up to the first that is beyond 10^8, into a lent list; 0 where none is, else the row of that one, counted from 1. Whatever
+// table the rows are of, they are its correlates.
 pub fn correlates(rows: &[Row; 24], n: usize, k: &mut [i64]) -> usize
     requires { ⌜ (n ≤ 24) × (n ≤ length (now k)) ⌝ }
     requires { ⌜ ((j : ℕ) → j < n → BackWithin j n (now rows)) ⌝ }

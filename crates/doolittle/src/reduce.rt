@@ -1,27 +1,26 @@
 // The normals and the reduced rows. A row is formed direction by direction; every row above it adds its part, each product once; then it is tested, and its
 // multipliers go into the rows below it.
 ghost use mathlib.Core.Path.{_≡_};
-ghost use mathlib.Core.Bool.{true, false, _&&_};
-ghost use Prim.Native.Nat.{ℕ, suc, _+_, _*_, _≤_, _<_};
-ghost use lib.ListN.{length, getD};
+ghost use mathlib.Core.Bool.{false, _&&_};
+ghost use Prim.Native.Nat.{ℕ, suc, _*_, _≤_, _<_};
+ghost use lib.ListN.{length};
 ghost use lib.IntN.{pos, negℤ, natAbs, _+ℤ_, _*ℤ_};
 ghost use lib.Signed.{_<ℤ_};
 ghost use lib.Dec.{ltb, leb};
-ghost use Rattle.exact.specs.Sum.{sum};
 ghost use Rattle.exact.specs.Nearest.{nearest};
 ghost use Rattle.exact.specs.First.{first, some-below};
 ghost use Rattle.doolittle.specs.Table.{at, tableOf};
 ghost use Rattle.doolittle.specs.Solution.{N, carried, multiplier, lowPivot, weakRow, weak};
-ghost use Rattle.doolittle.specs.Inner.{Sound, CONSTANT, From, Before, RowWithin, Holds, Shaped, Kept, Rows, part, withAbove, rowAt, cell};
+ghost use Rattle.doolittle.specs.Inner.{Sound, CONSTANT, From, Before, RowWithin, Holds, Shaped, Kept, Rows, share, withAbove, rowAt, cell};
 
-// Row j of the triangle: the multipliers M(i,j) of the rows above it at places i before j, its coefficients D(j,k) at their places k from j on, and its
-// constant L(j) at the last place. A row's own multipliers stand in the rows below it, where those read them.
+// A row: its coefficients at their places, and its constant at the last place. In the triangle row j has D(j,k) from place j on, L(j), and before place j
+// the multipliers M(i,j) of the rows above; its own stand in the rows below, where those read them.
 pub type Row = [i64; 25];
 
 // The place of a row's constant.
 pub const CONSTANT: usize = 24;
 
-// q*x, where q is an inverse weight.
+// q*x, where q is an inverse weight: of a coefficient here, and in `adjustment` of a sum of a*K.
 pub fn weighted(q: i64, x: i64) -> i64
     requires { ⌜ (natAbs q ≤ 10) × (natAbs x ≤ 4800000000000) ⌝ }
     ensures { λ r. ⌜ r ≡ q *ℤ x ⌝ }
@@ -29,7 +28,7 @@ pub fn weighted(q: i64, x: i64) -> i64
     q * x
 }
 
-// s + x*y.
+// s + x*y: for N here, and in `adjustment` for V, R and Q.
 pub fn plus_product(s: i64, x: i64, y: i64) -> i64
     requires { ⌜ (natAbs s ≤ 7000000000000000000) × (natAbs x ≤ 20000) × (natAbs y ≤ 50000000000000) ⌝ }
     ensures { λ r. ⌜ r ≡ s +ℤ x *ℤ y ⌝ }
@@ -37,13 +36,14 @@ pub fn plus_product(s: i64, x: i64, y: i64) -> i64
     s + x * y
 }
 
-// What direction i adds to row j: q(i)*a(j,i)*a(k,i) to the entry at each place k from j on; nothing where the condition does not touch the direction.
+// What direction i adds to row j: q(i)*a(j,i)*a(k,i) to the entry at each place k from j on; nothing where the condition does not touch the direction. The
+// coefficients of row j begin at `start`, those of row k at `to`.
 fn add_direction(q: &[i64], a: &[i64], w: &[i64], j: usize, start: usize, i: usize, row: &mut [i64])
     requires { ⌜ Sound (now q) (now a) (now w) ⌝ }
     requires { ⌜ (j < length (now w)) × (start ≡ j * length (now q)) × (i < length (now q)) ⌝ }
-    requires { ⌜ (24 < length (now row)) × From j (length (now w)) (λ k. natAbs (at (now row) k) ≤ 2560000000) ⌝ }
+    requires { ⌜ (CONSTANT < length (now row)) × From j (length (now w)) (λ k. natAbs (at (now row) k) ≤ 2560000000) ⌝ }
     ensures { λ _. ⌜ Holds j (length (now (w .entry)))
-        (λ k. at (now (row .entry)) k +ℤ part (tableOf (now (q .entry)) (now (a .entry)) (now (w .entry))) j k i)
+        (λ k. at (now (row .entry)) k +ℤ share (tableOf (now (q .entry)) (now (a .entry)) (now (w .entry))) j k i)
         (at (now (row .entry)) CONSTANT) (now (row .exit)) ⌝ }
 {
     let x = a[start + i];
@@ -90,7 +90,7 @@ fn normal_row(q: &[i64], a: &[i64], w: &[i64], j: usize, start: usize) -> Row
 }
 
 // nearest(M*x / 10^6): what a row above adds.
-pub fn carried(m: i64, x: i64) -> i64
+fn carried(m: i64, x: i64) -> i64
     requires { ⌜ (natAbs m ≤ 1000000000) × (natAbs x ≤ 4000000000) ⌝ }
     ensures { λ r. ⌜ r ≡ carried m x ⌝ }
 {
@@ -142,15 +142,15 @@ fn reduced(row: Row, rows: &[Row; 24], j: usize, n: usize) -> Row
     next
 }
 
-// Some number of a row, from place `from` to place `n`, is larger than the limit.
-fn some_large(xs: &[i64], from: usize, n: usize, limit: u64) -> bool
-    requires { ⌜ (from ≤ n) × (n ≤ length (now xs)) ⌝ }
-    ensures { λ r. ⌜ r ≡ some-below n (λ k. leb from k && ltb limit (natAbs (getD (now (xs .entry)) k (pos 0)))) ⌝ }
+// Some coefficient of row j, from place j to place n, is larger than 2,560,000,000.
+fn some_large(row: &[i64], j: usize, n: usize) -> bool
+    requires { ⌜ (j ≤ n) × (n ≤ length (now row)) ⌝ }
+    ensures { λ r. ⌜ r ≡ some-below n (λ k. leb j k && ltb 2560000000 (natAbs (at (now (row .entry)) k))) ⌝ }
 {
-    let mut k = from;
+    let mut k = j;
     while k < n {
-        let x = xs[k];
-        if limit < exact::magnitude(x) {
+        let x = row[k];
+        if 2560000000 < exact::magnitude(x) {
             return true;
         }
         k += 1;
@@ -207,7 +207,7 @@ fn is_weak(row: Row, entry: i64, j: usize, n: usize, rows: &mut [Row; 24]) -> bo
     ensures { λ r. ⌜ (r ≡ false → From (suc j) n (λ k. cell (now (rows .exit)) k j ≡ multiplier (at row k) (at row j))) ⌝ }
     ensures { λ _. ⌜ Kept j (now (rows .entry)) (now (rows .exit)) ⌝ }
 {
-    if some_large(&row, j, n, 2560000000) {
+    if some_large(&row, j, n) {
         return true;
     }
     let l = row[CONSTANT];

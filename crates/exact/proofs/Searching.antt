@@ -6,6 +6,7 @@
 --   first-ext           of tests that agree below n
 --   from-failed, from-test, from-ext, from-none      a search that begins at j: whatever lies before j fails, from j on the test decides
 --   Failed, failed-none, failed-more       the loop's invariant: all below i fail
+--   not-both            a test does not both hold and fail
 --   neither, either     where one test or the other does not hold, neither does; where the second holds, one or the other does
 use mathlib.Core.Path.{_≡_, refl, sym, _∙_, ap, subst}
 use mathlib.Core.Bool.{Bool, true, false, cond, _||_, _&&_}
@@ -17,8 +18,12 @@ use borrow.Author.Count.{below-more}
 use lib.Dec.{T, leb}
 use Rattle.exact.specs.First.{first, some-below}
 
+-- a test does not both hold and fail
+pub not-both : {A : Type 0} → true ≡ false → A
+not-both e = let z : _≡_ {A = ℕ} 0 1 = cc in absurd (omega arith)
+
 pub neither : (a b : Bool) → (a || b) ≡ false → (a ≡ false) × (b ≡ false)
-neither true b h = let z : _≡_ {A = ℕ} 0 1 = cc in absurd (omega arith)
+neither true b h = not-both h
 neither false b h = (refl, h)
 
 pub either : (a b : Bool) → b ≡ true → (a || b) ≡ true

@@ -12,7 +12,7 @@ use mir.Val.{toZ, ofZ}
 use Rattle.exact.proofs.Bound.{read-at, read-within}
 use Rattle.exact.proofs.Filling.{Filled, filled-none, filled-more}
 use Rattle.doolittle.specs.Table.{Table, at, tableOf}
-use Rattle.doolittle.specs.Inner.{part}
+use Rattle.doolittle.specs.Inner.{share}
 use Rattle.doolittle.proofs.Sizes.{product-size, row-end, next-row}
 use Rattle.doolittle.proofs.Reducing.{untouched}
 use Rattle.doolittle.proofs.reduce.add_direction.Statement.{statement}
@@ -20,7 +20,7 @@ use Rattle.doolittle.proofs.reduce.add_direction.Tie as tie
 
 -- the entry at place k with the part of direction i
 abbrev added : Table → ℕ → ℕ → List ℤ → ℕ → ℤ
-added t j i row k = at row k +ℤ part t j k i
+added t j i row k = at row k +ℤ share t j k i
 
 abbrev Inv-loop : tie.InvT-loop
 Inv-loop q a w j start i row₀ x g gx to₀ k₀ row to k = (k ≤ length w) × (to ≡ k * length q) × Filled (pos 0) (added (tableOf q a w) j i row₀) j k row₀ row

@@ -12,12 +12,12 @@ use lib.IntN.{ℤ, natAbs}
 use mir.Syntax.{w64}
 use mir.Val.{toZ, ofZ}
 use Rattle.exact.proofs.Bound.{read, read-at, read-within}
-use Rattle.exact.proofs.Searching.{from-none}
+use Rattle.exact.proofs.Searching.{not-both, from-none}
 use Rattle.doolittle.specs.Table.{at}
 use Rattle.doolittle.specs.Solution.{lowPivot}
 use Rattle.doolittle.specs.Inner.{From, Kept}
 use Rattle.doolittle.proofs.Keeping.{kept-none}
-use Rattle.doolittle.proofs.Weakness.{not-true, largeD, weak-by-coefficient, weak-by-constant, weak-by-low, weak-by-multiplier, high-pivot}
+use Rattle.doolittle.proofs.Weakness.{largeD, weak-by-coefficient, weak-by-constant, weak-by-low, weak-by-multiplier, high-pivot}
 use Rattle.doolittle.proofs.reduce.is_weak.Statement.{statement}
 use Rattle.doolittle.proofs.reduce.is_weak.Tie as tie
 
@@ -51,7 +51,7 @@ large-is c = c .some-large .ensures
 returns : tie.Need-returns
 returns c =
     let s = c .before .before .before in
-    (sym (weak-by-coefficient (n s) (j s) (entry s) (at (row s)) (at (row s) 24) (sym (large-is (c .before)) ∙ c .if1 .taken)), (not-true, all-kept s))
+    (sym (weak-by-coefficient (n s) (j s) (entry s) (at (row s)) (at (row s) 24) (sym (large-is (c .before)) ∙ c .if1 .taken)), (not-both, all-kept s))
 
 array-copy-out-l : tie.Need-array-copy-out-l
 array-copy-out-l c = search needs
@@ -77,7 +77,7 @@ module _ (c : tie.After-magnitude) where
 returns-2 : tie.Need-returns-2
 returns-2 c =
     let b = c .before in let s = start2 b in
-    (sym (weak-by-constant (n s) (j s) (entry s) (at (row s)) (at (row s) 24) (rw (size-is b) at (c .if2 .taken))), (not-true, all-kept s))
+    (sym (weak-by-constant (n s) (j s) (entry s) (at (row s)) (at (row s) 24) (rw (size-is b) at (c .if2 .taken))), (not-both, all-kept s))
 
 mul-pivot : tie.Need-mul-pivot
 mul-pivot c = search needs
@@ -108,7 +108,7 @@ low-is c = let s = start3 (c .before) in c .is-low .ensures ∙ ap₂ lowPivot (
 returns-3 : tie.Need-returns-3
 returns-3 c =
     let b = c .before .before in let s = start3 b in
-    (sym (weak-by-low (n s) (j s) (entry s) (at (row s)) (at (row s) 24) (sym (low-is (c .before)) ∙ c .if3 .taken)), (not-true, all-kept s))
+    (sym (weak-by-low (n s) (j s) (entry s) (at (row s)) (at (row s) 24) (sym (low-is (c .before)) ∙ c .if3 .taken)), (not-both, all-kept s))
 
 -- the pivot is not low
 sound-pivot : (c : tie.Else3) → lowPivot (at (row (start3 (c .before .before))) (j (start3 (c .before .before)))) (entry (start3 (c .before .before))) ≡ false

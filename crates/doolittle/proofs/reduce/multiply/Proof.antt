@@ -15,12 +15,11 @@ use lib.IntN.{ℤ, pos, natAbs}
 use mir.Syntax.{w64}
 use mir.Val.{toZ, ofZ}
 use Rattle.exact.proofs.Bound.{read-at}
-use Rattle.exact.proofs.Searching.{Failed, failed-more, some-at, some-none, from-failed, from-test}
+use Rattle.exact.proofs.Searching.{not-both, Failed, failed-more, some-at, some-none, from-failed, from-test}
 use Rattle.doolittle.specs.Table.{at}
 use Rattle.doolittle.specs.Solution.{multiplier}
 use Rattle.doolittle.specs.Inner.{From, Kept, rowAt, cell}
 use Rattle.doolittle.proofs.Keeping.{kept-none, kept-put, kept-then, column-more}
-use Rattle.doolittle.proofs.Weakness.{not-true}
 use Rattle.doolittle.proofs.reduce.multiply.Statement.{statement}
 use Rattle.doolittle.proofs.reduce.multiply.Tie as tie
 
@@ -31,8 +30,11 @@ factor row j k = multiplier (at row k) (at row j)
 abbrev large : List ℤ → ℕ → ℕ → Bool
 large row j k = ltb 1000000000 (natAbs (factor row j k))
 
+abbrev test : List ℤ → ℕ → ℕ → Bool
+test row j k = ltb j k && large row j k
+
 abbrev Inv-loop : tie.InvT-loop
-Inv-loop j n rows₀ row pivot k₀ rows k = (j < k) × (k ≤ n) × Failed (λ k. ltb j k && large row j k) k × Kept j rows₀ rows × From (suc j) k (λ h. cell rows h j ≡ factor row j h)
+Inv-loop j n rows₀ row pivot k₀ rows k = (j < k) × (k ≤ n) × Failed (test row j) k × Kept j rows₀ rows × From (suc j) k (λ h. cell rows h j ≡ factor row j h)
 
 abbrev μ-loop : tie.MeasureT-loop
 μ-loop j n rows₀ row pivot k₀ rows k = n - k
@@ -48,10 +50,10 @@ add-k c = search needs
 
 loop-holds : tie.Need-loop-holds Inv-loop μ-loop
 loop-holds c =
-    let s = c .before in let j = s .args .j in let row = s .args .t1 in let test : ℕ → Bool = λ k. ltb j k && large row j k in (
+    let s = c .before in let j = s .args .j in let row = s .args .t1 in (
       omega arith,
       omega arith,
-      subst (Failed test) (sym (add-one j)) (from-failed (suc j) (large row j)),
+      subst (Failed (test row j)) (sym (add-one j)) (from-failed (suc j) (large row j)),
       kept-none (now (s .args .rows)) (s .pre .0 .2) j,
       λ h a b. absurd (omega arith),
     )
@@ -116,9 +118,9 @@ module _ (c : tie.After-magnitude Inv-loop μ-loop) where
 returns : tie.Need-returns Inv-loop μ-loop
 returns c =
     let b = c .before in let u = turn b in let v = loop u .loop .inv in (
-      sym (some-at (start u .args .n) (λ k. ltb (j u) k && large (row u) (j u) k) (k u) (below u) (v .2)
+      sym (some-at (start u .args .n) (test (row u) (j u)) (k u) (below u) (v .2)
           (from-test (suc (j u)) (k u) (large (row u) (j u)) (v .0) ∙ lt-ltb 1000000000 _ (rw (size-is b) at (c .if1 .taken)))),
-      (not-true, v .3),
+      (not-both, v .3),
     )
 
 mul-m : tie.Need-mul-m Inv-loop μ-loop
@@ -145,7 +147,7 @@ loop-again c =
     let low : k u < 24 = omega (arith, below u, start u .pre .0 .1) in let next = set (rowAt rows (k u)) (j u) (m b) in (
       omega arith,
       omega (arith, below u),
-      failed-more (λ k. ltb (j u) k && large (row u) (j u) k) (k u) (v .2)
+      failed-more (test (row u) (j u)) (k u) (v .2)
           (from-test (suc (j u)) (k u) (large (row u) (j u)) (v .0) ∙ le-ltb 1000000000 _ (rw (size-is b) at (c .if1 .left))),
       kept-then (v .3)
           (kept-put rows shape (k u) next low (j u) (omega arith) (length-set (rowAt rows (k u)) (j u) (m b) ∙ shape .wide (k u) low)
@@ -156,8 +158,8 @@ loop-again c =
 returns-2 : tie.Need-returns-2 Inv-loop μ-loop
 returns-2 c =
     let l = c .before in let s = l .before .before in let v = l .loop .inv in let j = s .args .j in
-    let e : l .loop .k ≡ s .args .n = omega arith in let test : ℕ → Bool = λ k. ltb j k && large (s .args .t1) j k in (
-      sym (some-none (s .args .n) test (subst (Failed test) e (v .2))),
+    let e : l .loop .k ≡ s .args .n = omega arith in let row = s .args .t1 in (
+      sym (some-none (s .args .n) (test row j) (subst (Failed (test row j)) e (v .2))),
       ((λ f k h i. v .4 k h (omega arith)), v .3),
     )
 

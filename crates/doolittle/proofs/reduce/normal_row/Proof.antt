@@ -1,6 +1,5 @@
 -- `reduce::normal_row` meets its contract. Assumes nothing.
-use mathlib.Core.Path.{_≡_, sym, _∙_, ap}
-use mathlib.Core.List.{List}
+use mathlib.Core.Path.{_≡_, sym, _∙_, ap, subst}
 use Prim.Native.Nat.{ℕ, _-_, _≤_}
 use native.Mathlib.Omega.{arith}
 use borrow.Author.Needs.{needs}
@@ -10,19 +9,13 @@ use lib.Seq.{getD-set-same, getD-set-other}
 use lib.IntN.{ℤ, pos, _*ℤ_}
 use mir.Syntax.{w64}
 use mir.Val.{toZ, ofZ}
-use Rattle.exact.specs.Sum.{sum}
 use Rattle.exact.proofs.Sum.{sum-none}
 use Rattle.exact.proofs.Bound.{read-at, read-within}
 use Rattle.doolittle.specs.Table.{Table, at, tableOf}
-use Rattle.doolittle.specs.Solution.{N}
-use Rattle.doolittle.specs.Inner.{Holds, part}
-use Rattle.doolittle.proofs.Reducing.{parts-within, formed-more}
+use Rattle.doolittle.specs.Inner.{share}
+use Rattle.doolittle.proofs.Reducing.{Formed, parts-within, formed-more, formed-all}
 use Rattle.doolittle.proofs.reduce.normal_row.Statement.{statement}
 use Rattle.doolittle.proofs.reduce.normal_row.Tie as tie
-
--- what the first i directions give
-abbrev Formed : Table → ℕ → ℕ → List ℤ → Type 0
-Formed t j i row = Holds j (t .n) (λ k. sum i (part t j k)) (pos 1000 *ℤ t .w j) row
 
 abbrev Inv-loop : tie.InvT-loop
 Inv-loop q a w j start x row₀ i₀ row i = (i ≤ length q) × (length row ≡ 25) × Formed (tableOf q a w) j i row
@@ -53,7 +46,7 @@ loop-holds c =
       omega arith,
       length-set zeros 24 x ∙ length-replicate 25 (pos 0),
       record {
-        coefficients = λ k h l. getD-set-other zeros 24 k x (pos 0) (λ e. omega (arith, s .pre .0 .n-most)) ∙ getD-replicate 25 k (pos 0) (pos 0) (omega (arith, s .pre .0 .n-most)) ∙ sym (sum-none (part (table s) (s .args .j) k));
+        coefficients = λ k h l. getD-set-other zeros 24 k x (pos 0) (λ e. omega (arith, s .pre .0 .n-most)) ∙ getD-replicate 25 k (pos 0) (pos 0) (omega (arith, s .pre .0 .n-most)) ∙ sym (sum-none (share (table s) (s .args .j) k));
         constant = getD-set-same zeros 24 x (pos 0) (omega (arith, length-replicate 25 (pos 0))) ∙ read-at (c .constant .result) (c .constant .ok) ∙ c .constant .ensures
             ∙ ap (λ (z : ℤ). pos 1000 *ℤ z) (read-at (at (now (s .args .w)) (s .args .j)) (c .before .x .given));
       },
@@ -83,17 +76,13 @@ loop-again c =
     let d = c .before in let l = d .before .before .before in let s = l .before .before .before in let v = l .loop .inv in (
       omega arith,
       d .add-direction .kept .1 .1 .1 .1 .1 .1 .0 ∙ v .1,
-      formed-more (table s) (s .args .j) (l .loop .i) (pos 1000 *ℤ table s .w (s .args .j)) (l .loop .row) _ (v .2) (d .add-direction .ensures),
+      formed-more (table s) (s .args .j) (l .loop .i) (l .loop .row) _ (v .2) (d .add-direction .ensures),
     )
 
 returns : tie.Need-returns Inv-loop μ-loop
-unfolding N
 returns c =
     let l = c .before in let s = l .before .before .before in let e : l .loop .i ≡ length (now (s .args .q)) = omega arith in
-    record {
-      coefficients = λ k h b. l .loop .inv .2 .coefficients k h b ∙ ap (λ (i : ℕ). sum i (part (table s) (s .args .j) k)) e;
-      constant = l .loop .inv .2 .constant;
-    }
+    formed-all (table s) (s .args .j) (l .loop .row) (subst (λ (i : ℕ). Formed (table s) (s .args .j) i (l .loop .row)) e (l .loop .inv .2))
 
 pub normal-row-spec : {M : Type 1} → statement M
 normal-row-spec =
