@@ -36,6 +36,8 @@ pub enum Refusal {
     FacesApart { position: u8, object: u8 },
     // A position's direction too far from the base, at a position and an object.
     Spread { position: u8, object: u8 },
+    // A net past those that one report holds: its ordinal.
+    Nets(u64),
 }
 
 // What an operation answers that leaves its results in lent lists.
@@ -86,6 +88,7 @@ pub fn number(r: Refusal) -> u64
             position: _,
             object: _,
         } => 26,
+        Refusal::Nets(_) => 30,
     }
 }
 
@@ -109,6 +112,7 @@ pub fn place(r: Refusal) -> u64
         Refusal::Initial { position } => 100 * (position as u64) + 1,
         Refusal::FacesApart { position, object } => 100 * (position as u64) + object as u64,
         Refusal::Spread { position, object } => 100 * (position as u64) + object as u64,
+        Refusal::Nets(net) => net,
     }
 }
 
