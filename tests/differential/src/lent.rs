@@ -22,6 +22,16 @@ impl Mark for i64 {
     }
 }
 
+impl Mark for u64 {
+    fn mark(cell: usize) -> Self {
+        17_000_000_000_000_000_000 + cell as u64
+    }
+
+    fn literal(list: &[Self]) -> String {
+        format!("{list:?}")
+    }
+}
+
 impl Mark for u8 {
     fn mark(cell: usize) -> Self {
         128 + (cell % 128) as u8
