@@ -33,8 +33,8 @@ pub(crate) const SHARED: usize = 15;
 /// So many shared directions make two conditions count.
 const MANY_SHARED: usize = 3;
 
-// What the three numbers of a stream's place are.
-/// How many bytes the open net has, counted to one more than are kept.
+/// Of the three numbers of a stream's place, how many bytes the open net has, counted to one
+/// more than are kept.
 const OPEN: usize = 0;
 /// Where in its line the stream stands: one of the three below.
 const IN_LINE: usize = 1;
@@ -169,8 +169,8 @@ fn some_two_share(conditions: &[Accepted]) -> bool {
         pairs.filter(|&(a, b)| *a != 0 && *b != 0).count() >= MANY_SHARED
     };
     conditions.iter().enumerate().any(|(index, one)| {
-        let later = conditions.iter().skip(index + 1);
-        later.into_iter().any(|other| share(one, other))
+        let mut later = conditions.iter().skip(index + 1);
+        later.any(|other| share(one, other))
     })
 }
 
