@@ -1,0 +1,5 @@
+pub mod Parting
+pub mod Walking
+pub mod Leading
+pub mod Promising
+pub mod Streaming
