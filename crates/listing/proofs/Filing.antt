@@ -122,7 +122,7 @@ module _ (file : List ℕ) where
       pub table-refused : (why : Refusal) → tableReply file ≡ Refused why → AdjustsFile sheet file before (record { reply = Refused why; length = 0 }) before
       table-refused why e = kept (listed-refused why (has-room ∙ file-refused file why e))
 
-      pub table-listed : {t : Tabled} {directions q a w : List ℤ} (is : Tables (tableReply file) net t directions q a w) → t .reply ≡ Accepted
+      pub table-listed : {t : Tabled} {directions q a w : List ℤ} {letters : List ℕ} (is : Tables (tableReply file) net t directions q a w letters) → t .reply ≡ Accepted
           → {listed : Listed} {after : List ℕ}
           → let ds = take (t .m) directions in let closings = take (t .n) w in
           ListedBy (adjustReply ds (take (t .m) q) (take (t .n * t .m) a) closings (room (length ds) (length closings)))
