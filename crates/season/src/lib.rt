@@ -1,2 +1,3 @@
 // Season reports.
+mod net;
 pub mod stream;
