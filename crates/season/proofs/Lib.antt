@@ -5,3 +5,4 @@ pub mod Sharing
 pub mod Leading
 pub mod Promising
 pub mod Streaming
+pub mod Joining
