@@ -84,9 +84,10 @@ module _ {shares : List (List ℕ)} {totals share : List ℕ} {rest : List (List
 
 pub leads-end : {shares : List (List ℕ)} {totals : List ℕ} → Leads shares totals [] → (totals ≡ seasonReport shares) × (seasonReply shares ≡ Accepted)
 unfolding seasonReply
-leads-end {shares} {totals} l =
-    (sym (sum-none totals (l .long)) ∙ ap (λ (x : List (List ℕ)). sumOf totals (reportOf x)) (sym (take-nil (mostNets - getD totals 0 0))) ∙ l .report,
-    rw (le-ltb mostNets (length shares) (omega (arith, l .counts, l .nets))))
+leads-end {shares} {totals} l = (
+  sym (sum-none totals (l .long)) ∙ ap (λ (x : List (List ℕ)). sumOf totals (reportOf x)) (sym (take-nil (mostNets - getD totals 0 0))) ∙ l .report,
+  rw (le-ltb mostNets (length shares) (omega (arith, l .counts, l .nets))),
+)
 
 -- ---- a net is counted
 module _ (share totals : List ℕ) where

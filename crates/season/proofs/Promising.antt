@@ -56,7 +56,6 @@ pub record Passed (held totals place : List ℕ) : Type 0 where
   pub place-long : length place ≡ 3
   pub roomy : Roomy totals
   pub stands : Stands (placeOf place)
-  pub past : placeOf place .past ≤ 1
 
 most-le : (i : ℕ) → mostAt i ≤ mostTotal
 unfolding mostAt
@@ -71,6 +70,10 @@ unfolding mostAt
 roomy-totals totals e a =
     let within : (i : ℕ) → i < 16 → getD totals i 0 ≤ mostAt i = λ i l. ltb-false (mostAt i) (getD totals i 0) (none-refused 16 (totalAmiss totals) (λ i. OutOfRange (i + 1)) a i l) in
     record { long = e; nets = within 0 (omega arith); small = λ i l. omega (arith, within i l, most-le i) }
+
+line-most : (line bytes : ℕ) → lineAmiss line bytes ≡ false → line ≤ 2
+unfolding lineAmiss
+line-most line bytes e = ltb-false 2 line (neither (ltb 2 line) _ e .0)
 
 -- a full stop is a byte
 stop-amiss : (line bytes : ℕ) → lineAmiss line bytes ≡ false → line ≡ 1 → 1 ≤ bytes
@@ -118,9 +121,10 @@ module _ (held totals place : List ℕ) where
         roomy = roomy-totals totals (long .1) (second .0);
         stands = record {
           bytes = ltb-false 65537 (p .bytes) (if-accepted _ (OutOfRange 17) (third .0));
+          line = line-most (p .line) (p .bytes) (if-accepted _ (OutOfRange 18) (fourth .0));
+          past = ltb-false 1 (p .past) (if-accepted _ (OutOfRange 19) (fourth .1));
           stop = stop-amiss (p .line) (p .bytes) (if-accepted _ (OutOfRange 18) (fourth .0));
         };
-        past = ltb-false 1 (p .past) (if-accepted _ (OutOfRange 19) (fourth .1));
       }
 
   -- ---- `begin`

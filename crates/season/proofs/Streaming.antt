@@ -1,9 +1,9 @@
 -- Laws of a stream's state, byte by byte. Assumes nothing.
 --   open-is                            the open net's share is one net's
 --   closes-by, taken-close, taken-kept a byte closes the open net, or belongs to it
---   Sound, taken-sound                 a state that bytes can be fed to, and so is the next
+--   Sound, taken-sound, byte-sound     a state that bytes can be fed to, and so is the next
 --   fed-past, fed-more, fed-end        the bytes from a place on: none count any more, one more is taken, none is left
---   fed-joined                         bytes and others after them
+--   fed-sound, fed-joined              a state that has been fed; bytes and others after them
 use mathlib.Core.Path.{_≡_, refl, sym, _∙_, ap, subst}
 use mathlib.Core.Bool.{Bool, true, false, cond, _&&_}
 use mathlib.Core.List.{List, [], _∷_, _++_}
@@ -16,6 +16,8 @@ use lib.ListN.{length, getD, set, take, drop, length-set, drop-of-length-le}
 use lib.Seq.{drop-cons}
 use Rattle.exact.proofs.Searching.{not-both}
 use Rattle.text.specs.Lines.{LF}
+use Rattle.totals.specs.Promise.{mostNets}
+use Rattle.season.specs.Archive.{STOP}
 use Rattle.season.specs.Share.{shareOf, longShare}
 use Rattle.season.specs.Stream.{Stream, stream, placeAt, countedIn, pastAfter, keptIn, keptBytes, lineAfter, openShare, closes, taken, fedByte, fed}
 use Rattle.season.specs.Inner.{IsShare, Within, Stands}
@@ -71,6 +73,23 @@ kept-bytes bytes l = by-room (ltb bytes 65537) refl
     by-room true e = (omega (arith, ltb-true bytes 65537 e), omega arith)
     by-room false e = (l, omega (arith, ltb-false bytes 65537 e))
 
+line-most : (line byte : ℕ) → lineAfter line byte ≤ 2
+unfolding lineAfter
+line-most line byte = by-byte (eqb byte LF) (eqb line 0 && eqb byte STOP)
+  where
+    by-byte : (a b : Bool) → cond a 0 (cond b 1 2) ≤ 2
+    by-byte true b = omega arith
+    by-byte false true = omega arith
+    by-byte false false = omega arith
+
+past-most : (totals : List ℕ) → pastAfter totals ≤ 1
+unfolding pastAfter
+past-most totals = by-nets (ltb (getD totals 0 0) mostNets)
+  where
+    by-nets : (b : Bool) → cond b 0 1 ≤ 1
+    by-nets true = omega arith
+    by-nets false = omega arith
+
 pub taken-sound : (before byte : ℕ) (s : Stream) → Sound before s → Sound before (taken byte s)
 unfolding taken
 taken-sound before byte s p = by-close (closes byte (s .place .line))
@@ -81,13 +100,21 @@ taken-sound before byte s p = by-close (closes byte (s .place .line))
     by-close true = record {
       long = p .long;
       within = counted-within before (openShare (s .held) (s .place .bytes)) (s .totals) (open-is (s .held) (s .place .bytes)) (p .within);
-      stands = record { bytes = omega arith; stop = λ e. absurd (omega (arith, e)) };
+      stands = record { bytes = omega arith; line = omega arith; past = past-most (s .totals); stop = λ e. absurd (omega (arith, e)) };
     }
     by-close false = record {
       long = kept-long (s .held) (s .place .bytes) byte ∙ p .long;
       within = p .within;
-      stands = record { bytes = kept-bytes (s .place .bytes) (p .stands .bytes) .0; stop = λ e. kept-bytes (s .place .bytes) (p .stands .bytes) .1 };
+      stands = record { bytes = kept-bytes (s .place .bytes) (p .stands .bytes) .0; line = line-most (s .place .line) byte; past = omega arith; stop = λ e. kept-bytes (s .place .bytes) (p .stands .bytes) .1 };
     }
+
+pub byte-sound : (before byte : ℕ) (s : Stream) → Sound before s → Sound before (fedByte byte s)
+unfolding fedByte
+byte-sound before byte s p = by-past (eqb (s .place .past) 1)
+  where
+    by-past : (b : Bool) → Sound before (cond b s (taken byte s))
+    by-past true = p
+    by-past false = taken-sound before byte s p
 
 -- ---- the bytes from a place on
 pub fed-past : (bytes : List ℕ) (s : Stream) → s .place .past ≡ 1 → fed bytes s ≡ s
@@ -106,6 +133,11 @@ module _ (bytes : List ℕ) (i : ℕ) (s : Stream) where
   pub fed-end : length bytes ≤ i → fed (drop i bytes) s ≡ s
   unfolding fed
   fed-end l = rw (drop-of-length-le bytes l)
+
+pub fed-sound : (before : ℕ) (bytes : List ℕ) (s : Stream) → Sound before s → Sound before (fed bytes s)
+unfolding fed
+fed-sound before [] s h = h
+fed-sound before (byte ∷ bytes) s h = fed-sound before bytes (fedByte byte s) (byte-sound before byte s h)
 
 pub fed-joined : (bytes more : List ℕ) (s : Stream) → fed (bytes ++ more) s ≡ fed more (fed bytes s)
 unfolding fed

@@ -35,4 +35,6 @@ pub record NextStop (archive : List ℕ) (start stop : ℕ) : Type 0 where
 -- a place that a stream can have: the counts are within their limits, and a full stop at the start of a line is a byte of the open net
 pub record Stands (p : Place) : Type 0 where
   pub bytes : p .bytes ≤ 65537
+  pub line : p .line ≤ 2
+  pub past : p .past ≤ 1
   pub stop : p .line ≡ 1 → 1 ≤ p .bytes
