@@ -11,5 +11,8 @@ pub const TAB: u8 = 9;
 
 pub const LF: u8 = 10;
 
+// The most digits of a number in a network file or a field book.
+pub const MOST_DIGITS: usize = 11;
+
 // The longest file of lines.
 pub const MOST_BYTES: usize = 65_535;

@@ -1,5 +1,6 @@
 // Runs the line reader and the numbers on chosen inputs and prints what they answer. What it must print was worked out apart from it.
 use text::LF;
+use text::MOST_DIGITS;
 use text::line;
 use text::line::LineStatus;
 use text::number;
@@ -29,7 +30,7 @@ fn show_number(text: &[u8]) {
     vectors::text(b"[");
     vectors::text(line::line(text, 0));
     vectors::text(b"] ");
-    let read = number::read_to(text, 0, LF);
+    let read = number::read_to(MOST_DIGITS, text, 0, LF);
     let n = read.number;
     match n {
         Number::Value(v) => {
