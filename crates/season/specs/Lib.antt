@@ -1,0 +1,5 @@
+pub mod Archive
+pub mod Share
+pub mod Season
+pub mod Stream
+pub mod Inner

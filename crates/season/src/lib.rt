@@ -1,0 +1,2 @@
+// Season reports.
+pub mod stream;
