@@ -1,2 +1,3 @@
 pub mod Totalling
 pub mod Promising
+pub mod Printing

@@ -1,4 +1,7 @@
-// The sixteen totals of a season report (specs/Totals.antt has their places): a net's share added to them, and the public operation on two reports.
+// The sixteen totals of a season report (specs/Totals.antt has their places): a net's share added to them, the public operation on two reports, and a report
+// as text.
+pub mod report;
+
 ghost use mathlib.Core.Path.{_≡_};
 ghost use Prim.Native.Nat.{ℕ, _+_, _≤_, _<_};
 ghost use lib.ListN.{length, getD};
