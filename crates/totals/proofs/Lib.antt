@@ -1,3 +1,5 @@
 pub mod Totalling
 pub mod Promising
 pub mod Printing
+pub mod Entering
+pub mod Streaming

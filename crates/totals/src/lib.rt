@@ -1,5 +1,6 @@
-// The sixteen totals of a season report (specs/Totals.antt has their places): a net's share added to them, the public operation on two reports, and a report
-// as text.
+// The sixteen totals of a season report (specs/Totals.antt has their places): a net's share added to them, the public operation on two reports, a report as
+// text, and the sum of reports that come as text.
+pub mod adding;
 pub mod report;
 
 ghost use mathlib.Core.Path.{_≡_};
