@@ -3,3 +3,4 @@ pub mod Promising
 pub mod Printing
 pub mod Entering
 pub mod Streaming
+pub mod Summing

@@ -166,6 +166,11 @@ unfoldable pub afterBytes : Stream → (bytes : List ℕ) → Stream
 afterBytes s [] = s
 afterBytes s (b ∷ bytes) = afterBytes (afterByte s b) bytes
 
+-- parts one after another
+unfoldable pub afterParts : Stream → (parts : List (List ℕ)) → Stream
+afterParts s [] = s
+afterParts s (part ∷ parts) = afterParts (afterBytes s part) parts
+
 -- the stream that a state and its lent buffer stand for
 abbrev pub streamOf : Adding → (held : List ℕ) → Stream
 streamOf a held = record { tally = a .tally; begun = take (a .length) held }
