@@ -1,17 +1,15 @@
 -- Laws of one line of the reports that are added up. Assumes nothing.
 --   entry-below, entry-second-below, entry-numbers   the numbers of a line, by their signs
---   other-head, due-head                             the line that is due begins with its head and a tab
---   no-numbers, two-numbers, one-number              what stands behind them, by the answer of the row's reader
+--   no-numbers, some-numbers                         what a line says, by what the reader of its numbers told
+--   other-head, due-head                             and by whether it begins with the head that is due
 --   fits, second-fits                                totals that do not pass 18 digits have room for what is added
---   well-entered, ill-entered                        a line that has been read, by whether it is at fault
+--   not-passing, ill-entered, well-entered           a line that has been read, by whether it is at fault
 use mathlib.Core.Path.{_≡_, refl, sym, _∙_, ap}
 use mathlib.Core.Bool.{Bool, true, false, cond, _||_, _&&_, not}
 use mathlib.Core.List.{List, [], _∷_, _++_}
 use mathlib.Core.Option.{Option, none, some}
 use Prim.Native.Nat.{ℕ, _+_, _≤_, _<_}
 use native.Mathlib.Omega.{arith}
-use borrow.Author.Tests.{ltb-false}
-use lib.Dec.{ltb}
 use lib.IntN.{ℤ, pos, negsuc, natAbs}
 use lib.ListN.{length, getD, take}
 use lib.Signed.{_≤ℤ_, _<ℤ_}
@@ -20,12 +18,13 @@ use Rattle.exact.proofs.Searching.{neither}
 use Rattle.text.specs.Parts.{begins}
 use Rattle.text.specs.Fields.{TAB}
 use Rattle.text.specs.Rows.{rowWithin}
-use Rattle.totals.specs.Promise.{mostTotal, tooLarge}
+use Rattle.totals.specs.Promise.{tooLarge}
 use Rattle.totals.specs.Text.{headOf, placeOf, pairOn}
 use Rattle.totals.specs.Adding.{entryWith, entryOf, entryAt, miscounted, passes, faultIn, enteredWith, faulty, wellEntered, countedAfter, pastAfter, entered}
 use Rattle.totals.specs.declared.adding.Entry.{Entry}
 use Rattle.totals.specs.declared.adding.Entry.the-variants.{Numbers, Malformed}
 use Rattle.totals.specs.declared.adding.Tally.{Tally}
+use Rattle.totals.proofs.Promising.{small-at}
 
 -- ---- the numbers of a line
 pub entry-below : (x y : ℤ) → x <ℤ pos 0 → Malformed ≡ entryWith x y
@@ -66,26 +65,20 @@ module _ (due : ℕ) (text : List ℕ) where
   due-head e = rw e
 
 -- ---- totals that do not pass 18 digits
-room : (i x y : ℕ) → tooLarge i x y ≡ false → x + y ≤ 18446744073709551615
-unfolding tooLarge
-room i x y e =
-    let n = neither (ltb mostTotal x) _ e in let m = neither (ltb mostTotal y) _ (n .1) in
-    omega (arith, ltb-false mostTotal x (n .0), ltb-false mostTotal y (m .0))
-
-pub room-at : (i x y : ℕ) → tooLarge i x y ≡ false → x + y ≤ 18446744073709551615
-room-at = room
-
 module _ (sum : List ℕ) (due x y : ℕ) (e : passes sum due x y ≡ false) where
   pub fits : getD sum (placeOf due) 0 + x ≤ 18446744073709551615
   unfolding passes
-  fits = room (placeOf due) _ x (neither (tooLarge (placeOf due) (getD sum (placeOf due) 0) x) _ e .0)
+  fits = omega (arith, small-at (placeOf due) (getD sum (placeOf due) 0) x (neither (tooLarge (placeOf due) (getD sum (placeOf due) 0) x) _ e .0))
 
   pub second-fits : pairOn due ≡ true → getD sum (placeOf due + 1) 0 + y ≤ 18446744073709551615
   unfolding passes
   second-fits p =
-      room (placeOf due + 1) _ y
-      (sym (ap (λ (b : Bool). b && tooLarge (placeOf due + 1) (getD sum (placeOf due + 1) 0) y) p)
-      ∙ neither (tooLarge (placeOf due) (getD sum (placeOf due) 0) x) _ e .1)
+      let second = tooLarge (placeOf due + 1) (getD sum (placeOf due + 1) 0) y in
+      omega (
+        arith,
+        small-at (placeOf due + 1) (getD sum (placeOf due + 1) 0) y
+            (sym (ap (λ (b : Bool). b && second) p) ∙ neither (tooLarge (placeOf due) (getD sum (placeOf due) 0) x) (pairOn due && second) e .1),
+      )
 
 -- ---- a line that has been read
 module _ (t : Tally) (past : Bool) (counted x y : ℕ) where

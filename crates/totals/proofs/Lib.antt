@@ -4,3 +4,4 @@ pub mod Printing
 pub mod Entering
 pub mod Streaming
 pub mod Summing
+pub mod Figures

@@ -3,7 +3,7 @@ use mathlib.Core.Path.{sym, _∙_}
 use native.Mathlib.Omega.{arith}
 use borrow.Author.Tests.{eq-eqb, ne-eqb, lt-ltb, le-ltb}
 use Rattle.totals.specs.Adding.{countedAfter}
-use Rattle.totals.proofs.Entering.{room-at}
+use Rattle.totals.proofs.Promising.{small-at}
 use borrow.Author.Needs.{needs}
 use Rattle.totals.proofs.adding.counted_after.Statement.{statement}
 use Rattle.totals.proofs.adding.counted_after.Tie as tie
@@ -27,7 +27,7 @@ returns-2 c =
 add-result-2 : tie.Need-add-result-2
 add-result-2 c =
     let l = c .before in let a = l .before .before .before .args in
-    record { fits = omega (arith, room-at 1 (a .counted) (a .x) (sym (l .too-large .ensures) ∙ c .if3 .left)) }
+    record { fits = omega (arith, small-at 1 (a .counted) (a .x) (sym (l .too-large .ensures) ∙ c .if3 .left)) }
 
 returns-3 : tie.Need-returns-3
 unfolding countedAfter
