@@ -5,13 +5,13 @@
 --   fits, second-fits                                totals that do not pass 18 digits have room for what is added
 --   not-passing, ill-entered, well-entered           a line that has been read, by whether it is at fault
 use mathlib.Core.Path.{_≡_, refl, sym, _∙_, ap}
-use mathlib.Core.Bool.{Bool, true, false, cond, _||_, _&&_, not}
+use mathlib.Core.Bool.{Bool, true, false, cond, _&&_, not}
 use mathlib.Core.List.{List, [], _∷_, _++_}
 use mathlib.Core.Option.{Option, none, some}
 use Prim.Native.Nat.{ℕ, _+_, _≤_, _<_}
 use native.Mathlib.Omega.{arith}
 use lib.IntN.{ℤ, pos, negsuc, natAbs}
-use lib.ListN.{length, getD, take}
+use lib.ListN.{length, getD}
 use lib.Signed.{_≤ℤ_, _<ℤ_}
 use Rattle.exact.proofs.Linear.{orders}
 use Rattle.exact.proofs.Searching.{neither}
@@ -21,7 +21,6 @@ use Rattle.text.specs.Rows.{rowWithin}
 use Rattle.totals.specs.Promise.{tooLarge}
 use Rattle.totals.specs.Text.{headOf, placeOf, pairOn}
 use Rattle.totals.specs.Adding.{entryWith, entryOf, entryAt, miscounted, passes, faultIn, enteredWith, faulty, wellEntered, countedAfter, pastAfter, entered}
-use Rattle.totals.specs.declared.adding.Entry.{Entry}
 use Rattle.totals.specs.declared.adding.Entry.the-variants.{Numbers, Malformed}
 use Rattle.totals.specs.declared.adding.Tally.{Tally}
 use Rattle.totals.proofs.Promising.{small-at}

@@ -5,7 +5,7 @@
 --   refused-adds, accepted-adds                 a refusal with the third list as it was lent keeps the promise, and so does an acceptance with the sum
 --   one-sum                                     two answers that keep the promise are equal, and leave equal lists
 use mathlib.Core.Path.{_≡_, refl, sym, _∙_, ap}
-use mathlib.Core.Bool.{true, false}
+use mathlib.Core.Bool.{false}
 use mathlib.Core.List.{List}
 use Prim.Native.Nat.{ℕ, _+_, _≤_, _<_}
 use native.Mathlib.Omega.{arith}
@@ -21,7 +21,7 @@ use Rattle.reply.specs.declared.Reply.the-variants.{Accepted, Refused}
 use Rattle.reply.specs.Checks.{refuseIf, leaves}
 use Rattle.reply.specs.Verdicts.{verdictOf}
 use Rattle.reply.proofs.Checking.{none-refused}
-use Rattle.totals.specs.Totals.{joined, sumOf}
+use Rattle.totals.specs.Totals.{sumOf}
 use Rattle.totals.specs.Promise.{mostNets, mostTotal, lengthsAmiss, tooLarge, tooLargeAt, sizesReply, sumReply, Adds}
 
 module _ (first second : List ℕ) (room : ℕ) where

@@ -5,7 +5,7 @@
 --   answerOf        the answer then
 --   sumText         the rule: the answer to a whole text
 --   afterByte, afterBytes   the same byte by byte, as a stream comes
-use mathlib.Core.Bool.{Bool, true, false, cond, _||_, _&&_, not}
+use mathlib.Core.Bool.{Bool, false, cond, _||_, _&&_, not}
 use mathlib.Core.List.{List, [], _∷_, _++_}
 use mathlib.Core.Option.{Option, none, some}
 use Prim.Native.Nat.{ℕ, _+_}

@@ -1,12 +1,11 @@
 -- `totals::adding::added` meets its contract. Assumes nothing.
-use mathlib.Core.Path.{_≡_, sym, _∙_, ap, ap₂}
+use mathlib.Core.Path.{sym, _∙_, ap, ap₂}
 use mathlib.Core.List.{List}
 use Prim.Native.Nat.{ℕ, _+_}
 use native.Mathlib.Omega.{arith}
 use lib.ListN.{getD, set}
 use Rattle.totals.specs.Totals.{joined}
-use Rattle.totals.specs.Text.{placeOf}
-use Rattle.totals.specs.Adding.{joinedAt, addedFirst, added}
+use Rattle.totals.specs.Adding.{joinedAt, added}
 use Rattle.totals.proofs.Printing.{pair-within}
 use Rattle.totals.proofs.Entering.{fits, second-fits}
 use borrow.Author.Needs.{needs}

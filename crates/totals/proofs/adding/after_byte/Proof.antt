@@ -1,13 +1,11 @@
 -- `totals::adding::after_byte` meets its contract. Assumes nothing.
-use mathlib.Core.Path.{_≡_, refl, sym, _∙_, ap}
+use mathlib.Core.Path.{sym, _∙_}
 use mathlib.Core.Logic.{⊎-elim}
-use mathlib.Core.List.{List}
-use Prim.Native.Nat.{ℕ, _≤_}
 use native.Mathlib.Omega.{arith}
 use denote.Ref.{now}
-use lib.ListN.{length, take}
+use lib.ListN.{length}
 use lib.Seq.{length-take-le}
-use Rattle.totals.specs.Adding.{afterLine, streamOf}
+use Rattle.totals.specs.Adding.{streamOf}
 use Rattle.totals.proofs.Streaming.{Held, held-more, held-full, byte-ended, byte-held}
 use borrow.Author.Needs.{needs}
 use Rattle.totals.proofs.adding.after_byte.Statement.{statement}

@@ -1,5 +1,5 @@
 -- `totals::adding::after_line` meets its contract. Assumes nothing.
-use mathlib.Core.Path.{_≡_, sym, _∙_, ap}
+use mathlib.Core.Path.{sym, _∙_, ap}
 use borrow.Author.Tests.{eq-eqb, ne-eqb}
 use Rattle.totals.specs.Adding.{entered, afterLine}
 use borrow.Author.Needs.{needs}

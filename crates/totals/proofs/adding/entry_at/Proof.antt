@@ -1,20 +1,20 @@
 -- `totals::adding::entry_at` meets its contract. Assumes nothing.
-use mathlib.Core.Path.{_≡_, refl, sym, _∙_, ap}
-use mathlib.Core.Bool.{Bool, true, cond}
+use mathlib.Core.Path.{_≡_, sym, _∙_, ap}
+use mathlib.Core.Bool.{Bool, cond}
 use mathlib.Core.List.{List, [], _∷_, _++_}
 use Prim.Native.Nat.{ℕ, _+_, _≤_}
 use native.Mathlib.Omega.{arith}
 use denote.Ref.{now}
-use lib.ListN.{length, take, replicate, length-append}
+use lib.ListN.{length, replicate, length-append}
 use lib.Seq.{length-take-le}
 use Rattle.text.specs.Parts.{begins}
 use Rattle.text.specs.Fields.{TAB}
 use Rattle.text.specs.Rows.{rowWithin}
 use Rattle.text.specs.Written.{Wrote}
 use Rattle.text.proofs.Parting.{begins-length}
-use Rattle.text.proofs.Putting.{then, wrote-length, wrote-start, come-within}
-use Rattle.totals.specs.Text.{headOf, pairOn}
-use Rattle.totals.specs.Adding.{entryOf, entryAt}
+use Rattle.text.proofs.Putting.{then, wrote-length, wrote-start}
+use Rattle.totals.specs.Text.{headOf}
+use Rattle.totals.specs.Adding.{entryOf}
 use Rattle.totals.proofs.Printing.{head-most}
 use Rattle.totals.proofs.Entering.{other-head, due-head}
 use borrow.Author.Needs.{needs}

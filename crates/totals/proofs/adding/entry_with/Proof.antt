@@ -1,5 +1,5 @@
 -- `totals::adding::entry_with` meets its contract. Assumes nothing.
-use mathlib.Core.Path.{_≡_, refl, sym, _∙_, ap, ap₂}
+use mathlib.Core.Path.{refl, _∙_, ap, ap₂}
 use lib.IntN.{natAbs}
 use Rattle.exact.proofs.Bound.{read}
 use Rattle.exact.proofs.Order.{lt-true, lt-false}

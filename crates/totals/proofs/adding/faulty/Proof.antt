@@ -1,5 +1,5 @@
 -- `totals::adding::faulty` meets its contract. Assumes nothing.
-use mathlib.Core.Path.{_≡_, ap}
+use mathlib.Core.Path.{ap}
 use Prim.Native.Nat.{ℕ}
 use Rattle.totals.specs.Adding.{faulty}
 use Rattle.totals.specs.declared.adding.Tally.{Tally}

@@ -1,7 +1,6 @@
 -- `totals::adding::next` meets its contract: the bytes that are left lead on from the state so far. Assumes nothing.
 use mathlib.Core.Path.{_≡_, refl, sym, _∙_}
-use Prim.Native.Nat.{_+_, _-_, _≤_}
-use native.Mathlib.Omega.{arith}
+use Prim.Native.Nat.{_-_, _≤_}
 use denote.Ref.{now}
 use lib.ListN.{length, drop}
 use Rattle.totals.specs.Adding.{afterBytes, streamOf}

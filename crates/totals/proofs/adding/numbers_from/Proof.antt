@@ -1,15 +1,12 @@
 -- `totals::adding::numbers_from` meets its contract. Assumes nothing.
-use mathlib.Core.Path.{_≡_, sym, _∙_, ap, ap₂}
-use mathlib.Core.List.{List}
-use mathlib.Core.Option.{some}
-use Prim.Native.Nat.{ℕ, _≤_}
+use mathlib.Core.Path.{sym, _∙_, ap₂}
+use Prim.Native.Nat.{_≤_}
 use native.Mathlib.Omega.{arith}
 use denote.Ref.{now}
-use lib.IntN.{ℤ, pos}
-use lib.ListN.{length, getD, take, List·getD-eq-default}
+use lib.IntN.{pos}
+use lib.ListN.{length, take, List·getD-eq-default}
 use lib.Seq.{getD-take, length-take-le}
 use Rattle.exact.proofs.Bound.{read-at}
-use Rattle.text.specs.Rows.{rowWithin}
 use Rattle.text.proofs.Rowing.{row-told, no-row-told}
 use Rattle.totals.specs.Adding.{entryWith}
 use Rattle.totals.proofs.Entering.{no-numbers, some-numbers}

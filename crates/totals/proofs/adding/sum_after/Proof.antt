@@ -1,5 +1,4 @@
 -- `totals::adding::sum_after` meets its contract. Assumes nothing.
-use mathlib.Core.Path.{sym, _∙_}
 use Rattle.totals.specs.Adding.{sumAfter}
 use Rattle.totals.proofs.adding.sum_after.Statement.{statement}
 use Rattle.totals.proofs.adding.sum_after.Tie as tie

@@ -1,5 +1,5 @@
 -- `totals::report::put_line` meets its contract: its head, its number and what stands behind it. Assumes nothing.
-use mathlib.Core.Path.{_∙_, ap}
+use mathlib.Core.Path.{ap}
 use mathlib.Core.List.{_++_}
 use Prim.Native.Nat.{ℕ}
 use native.Mathlib.Omega.{arith}
@@ -7,7 +7,7 @@ use denote.Ref.{now}
 use lib.ListN.{getD}
 use Rattle.text.specs.Written.{countField}
 use Rattle.totals.specs.Text.{headOf, endingOf, lineOf}
-use Rattle.text.proofs.Putting.{then, rewrote, wrote-length, count-most, Come, come-within, count-on}
+use Rattle.text.proofs.Putting.{then, rewrote, Come, come-within, count-on}
 use Rattle.totals.proofs.Printing.{head-most}
 use borrow.Author.Needs.{needs}
 use Rattle.totals.proofs.report.put_line.Statement.{statement}

@@ -1,9 +1,8 @@
 -- `totals::report::put_lines` meets its contract: the lines before `line` have been written. Assumes nothing.
-use mathlib.Core.Path.{_≡_, subst}
-use Prim.Native.Nat.{ℕ, _+_, _-_, _≤_}
+use mathlib.Core.Path.{subst}
+use Prim.Native.Nat.{ℕ, _-_, _≤_}
 use native.Mathlib.Omega.{arith}
 use denote.Ref.{now}
-use lib.ListN.{length}
 use Rattle.text.specs.Written.{inOrder, Wrote}
 use Rattle.totals.specs.Text.{lineOf}
 use Rattle.text.proofs.Putting.{wrote-length, lines-none, lines-on, lines-room}
