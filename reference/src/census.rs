@@ -6,11 +6,11 @@ use std::fmt::Debug;
 
 use crate::adjustment::{Adjustment, Weakness};
 use crate::generate::{
-    book_case, line_case, network_case, number_case, precision_case, station_case, table_case,
-    terms_case, PrecisionCase, Rng,
+    archive_case, book_case, line_case, network_case, number_case, precision_case, reports_case,
+    state_case, station_case, sum_case, table_case, terms_case, PrecisionCase, Rng,
 };
-use crate::refusal::{Refusal, CORRECTION};
-use crate::{adjustment, book, condition, lines, network, precision, station};
+use crate::refusal::{Refusal, CORRECTION, RANGE};
+use crate::{adjustment, book, condition, lines, network, precision, reports, season, station};
 
 /// Replies by number, 0 for acceptance, with how often each occurred.
 pub type Replies = BTreeMap<i64, usize>;
@@ -26,6 +26,11 @@ pub struct Census {
     pub probable_error: Replies,
     pub probable_file: Replies,
     pub book: Replies,
+    pub report: Replies,
+    pub season_next: Replies,
+    pub season_end: Replies,
+    pub add_reports: Replies,
+    pub texts_of_reports: Replies,
     /// Accepted tables of n = 24, of m = 64, and of both; then the same of networks.
     pub largest_tables: [usize; 3],
     pub largest_networks: [usize; 3],
@@ -55,6 +60,20 @@ pub struct Census {
     /// Places beside a pivot whose |D| was up to 30 below its limit, at it, and up to 30
     /// above, in tables.
     pub table_coefficients: [usize; 3],
+    /// Nets of archives by the number that they count under, and those of them with two
+    /// conditions that share three directions.
+    pub season_nets: Replies,
+    pub season_shared: usize,
+    /// Archives of no bytes, those with bytes left, and those in more than one part.
+    pub archives: [usize; 3],
+    /// States at the start of a line, after a full stop there and elsewhere, of those that
+    /// are not refused.
+    pub states: [usize; 3],
+    /// The same states by the bytes of the open net: 65,535, 65,536 and 65,537.
+    pub long_states: [usize; 3],
+    /// Ordinals of the numbers for which states and reports are refused with 3.
+    pub state_ordinals: Replies,
+    pub sum_ordinals: Replies,
     pub line_statuses: BTreeMap<lines::LineStatus, usize>,
     /// Malformed and well-formed numbers.
     pub numbers: BTreeMap<bool, usize>,
@@ -64,6 +83,8 @@ pub struct Census {
 pub fn take(seed: u64, cases: usize) -> Census {
     let mut census = Census::default();
     let mut rng = Rng::new(seed);
+    // What came later is drawn apart, so that the other inputs stay those they were.
+    let mut later = Rng::new(!seed);
     for _ in 0..cases {
         count_station(&mut rng, &mut census);
         count_terms(&mut rng, &mut census);
@@ -71,6 +92,9 @@ pub fn take(seed: u64, cases: usize) -> Census {
         count_network(&mut rng, &mut census);
         count_probable(&mut rng, &mut census);
         count_book(&mut rng, &mut census);
+        count_season(&mut later, &mut census);
+        count_states(&mut later, &mut census);
+        count_sums(&mut later, &mut census);
         let case = line_case(&mut rng);
         let status = lines::line_status(&case.file, case.start);
         *census.line_statuses.entry(status).or_default() += 1;
@@ -217,6 +241,68 @@ fn count_book(rng: &mut Rng, census: &mut Census) {
     }
 }
 
+fn count_season(rng: &mut Rng, census: &mut Census) {
+    let case = archive_case(rng);
+    let mut totals = vec![0; case.room];
+    let reply = season::report(&case.archive, &mut totals);
+    count(&mut census.report, &reply);
+    let left =
+        !case.archive.is_empty() && !case.archive.ends_with(b"\n.\n") && case.archive != b".\n";
+    let seen = [case.archive.is_empty(), left, case.cuts.len() > 1];
+    add(&mut census.archives, seen);
+    // Of the largest archives nearly all nets are alike.
+    if let ([nets, counts @ .., _, _, _, _, shared], true) = (&totals[..], reply.is_ok()) {
+        if *nets < 1_000 {
+            for (number, &nets) in (0..).zip(counts) {
+                *census.season_nets.entry(number).or_default() += nets as usize;
+            }
+            census.season_shared += *shared as usize;
+        }
+    }
+}
+
+fn count_states(rng: &mut Rng, census: &mut Census) {
+    let case = state_case(rng);
+    let (mut held, mut totals) = (case.held.clone(), case.totals.clone());
+    let mut place = case.place.clone();
+    let reply = season::end(&held, &mut totals, &mut place);
+    count(&mut census.season_end, &reply);
+    let (mut totals, mut place) = (case.totals.clone(), case.place.clone());
+    let reply = season::next(&case.bytes, &mut held, &mut totals, &mut place);
+    count(&mut census.season_next, &reply);
+    count_ordinal(&mut census.state_ordinals, &reply);
+    if let (Ok(()), [open, in_line, _]) = (reply, &case.place[..]) {
+        add(&mut census.states, [0, 1, 2].map(|place| place == *in_line));
+        let long = [65_535, 65_536, 65_537].map(|length| length == *open);
+        add(&mut census.long_states, long);
+    }
+}
+
+fn count_sums(rng: &mut Rng, census: &mut Census) {
+    let case = sum_case(rng);
+    let reply = season::add_reports(&case.first, &case.second, &mut vec![0; case.room]);
+    count(&mut census.add_reports, &reply);
+    count_ordinal(&mut census.sum_ordinals, &reply);
+    let text = reports::add_reports(&reports_case(rng).file);
+    let number = match text.strip_prefix(b"REFUSED\t") {
+        Some(rest) if rest.starts_with(b"30\t") => 30,
+        Some(_) => 1,
+        None => 0,
+    };
+    *census.texts_of_reports.entry(number).or_default() += 1;
+}
+
+/// Adds the place of a number out of its range.
+fn count_ordinal(ordinals: &mut Replies, reply: &Result<(), Refusal>) {
+    if let Err(Refusal {
+        number: RANGE,
+        place,
+    }) = reply
+    {
+        *ordinals.entry(*place).or_default() += 1;
+    }
+}
+
 /// Whether n is 24, m is 64, and both.
 fn largest(m: usize, n: usize) -> [bool; 3] {
     [n == 24, m == 64, n == 24 && m == 64]
@@ -240,6 +326,9 @@ pub fn report(census: &Census) -> String {
     let [below, at, above] = census.squares;
     let [sightings, objects, pair] = census.book_sizes;
     let [longest, too_long] = census.book_lengths;
+    let [empty, left, parts] = census.archives;
+    let [start, stop, elsewhere] = census.states;
+    let [one_less, held, more] = census.long_states;
     [
         describe("station", &census.station),
         describe("coefficients", &census.coefficients),
@@ -249,6 +338,11 @@ pub fn report(census: &Census) -> String {
         describe("probable error", &census.probable_error),
         describe("probable file", &census.probable_file),
         describe("book", &census.book),
+        describe("report", &census.report),
+        describe("season next", &census.season_next),
+        describe("season end", &census.season_end),
+        describe("add reports", &census.add_reports),
+        describe("texts of reports", &census.texts_of_reports),
         sizes("tables", census.largest_tables),
         sizes("networks", census.largest_networks),
         sizes("corrections", census.largest_corrections),
@@ -272,6 +366,16 @@ pub fn report(census: &Census) -> String {
         next_to("1,000*D next to N, tables", census.table_pivots),
         next_to("1,000*D next to N, networks", census.network_pivots),
         next_to("|D| next to its limit, tables", census.table_coefficients),
+        describe("nets of archives", &census.season_nets),
+        format!(
+            "nets that share three directions {}\n",
+            census.season_shared
+        ),
+        format!("archives: empty {empty}, with bytes left {left}, in parts {parts}\n"),
+        format!("states: line start {start}, after a full stop {stop}, elsewhere {elsewhere}\n"),
+        format!("open nets of 65,535 bytes {one_less}, of 65,536 {held}, of more {more}\n"),
+        describe("numbers out of range, states", &census.state_ordinals),
+        describe("numbers out of range, reports", &census.sum_ordinals),
         describe("line statuses", &census.line_statuses),
         describe("numbers well formed", &census.numbers),
     ]

@@ -5,6 +5,7 @@ mod book;
 mod network;
 mod pivot;
 mod precision;
+mod season;
 mod station;
 mod table;
 mod terms;
@@ -13,6 +14,9 @@ mod text;
 pub use book::{book_case, BookCase};
 pub use network::{line_case, network_case, number_case, LineCase, NetworkCase, NumberCase};
 pub use precision::{precision_case, PrecisionCase};
+pub use season::{
+    archive_case, reports_case, state_case, sum_case, ArchiveCase, ReportsCase, StateCase, SumCase,
+};
 pub use station::{station_case, StationCase};
 pub use table::{table_case, TableCase};
 pub use terms::{terms_case, TermsCase};
@@ -215,6 +219,10 @@ mod tests {
             assert_eq!(network_case(&mut one).file, network_case(&mut other).file);
             assert_eq!(book_case(&mut one).file, book_case(&mut other).file);
             assert_eq!(precision_case(&mut one), precision_case(&mut other));
+            assert_eq!(archive_case(&mut one), archive_case(&mut other));
+            assert_eq!(state_case(&mut one), state_case(&mut other));
+            assert_eq!(sum_case(&mut one), sum_case(&mut other));
+            assert_eq!(reports_case(&mut one), reports_case(&mut other));
         }
     }
 

@@ -14,4 +14,6 @@ pub mod network;
 mod numeric;
 pub mod precision;
 pub mod refusal;
+pub mod reports;
+pub mod season;
 pub mod station;

@@ -54,6 +54,27 @@ pub fn adjust_network(file: &[u8]) -> Result<Adjustment, Refusal> {
     sound_net(file)?.adjust()
 }
 
+/// What a season report takes from a condition of an accepted net.
+pub(crate) struct Accepted {
+    pub(crate) kind: ConditionKind,
+    pub(crate) w: i128,
+    /// The coefficients, one for each direction.
+    pub(crate) a: Vec<i128>,
+}
+
+/// The conditions of a network file that is accepted.
+pub(crate) fn accepted_conditions(file: &[u8]) -> Result<Vec<Accepted>, Refusal> {
+    let network = read_file(file)?;
+    let kinds: Vec<ConditionKind> = network.conditions.iter().map(|c| c.kind).collect();
+    let net = network.into_net();
+    net.check_conditions()?;
+    net.adjust()?;
+    let conditions = kinds.into_iter().zip(net.w).zip(net.a);
+    Ok(conditions
+        .map(|((kind, w), a)| Accepted { kind, w, a })
+        .collect())
+}
+
 /// The printed correction for which a network file is refused with 9, if it is.
 pub fn blunder(file: &[u8]) -> Option<i64> {
     sound_net(file).ok()?.blunder()

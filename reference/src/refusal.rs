@@ -33,6 +33,8 @@ pub const NO_INITIAL: i64 = 24;
 pub const FACES_APART: i64 = 25;
 /// A position's doubled direction over 120,000 from the base.
 pub const POSITIONS_APART: i64 = 26;
+/// A net past those that one report holds.
+pub const NET_PAST: i64 = 30;
 
 /// Number and place; nothing else is handed back with a refusal.
 #[derive(Clone, Copy, Debug, PartialEq, Eq)]

@@ -5,6 +5,7 @@
 --   accepted-adjusts         so does an accepted table whose lists are the rules' answers: what the promise says of accepted tables holds of them
 --   passed-sound, passed-solved      of every table that passes the input checks: its numbers are in range, and the solution replies
 --   Passed, passed-table     and all that the code needs to know of it: also the lengths of its lists
+--   accepted-passed          every table that the rules accept has passed them
 --   accepted-counts, accepted-weights      of every table that the rules accept: its counts and its q are in range
 --   accepted-pivots          of every table that the rules accept: each pivot is above 0, and 1,000 times it is not below its entry N(j,j)
 --   accepted-demand3, accepted-within-minute      of every table that the rules accept: demand 3, and no printed correction is past one minute
@@ -142,6 +143,9 @@ module _ (ds qs cs ws : List ℤ) (lent : Answers) where
     both : (input ≡ Accepted) × (solutionReply t ≡ Accepted)
     unfolding adjustReply
     both = both-accepted input (solutionReply t) e
+
+    pub accepted-passed : Passed ds qs cs ws lent
+    accepted-passed = passed-table (both .0)
 
     pub accepted-counts : countsAmiss (t .m) (t .n) ≡ false
     accepted-counts = subst (λ (m : ℕ). countsAmiss m (length ws) ≡ false) (sym (lengths-sound (both .0) .of-q)) (counts-sound (both .0))

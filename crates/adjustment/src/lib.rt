@@ -1,5 +1,5 @@
 // Adjustment of a condition table: the one public operation, `adjust`. It checks the lent table, solves it, and only then writes the lent answer lists.
-// `adjust_own` is for `listing` alone, whose answer lists are its own: there a refusal may leave anything, and no second set of lists is needed.
+// `adjust_own` is for `listing` and `season` alone, whose answer lists are their own: there a refusal may leave anything, and no second set of lists is needed.
 mod correct;
 mod table;
 

@@ -1,4 +1,5 @@
 -- The promises of the operations on a whole file: page's laws, of the reply to a file and of its listing. Assumes nothing.
+--   solved                                  the table of an accepted file is accepted
 --   file-demand3, file-within-minute, file-mean-error      of every accepted file: demand 3, no printed correction is past one minute, and its mean error
 --   file-most, listing-most                 no file's listing has more than 6,560 bytes, 6,606 with an E line
 --   too-short, table-refused, table-listed  `adjust` keeps its promise: with a buffer that is too short, of a file without a table, of another
@@ -62,7 +63,7 @@ module _ (file : List ℕ) where
   lent = room (length (net .directions)) (length (net .conditions))
 
   module _ (e : fileReply file ≡ Accepted) where
-    solved : adjustReply (net .directions) (net .q) rows closings lent ≡ Accepted
+    pub solved : adjustReply (net .directions) (net .q) rows closings lent ≡ Accepted
     unfolding fileReply netReply
     solved =
         both-accepted (formedReply (net .directions) (net .q) 1 (net .conditions)) (adjustReply (net .directions) (net .q) rows closings lent)
@@ -122,7 +123,7 @@ module _ (file : List ℕ) where
       pub table-refused : (why : Refusal) → tableReply file ≡ Refused why → AdjustsFile sheet file before (record { reply = Refused why; length = 0 }) before
       table-refused why e = kept (listed-refused why (has-room ∙ file-refused file why e))
 
-      pub table-listed : {t : Tabled} {directions q a w : List ℤ} (is : Tables (tableReply file) net t directions q a w) → t .reply ≡ Accepted
+      pub table-listed : {t : Tabled} {directions q a w : List ℤ} {letters : List ℕ} (is : Tables (tableReply file) net t directions q a w letters) → t .reply ≡ Accepted
           → {listed : Listed} {after : List ℕ}
           → let ds = take (t .m) directions in let closings = take (t .n) w in
           ListedBy (adjustReply ds (take (t .m) q) (take (t .n * t .m) a) closings (room (length ds) (length closings)))

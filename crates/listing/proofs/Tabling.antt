@@ -115,7 +115,7 @@ module _ (file : List ℕ) where
   file-refused why e = both-refused (scanReply file) (formedReply (net .directions) (net .q) 1 (net .conditions)) _ why e
 
   -- the table that stands in the first places of lent lists
-  module _ {t : Tabled} {directions q a w : List ℤ} (is : Tables (tableReply file) net t directions q a w) (e : t .reply ≡ Accepted) where
+  module _ {t : Tabled} {directions q a w : List ℤ} {letters : List ℕ} (is : Tables (tableReply file) net t directions q a w letters) (e : t .reply ≡ Accepted) where
     abbrev ds : List ℤ
     ds = take (t .m) directions
 

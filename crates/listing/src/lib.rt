@@ -49,7 +49,8 @@ pub fn adjust(sheet: Sheet, file: &[u8], out: &mut [u8]) -> Listed
     let mut q = [0i64; 64];
     let mut a = [0i64; 1536];
     let mut w = [0i64; 24];
-    let tabled = network::table(file, &mut directions, &mut q, &mut a, &mut w);
+    let mut letters = [0u8; 24];
+    let tabled = network::table(file, &mut directions, &mut q, &mut a, &mut w, &mut letters);
     let reply = tabled.reply;
     if let Reply::Refused(why) = reply {
         return Listed {

@@ -1,9 +1,10 @@
--- Laws of the conditions in their order: 4 and 5 of one of them, its row and its misclosure, and those of all. Assumes nothing.
+-- Laws of the conditions in their order: 4 and 5 of one of them, its row, its misclosure and its letter, and those of all. Assumes nothing.
 --   row-refused, closing-refused, closing-accepted    what the two operations on its terms say of condition j
 --   row-is, row-length                               the row of a condition that is accepted, whatever stood there before
 --   part-length                                      the part of a list that a row takes
 --   heading-here                                     the condition that a C line begins
 --   closes                                           one condition, from its gathered terms
+--   one-more, all-taken                              a list with one entry for each condition, as misclosures and letters are: after one more, and after the last
 --   FormedTo                                         what has been formed and what the conditions left give are all there is
 --   same-left                                        the same conditions left
 --   formed-none, terms-fit, form-turn, form-room     before the first; what one more needs
@@ -30,7 +31,7 @@ use Rattle.reply.proofs.Checking.{never, both-accepted}
 use Rattle.condition.specs.declared.Kind.{Kind}
 use Rattle.condition.specs.Rules.{coefficientsReply, coefficientsList, misclosureFigure}
 use Rattle.network.specs.Net.{Condition, Net, headed, lineBefore, netFrom}
-use Rattle.network.specs.Net.{refusedAs, zeros, lentOf, conditionReply, formedReply, rowOf, misclosureOf, rowsOf, misclosuresOf}
+use Rattle.network.specs.Net.{refusedAs, zeros, lentOf, conditionReply, formedReply, rowOf, misclosureOf, rowsOf, misclosuresOf, letterOfKind, lettersOf}
 use Rattle.network.specs.Gathered.{headingIn, conditionIn, Gathers, Closes, Fit, Forms}
 use Rattle.network.specs.declared.conditions.Heading.{Heading}
 use Rattle.network.specs.declared.conditions.Heading.the-variants.{Of, NoHeading}
@@ -116,25 +117,48 @@ heading-here Sides net kind target e = λ i. headed (ap (kindOf kind) e i) (ap (
 heading-here (Term letter value d i k) net kind target e = absurd (omega (arith, ap headings e))
 heading-here Unreadable net kind target e = absurd (omega (arith, ap headings e))
 
+-- ---- a list with one entry for each condition, in their order: the first n of xs, and those of the conditions left, are all
+module _ {A : Type 0} (of : List Condition → List A) (xs : List A) (n : ℕ) {all : List A} {left : List Condition} (so-far : take n xs ++ of left ≡ all) where
+  one-more : {c : Condition} {rest : List Condition} → left ≡ c ∷ rest → (x : A) → of (c ∷ rest) ≡ x ∷ of rest → n < length xs → take (n + 1) (set xs n x) ++ of rest ≡ all
+  one-more {rest = rest} here x entry l =
+      taken-more xs (of rest) all n x l (ap (λ (ys : List A). take n xs ++ ys) (sym (ap of here ∙ entry)) ∙ so-far)
+
+  all-taken : left ≡ [] → of [] ≡ [] → take n xs ≡ all
+  all-taken none empty = taken-all xs all n (ap (λ (ys : List A). take n xs ++ ys) (sym (ap of none ∙ empty)) ∙ so-far)
+
 -- ---- the conditions in their order: those in the first n rows and those left are all
-pub record FormedTo (all left : List Condition) (directions q a w : List ℤ) (at n : ℕ) : Type 0 where
+pub record FormedTo (all left : List Condition) (directions q a w : List ℤ) (letters : List ℕ) (at n : ℕ) : Type 0 where
   pub place : at ≡ n * length directions
   pub count : n + length left ≡ length all
   pub a-long : length a ≡ 1536
   pub w-long : length w ≡ 24
+  pub letters-long : length letters ≡ 24
   pub fit : Fit left
   pub reply : formedReply directions q (n + 1) left ≡ formedReply directions q 1 all
   pub rows : take at a ++ rowsOf directions q left ≡ rowsOf directions q all
   pub closings : take n w ++ misclosuresOf directions q left ≡ misclosuresOf directions q all
+  pub kinds : take n letters ++ lettersOf left ≡ lettersOf all
 
-pub formed-none : (all : List Condition) (directions q a w : List ℤ) → length a ≡ 1536 → length w ≡ 24 → Fit all → FormedTo all all directions q a w 0 0
-formed-none all directions q a w l k f =
-    record { place = omega (arith, zero-mul (length directions)); count = omega arith; a-long = l; w-long = k; fit = f; reply = refl; rows = refl; closings = refl }
+pub formed-none : (all : List Condition) (directions q a w : List ℤ) (letters : List ℕ) → length a ≡ 1536 → length w ≡ 24 → length letters ≡ 24 → Fit all
+    → FormedTo all all directions q a w letters 0 0
+formed-none all directions q a w letters l k g f = record {
+  place = omega (arith, zero-mul (length directions));
+  count = omega arith;
+  a-long = l;
+  w-long = k;
+  letters-long = g;
+  fit = f;
+  reply = refl;
+  rows = refl;
+  closings = refl;
+  kinds = refl;
+}
 
-pub same-left : {all left others : List Condition} {directions q a w : List ℤ} {at n : ℕ} → others ≡ left → FormedTo all left directions q a w at n → FormedTo all others directions q a w at n
-same-left {all} {left} {others} {directions} {q} {a} {w} {at} {n} e f = subst (λ (cs : List Condition). FormedTo all cs directions q a w at n) (sym e) f
+pub same-left : {all left others : List Condition} {directions q a w : List ℤ} {letters : List ℕ} {at n : ℕ} → others ≡ left → FormedTo all left directions q a w letters at n
+    → FormedTo all others directions q a w letters at n
+same-left {all} {directions = directions} {q} {a} {w} {letters} {at} {n} e f = subst (λ (cs : List Condition). FormedTo all cs directions q a w letters at n) (sym e) f
 
-module _ {all left : List Condition} {directions q a w : List ℤ} {at n : ℕ} (f : FormedTo all left directions q a w at n) where
+module _ {all left : List Condition} {directions q a w : List ℤ} {letters : List ℕ} {at n : ℕ} (f : FormedTo all left directions q a w letters at n) where
   abbrev m : ℕ
   m = length directions
 
@@ -214,20 +238,21 @@ module _ {all left : List Condition} {directions q a w : List ℤ} {at n : ℕ} 
             ∙ ap (λ (cs : List Condition). take at a ++ rowsOf directions q cs) (sym here)
             ∙ f .rows
 
-        pub form-more : (y : ℤ) → y ≡ x → FormedTo all rest directions q (putMid at k a row) (set w n y) (at + m) (n + 1)
-        unfolding misclosuresOf
-        form-more y same = record {
+        pub form-more : (y : ℤ) (letter : ℕ) → y ≡ x → letter ≡ letterOfKind (c .kind) → FormedTo all rest directions q (putMid at k a row) (set w n y) (set letters n letter) (at + m) (n + 1)
+        unfolding misclosuresOf lettersOf
+        form-more y letter same of-kind = record {
           place = omega (arith, f .place, add-one n, suc-mul n m, ap (λ (j : ℕ). j * m) (add-one n));
           count = omega (arith, f .count, ap length here);
           a-long = row-put ∙ f .a-long;
           w-long = length-set w n y ∙ f .w-long;
+          letters-long = length-set letters n letter ∙ f .letters-long;
           fit = fits .1;
           reply = ap (λ (r : Reply). r andThen formedReply directions q (n + 1 + 1) rest) (sym accepted) ∙ onward;
           rows = rows-here;
-          closings = taken-more w (misclosuresOf directions q rest) (misclosuresOf directions q all) n y
-              (omega (arith, form-turn few narrow, f .w-long))
-              (ap (λ (v : ℤ). take n w ++ (v ∷ misclosuresOf directions q rest)) (same ∙ sym closed)
-              ∙ ap (λ (cs : List Condition). take n w ++ misclosuresOf directions q cs) (sym here) ∙ f .closings);
+          closings = one-more (misclosuresOf directions q) w n (f .closings) here y
+              (ap (λ (v : ℤ). v ∷ misclosuresOf directions q rest) (closed ∙ sym same)) (omega (arith, form-turn few narrow, f .w-long));
+          kinds = one-more lettersOf letters n (f .kinds) here letter
+              (ap (λ (v : ℕ). v ∷ lettersOf rest) (sym of-kind)) (omega (arith, form-turn few narrow, f .letters-long));
         }
 
   -- none is left
@@ -238,23 +263,20 @@ module _ {all left : List Condition} {directions q a w : List ℤ} {at n : ℕ} 
         ap (λ (k : ℕ). take k a) (sym (f .place))
         ∙ taken-all a (rowsOf directions q all) at (ap (λ (cs : List Condition). take at a ++ rowsOf directions q cs) (sym none) ∙ f .rows)
 
-    end-closings : take n w ≡ misclosuresOf directions q all
-    unfolding misclosuresOf
-    end-closings =
-        taken-all w (misclosuresOf directions q all) n (ap (λ (cs : List Condition). take n w ++ misclosuresOf directions q cs) (sym none) ∙ f .closings)
-
-    pub form-end : Forms directions q all Accepted n a w
-    unfolding formedReply
+    pub form-end : Forms directions q all Accepted n a w letters
+    unfolding formedReply misclosuresOf lettersOf
     form-end = record {
       answer = ap (formedReply directions q (n + 1)) (sym none) ∙ f .reply;
       count = λ e. omega (arith, f .count, ap length none);
       rows = λ e. end-rows;
-      misclosures = λ e. end-closings;
+      misclosures = λ e. all-taken (misclosuresOf directions q) w n (f .closings) none refl;
+      letters-are = λ e. all-taken lettersOf letters n (f .kinds) none refl;
     }
 
 -- a refusal: the lists are not promised
-pub forms-refused : {directions q a w : List ℤ} {all : List Condition} {n : ℕ} (why : Refusal) → Refused why ≡ formedReply directions q 1 all → Forms directions q all (Refused why) n a w
-forms-refused why e = record { answer = e; count = never why; rows = never why; misclosures = never why }
+pub forms-refused : {directions q a w : List ℤ} {letters : List ℕ} {all : List Condition} {n : ℕ} (why : Refusal) → Refused why ≡ formedReply directions q 1 all
+    → Forms directions q all (Refused why) n a w letters
+forms-refused why e = record { answer = e; count = never why; rows = never why; misclosures = never why; letters-are = never why }
 
 -- ---- one condition, from its gathered terms; z is the target as the machine reads it
 pub closes : {file : List ℕ} {start count next : ℕ} {kinds values d i k : List ℤ} → Gathers file start kinds values d i k count next

@@ -14,7 +14,7 @@ use Rattle.condition.specs.declared.Kind.{Kind}
 use Rattle.condition.specs.declared.Kind.the-variants.{Angle, Side}
 use Rattle.text.specs.Lines.{linesOf}
 use Rattle.network.specs.Records.{recordOf}
-use Rattle.network.specs.Net.{Condition, headed, netFrom, lentOf, conditionReply, misclosureOf, formedReply, rowsOf, misclosuresOf}
+use Rattle.network.specs.Net.{Condition, headed, netFrom, lentOf, conditionReply, misclosureOf, formedReply, rowsOf, misclosuresOf, lettersOf}
 use Rattle.network.specs.declared.conditions.Heading.{Heading}
 use Rattle.network.specs.declared.conditions.Heading.the-variants.{Of, NoHeading}
 use Rattle.network.specs.declared.record.Record.{Record}
@@ -99,8 +99,9 @@ Fit [] = Unit {0}
 Fit (c ∷ cs) = (length (c .kinds) ≤ 12) × Fit cs
 
 -- ---- all conditions
-pub record Forms (directions q : List ℤ) (cs : List Condition) (reply : Reply) (n : ℕ) (a w : List ℤ) : Type 0 where
+pub record Forms (directions q : List ℤ) (cs : List Condition) (reply : Reply) (n : ℕ) (a w : List ℤ) (letters : List ℕ) : Type 0 where
   pub answer : reply ≡ formedReply directions q 1 cs
   pub count : reply ≡ Accepted → n ≡ length cs
   pub rows : reply ≡ Accepted → take (n * length directions) a ≡ rowsOf directions q cs
   pub misclosures : reply ≡ Accepted → take n w ≡ misclosuresOf directions q cs
+  pub letters-are : reply ≡ Accepted → take n letters ≡ lettersOf cs

@@ -14,7 +14,7 @@ use Rattle.condition.specs.declared.Kind.{Kind}
 use Rattle.condition.specs.declared.Kind.the-variants.{Angle, Side}
 use Rattle.condition.specs.Rules.{Lent, lent, coefficientsReply, coefficientsList, misclosureFigure}
 use Rattle.text.specs.Lines.{linesOf}
-use Rattle.network.specs.Records.{recordOf}
+use Rattle.network.specs.Records.{letter-A, letter-S, recordOf}
 use Rattle.network.specs.Scan.{scanReply}
 use Rattle.network.specs.declared.Tabled.{Tabled}
 use Rattle.network.specs.declared.record.Record.{Record}
@@ -102,12 +102,21 @@ module _ (directions q : List ℤ) where
   misclosuresOf [] = []
   misclosuresOf (c ∷ cs) = misclosureOf c ∷ misclosuresOf cs
 
+-- ---- the kind of a condition, by the letter of its C line
+abbrev pub letterOfKind : Kind → ℕ
+letterOfKind Angle = letter-A
+letterOfKind Side = letter-S
+
+unfoldable pub lettersOf : List Condition → List ℕ
+lettersOf [] = []
+lettersOf (c ∷ cs) = letterOfKind (c .kind) ∷ lettersOf cs
+
 -- ---- refusals 1 to 5 of a file, and its condition table
 unfoldable pub tableReply : List ℕ → Reply
 tableReply file = let net = netOf (linesOf file) in scanReply file andThen formedReply (net .directions) (net .q) 1 (net .conditions)
 
 -- what `table` hands on: the table of an accepted net stands in the first places of the lists
-pub record Tables (rule : Reply) (net : Net) (t : Tabled) (directions q a w : List ℤ) : Type 0 where
+pub record Tables (rule : Reply) (net : Net) (t : Tabled) (directions q a w : List ℤ) (letters : List ℕ) : Type 0 where
   pub answer : t .reply ≡ rule
   pub m-most : t .reply ≡ Accepted → t .m ≤ 64
   pub n-most : t .reply ≡ Accepted → t .n ≤ 24
@@ -115,3 +124,4 @@ pub record Tables (rule : Reply) (net : Net) (t : Tabled) (directions q a w : Li
   pub q-are : t .reply ≡ Accepted → take (t .m) q ≡ net .q
   pub rows-are : t .reply ≡ Accepted → take (t .n * t .m) a ≡ rowsOf (net .directions) (net .q) (net .conditions)
   pub misclosures-are : t .reply ≡ Accepted → take (t .n) w ≡ misclosuresOf (net .directions) (net .q) (net .conditions)
+  pub letters-are : t .reply ≡ Accepted → take (t .n) letters ≡ lettersOf (net .conditions)

@@ -1,11 +1,11 @@
-// Each condition's terms through `condition`: its row of coefficients and its misclosure, or refusal 4 or 5 with the condition's number.
+// Each condition's terms through `condition`: its row of coefficients and its misclosure, or refusal 4 or 5 with the condition's number; and its kind's letter.
 ghost use mathlib.Core.Path.{_≡_};
 ghost use Prim.Native.Nat.{_≤_};
 ghost use lib.ListN.{length, drop};
 ghost use Rattle.text.specs.Lines.{linesOf};
 ghost use Rattle.reply.specs.Checks.{figureOf};
 ghost use Rattle.condition.specs.Rules.{coefficientsList};
-ghost use Rattle.network.specs.Net.{headed, lentOf, conditionReply, misclosureOf, netFrom};
+ghost use Rattle.network.specs.Net.{headed, lentOf, conditionReply, misclosureOf, letterOfKind, netFrom};
 ghost use Rattle.network.specs.Turns.{Stands};
 ghost use Rattle.network.specs.Gathered.{conditionIn, headingIn, Body, Opened, Fit, Closes, Forms};
 use crate::record::Record;
@@ -46,6 +46,16 @@ fn heading_of(said: Record) -> Heading
             k: _,
         } => Heading::NoHeading,
         Record::Unreadable => Heading::NoHeading,
+    }
+}
+
+// The letter of a kind on its C line.
+fn letter_of(kind: Kind) -> u8
+    ensures { λ r. ⌜ r ≡ letterOfKind kind ⌝ }
+{
+    match kind {
+        Kind::Angle => b'A',
+        Kind::Side => b'S',
     }
 }
 
@@ -139,13 +149,14 @@ fn form_at(
     }
 }
 
-// What has been formed: n rows and misclosures, or why not.
+// What has been formed: n rows, misclosures and letters, or why not.
 pub struct Formed {
     pub reply: Reply,
     pub n: usize,
 }
 
-// All conditions that stand at `first` and after it, in their order: rows of m coefficients into a, misclosures into w. The line at `first` has been read.
+// All conditions that stand at `first` and after it, in their order: rows of m coefficients into a, misclosures into w, and beside them the
+// letters of their kinds. The line at `first` has been read.
 pub fn form_all(
     file: &[u8],
     first: usize,
@@ -155,11 +166,12 @@ pub fn form_all(
     q: &[i64],
     a: &mut [i64],
     w: &mut [i64],
+    letters: &mut [u8],
 ) -> Formed
-    requires { ⌜ (first ≤ length (now file)) × (length (now directions) ≤ 64) × (length (now a) ≡ 1536) × (length (now w) ≡ 24) ⌝ }
+    requires { ⌜ (first ≤ length (now file)) × (length (now directions) ≤ 64) × (length (now a) ≡ 1536) × (length (now w) ≡ 24) × (length (now letters) ≡ 24) ⌝ }
     requires { ⌜ Stands (now file) first opening behind ⌝ }
     requires { ⌜ (length (netFrom (now file) first .conditions) ≤ 24) × Fit (netFrom (now file) first .conditions) × Opened (linesOf (drop first (now file))) ⌝ }
-    ensures { λ r. ⌜ Forms (now (directions .entry)) (now (q .entry)) (netFrom (now (file .entry)) first .conditions) (r .reply) (r .n) (now (a .exit)) (now (w .exit)) ⌝ }
+    ensures { λ r. ⌜ Forms (now (directions .entry)) (now (q .entry)) (netFrom (now (file .entry)) first .conditions) (r .reply) (r .n) (now (a .exit)) (now (w .exit)) (now (letters .exit)) ⌝ }
 {
     let m = directions.len();
     // where the line that says `said` starts: what is still to come is told from there
@@ -190,6 +202,7 @@ pub fn form_all(
         match figure {
             Figure::Value(x) => {
                 w[n] = x;
+                letters[n] = letter_of(kind);
             }
             Figure::Refused(why) => {
                 return Formed {

@@ -18,16 +18,18 @@ pub struct Tabled {
     pub n: usize,
 }
 
-// The condition table of a file: directions and q, rows of m coefficients, misclosures, each in the first places of its list.
+// The condition table of a file: directions and q, rows of m coefficients, misclosures, and the letters of the conditions' kinds (A or S, beside
+// the misclosures), each in the first places of its list.
 pub fn table(
     file: &[u8],
     directions: &mut [i64],
     q: &mut [i64],
     a: &mut [i64],
     w: &mut [i64],
+    letters: &mut [u8],
 ) -> Tabled
-    requires { ⌜ (length (now directions) ≡ 64) × (length (now q) ≡ 64) × (length (now a) ≡ 1536) × (length (now w) ≡ 24) ⌝ }
-    ensures { λ r. ⌜ Tables (tableReply (now (file .entry))) (netOf (linesOf (now (file .entry)))) r (now (directions .exit)) (now (q .exit)) (now (a .exit)) (now (w .exit)) ⌝ }
+    requires { ⌜ (length (now directions) ≡ 64) × (length (now q) ≡ 64) × (length (now a) ≡ 1536) × (length (now w) ≡ 24) × (length (now letters) ≡ 24) ⌝ }
+    ensures { λ r. ⌜ Tables (tableReply (now (file .entry))) (netOf (linesOf (now (file .entry)))) r (now (directions .exit)) (now (q .exit)) (now (a .exit)) (now (w .exit)) (now (letters .exit)) ⌝ }
 {
     let scanned = scan::scan(file);
     if let Reply::Refused(why) = scanned {
@@ -49,6 +51,7 @@ pub fn table(
         &q[..m],
         a,
         w,
+        letters,
     );
     let n = formed.n;
     let reply = formed.reply;

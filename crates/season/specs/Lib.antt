@@ -3,3 +3,4 @@ pub mod Share
 pub mod Season
 pub mod Stream
 pub mod Inner
+pub mod Promise

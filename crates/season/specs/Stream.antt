@@ -31,6 +31,9 @@ pub record Stream : Type 0 where
   pub totals : List ℕ
   pub place : Place
 
+abbrev pub stream : (held totals : List ℕ) → Place → Stream
+stream held totals place = record { held = held; totals = totals; place = place }
+
 abbrev pub placeAt : (bytes line past : ℕ) → Place
 placeAt bytes line past = record { bytes = bytes; line = line; past = past }
 
@@ -56,13 +59,17 @@ lineAfter line byte = cond (eqb byte LF) 0 (cond (eqb line 0 && eqb byte STOP) 1
 unfoldable pub openShare : (held : List ℕ) (bytes : ℕ) → List ℕ
 openShare held bytes = cond (ltb room bytes) longShare (shareOf (take (bytes - 1) held))
 
--- ---- one byte; once a net past 100,000 has come, nothing changes
+-- ---- one byte: the LF of a full stop line closes the open net, any other byte belongs to it
+unfoldable pub closes : (byte line : ℕ) → Bool
+closes byte line = eqb byte LF && eqb line 1
+
 unfoldable pub taken : (byte : ℕ) → Stream → Stream
 taken byte s =
-    cond (eqb byte LF && eqb (s .place .line) 1)
-    (record { held = s .held; totals = countedIn (openShare (s .held) (s .place .bytes)) (s .totals); place = placeAt 0 0 (pastAfter (s .totals)) })
-    (record { held = keptIn (s .held) (s .place .bytes) byte; totals = s .totals; place = placeAt (keptBytes (s .place .bytes)) (lineAfter (s .place .line) byte) 0 })
+    cond (closes byte (s .place .line))
+    (stream (s .held) (countedIn (openShare (s .held) (s .place .bytes)) (s .totals)) (placeAt 0 0 (pastAfter (s .totals))))
+    (stream (keptIn (s .held) (s .place .bytes) byte) (s .totals) (placeAt (keptBytes (s .place .bytes)) (lineAfter (s .place .line) byte) 0))
 
+-- once a net past 100,000 has come, nothing changes
 unfoldable pub fedByte : (byte : ℕ) → Stream → Stream
 fedByte byte s = cond (eqb (s .place .past) 1) s (taken byte s)
 
@@ -71,11 +78,11 @@ fed [] s = s
 fed (byte ∷ bytes) s = fed bytes (fedByte byte s)
 
 -- ---- the end: bytes left are a net too
-unfoldable pub ended : Stream → Stream
-ended s =
-    cond (eqb (s .place .bytes) 0 || eqb (s .place .past) 1)
-    (record { held = s .held; totals = s .totals; place = placeAt 0 0 (s .place .past) })
-    (record { held = s .held; totals = countedIn leftShare (s .totals); place = placeAt 0 0 (pastAfter (s .totals)) })
+unfoldable pub endedTotals : (totals : List ℕ) → Place → List ℕ
+endedTotals totals p = cond (eqb (p .bytes) 0 || eqb (p .past) 1) totals (countedIn leftShare totals)
+
+unfoldable pub endedPlace : (totals : List ℕ) → Place → Place
+endedPlace totals p = placeAt 0 0 (cond (eqb (p .bytes) 0 || eqb (p .past) 1) (p .past) (pastAfter totals))
 
 -- ---- the lists as they are lent
 unfoldable pub placeOf : (place : List ℕ) → Place
@@ -85,7 +92,7 @@ unfoldable pub placeList : Place → List ℕ
 placeList p = p .bytes ∷ p .line ∷ p .past ∷ []
 
 abbrev pub streamOf : (held totals place : List ℕ) → Stream
-streamOf held totals place = record { held = held; totals = totals; place = placeOf place }
+streamOf held totals place = stream held totals (placeOf place)
 
 -- ---- the checks of a lent state: lengths, then what no stream has, by the ordinal in totals and place together
 unfoldable pub lengthsAmiss : (held totals place : ℕ) → Bool
@@ -97,10 +104,13 @@ mostAt i = cond (eqb i 0) mostNets mostTotal
 abbrev pub totalAmiss : (totals : List ℕ) (i : ℕ) → Bool
 totalAmiss totals i = ltb (mostAt i) (getD totals i 0)
 
+unfoldable pub lineAmiss : (line bytes : ℕ) → Bool
+lineAmiss line bytes = ltb 2 line || (eqb line 1 && eqb bytes 0)
+
 unfoldable pub placeReply : Place → Reply
 placeReply p =
     refuseIf (ltb over (p .bytes)) (OutOfRange 17)
-    andThen (refuseIf (ltb 2 (p .line) || (eqb (p .line) 1 && eqb (p .bytes) 0)) (OutOfRange 18)
+    andThen (refuseIf (lineAmiss (p .line) (p .bytes)) (OutOfRange 18)
     andThen refuseIf (ltb 1 (p .past)) (OutOfRange 19))
 
 abbrev pub totalsReply : (totals : List ℕ) → Reply

@@ -4,7 +4,7 @@
 --   joined-most                                      no more than their sum
 --   sum-length, sum-at                               the sum of two reports, place by place
 --   sum-none, sum-comm, sum-assoc                    the report of no nets adds nothing, and the order of reports does not matter
---   report-at, report-first                          a total of the report; the report of a net before others
+--   report-length, report-at, report-first           a total of the report; the report of a net before others
 --   sum-more                                         a share added to the totals so far, and then the others
 --   report-joined                                    the report of nets and others after them is the sum of the two reports
 use mathlib.Core.Path.{_≡_, sym, _∙_, ap, ap₂}
@@ -106,7 +106,7 @@ report-first share shares = tabulate-ext 16 _ _ (λ i l. ap (joined i (getD shar
 pub sum-more : (totals share : List ℕ) (shares : List (List ℕ)) → sumOf (sumOf totals share) (reportOf shares) ≡ sumOf totals (reportOf (share ∷ shares))
 sum-more totals share shares = sum-assoc totals share (reportOf shares) ∙ ap (sumOf totals) (sym (report-first share shares))
 
-report-length : (shares : List (List ℕ)) → length (reportOf shares) ≡ 16
+pub report-length : (shares : List (List ℕ)) → length (reportOf shares) ≡ 16
 unfolding reportOf
 report-length shares = tabulate-length 16 (λ i. total i shares)
 

@@ -4,9 +4,10 @@ pub mod adding;
 pub mod report;
 
 ghost use mathlib.Core.Path.{_≡_};
+ghost use mathlib.Core.List.{[]};
 ghost use Prim.Native.Nat.{ℕ, _+_, _≤_, _<_};
 ghost use lib.ListN.{length, getD};
-ghost use Rattle.totals.specs.Totals.{largestAt, joined, sumOf};
+ghost use Rattle.totals.specs.Totals.{largestAt, joined, sumOf, reportOf};
 ghost use Rattle.totals.specs.Promise.{tooLarge, sizesReply, Adds};
 use reply::Refusal;
 use reply::Reply;
@@ -42,6 +43,18 @@ fn joined(i: usize, x: u64, y: u64) -> u64
         return x;
     }
     x + y
+}
+
+// The report of no nets.
+pub fn clear(totals: &mut [u64])
+    requires { ⌜ length (now totals) ≡ 16 ⌝ }
+    ensures { λ _. ⌜ now (totals .exit) ≡ reportOf [] ⌝ }
+{
+    let mut i = 0;
+    while i < TOTALS {
+        totals[i] = 0;
+        i += 1;
+    }
 }
 
 // Adds a report, or one net's share, to the totals.

@@ -1,13 +1,14 @@
 //! Writes the listing of the network file on standard input; with the argument `probable`,
-//! that with its E line; with `means`, that of the sighting book there; or, with `census`
-//! (and a number of cases and a seed), how often each reply occurs among the generated
-//! inputs.
+//! that with its E line; with `means`, that of the sighting book there; with `report`, the
+//! season report of the archive there; with `add_reports`, the sum of the reports there;
+//! or, with `census` (and a number of cases and a seed), how often each reply occurs among
+//! the generated inputs.
 
 use std::env;
 use std::io::{self, Read, Write};
 use std::process::ExitCode;
 
-use reference::{book, census, network};
+use reference::{book, census, network, reports};
 
 fn main() -> ExitCode {
     let arguments: Vec<String> = env::args().skip(1).collect();
@@ -15,9 +16,12 @@ fn main() -> ExitCode {
         None => write_listing(network::listing),
         Some("probable") if arguments.len() == 1 => write_listing(network::probable_listing),
         Some("means") if arguments.len() == 1 => write_listing(book::listing),
+        Some("report") if arguments.len() == 1 => write_listing(reports::report),
+        Some("add_reports") if arguments.len() == 1 => write_listing(reports::add_reports),
         Some("census") => write_census(&arguments[1..]),
         Some(_) => Err(io::Error::other(
             "use: reference < net, reference probable < net, reference means < book, \
+             reference report < archive, reference add_reports < reports, \
              or reference census [cases [seed]]",
         )),
     };

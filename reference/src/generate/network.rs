@@ -209,7 +209,7 @@ fn ends(row: &[i64]) -> Vec<(i64, usize, usize)> {
     ends
 }
 
-fn direction_lines(directions: &[i64], q: &[i64]) -> Vec<Line> {
+pub(super) fn direction_lines(directions: &[i64], q: &[i64]) -> Vec<Line> {
     let numbered = directions.iter().zip(q).enumerate();
     numbered
         .map(|(index, (direction, q))| line!["D", index + 1, direction, q])
@@ -222,7 +222,7 @@ fn other_direction(rng: &mut Rng, m: usize, one: i64) -> i64 {
     (one + rng.range(1, m)).rem_euclid(m + 1)
 }
 
-fn angle(directions: &[i64], i: i64, k: i64) -> i64 {
+pub(super) fn angle(directions: &[i64], i: i64, k: i64) -> i64 {
     let value = |number: i64| match number {
         0 => 0,
         _ => directions[number as usize - 1],
@@ -294,7 +294,7 @@ fn side_condition(rng: &mut Rng, directions: &[i64], own: i64) -> Vec<Line> {
     terms
 }
 
-fn moderate_misclosure(rng: &mut Rng) -> i64 {
+pub(super) fn moderate_misclosure(rng: &mut Rng) -> i64 {
     match rng.below(12) {
         0 => 0,
         1 => rng.range(-100_000, 100_000),

@@ -3,7 +3,7 @@
 use super::*;
 use reference::census::{self, Replies};
 use reference::generate::Rng;
-use reference::{book, precision};
+use reference::{book, precision, reports, season};
 
 fn assert_frequent(name: &str, replies: &Replies, numbers: &[i64], cases: usize) {
     for number in numbers {
@@ -38,6 +38,20 @@ fn every_reply_occurs_often() {
     assert_eq!(census.probable_file, census.network);
     let book = [0, 1, 2, 21, 22, 23, 24, 25, 26];
     assert_frequent("book", &census.book, &book, cases);
+    assert_frequent("season next", &census.season_next, &[0, 2, 3], cases);
+    assert_frequent("season end", &census.season_end, &[0, 2, 3, 30], cases);
+    assert_frequent("add reports", &census.add_reports, &[0, 2, 3, 30], cases);
+    let texts = &census.texts_of_reports;
+    assert_frequent("texts of reports", texts, &[0, 1, 30], cases);
+    // Archives of 100,000 nets are few, since they are long.
+    assert!(census.report.keys().eq(&[0, 2, 30]));
+    assert_frequent("nets", &census.season_nets, &network, cases);
+    assert!(5 * census.season_shared >= cases);
+    assert!(census.archives.iter().all(|&count| 20 * count >= cases));
+    assert!(census.states.iter().all(|&count| 20 * count >= cases));
+    assert!(census.long_states.iter().all(|&count| 200 * count >= cases));
+    assert!(census.state_ordinals.keys().copied().eq(1..=19));
+    assert!(census.sum_ordinals.keys().copied().eq(1..=16));
     assert_eq!(census.table_weaknesses.len(), 5);
     assert_eq!(census.network_weaknesses.len(), 5);
     for pivots in [census.table_pivots, census.network_pivots] {
@@ -76,6 +90,35 @@ fn wild_list(rng: &mut Rng, length: usize) -> Vec<i64> {
             }
         })
         .collect()
+}
+
+/// Every operation of the season on lists of any numbers, most often of the right lengths.
+fn wild_season(rng: &mut Rng, bytes: &[u8]) {
+    let numbers = |rng: &mut Rng, right: usize| -> Vec<u64> {
+        let list = wild_list(rng, right).into_iter();
+        let small = rng.chance(70);
+        list.map(|x| {
+            if small {
+                x.unsigned_abs() % 4
+            } else {
+                x as u64
+            }
+        })
+        .collect()
+    };
+    let length = if rng.chance(95) { season::HELD } else { 7 };
+    let mut held = vec![b'\n'; length];
+    let [mut totals, other, mut sum] = [(); 3].map(|()| numbers(rng, 16));
+    let mut place = numbers(rng, 3);
+    if rng.chance(50) && !place.is_empty() {
+        place[0] = place[0].saturating_add(65_534);
+    }
+    let _ = season::add_reports(&totals, &other, &mut sum);
+    let _ = season::next(bytes, &mut held, &mut totals, &mut place);
+    let _ = season::next(b"\n.\n.\n", &mut held, &mut totals, &mut place);
+    let _ = season::end(&held, &mut totals, &mut place);
+    let _ = season::report(bytes, &mut totals);
+    let _ = season::begin(&held, &mut totals, &mut place);
 }
 
 #[test]
@@ -121,6 +164,9 @@ fn no_input_panics() {
         let _ = network::margins(&bytes);
         let _ = network::blunder(&bytes);
         let _ = book::listing(&bytes);
+        let _ = reports::report(&bytes);
+        let _ = reports::add_reports(&bytes);
+        wild_season(&mut rng, &bytes);
         let _ = lines::line(&bytes, rng.below(70));
         let _ = lines::read_number(&bytes);
     }

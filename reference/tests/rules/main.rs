@@ -1,5 +1,5 @@
 //! The rules as tests: the ten figures, every refusal, the readings of open points, the
-//! sighting book, and what the generator reaches.
+//! sighting book, the season report, and what the generator reaches.
 
 mod book;
 mod census;
@@ -7,6 +7,8 @@ mod figures;
 mod precision;
 mod readings;
 mod refusals;
+mod reports;
+mod season;
 
 use reference::adjustment::{self, Adjustment, ConditionTable, Weakness};
 use reference::condition::{self, ConditionKind, LentCondition};

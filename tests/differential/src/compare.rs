@@ -16,6 +16,7 @@ pub struct Outcome {
     /// Number and place, or the one number that the function returns and 0.
     pub said: [u64; 2],
     pub numbers: Vec<Lent<i64>>,
+    pub counts: Vec<Lent<u64>>,
     pub bytes: Vec<Lent<u8>>,
 }
 

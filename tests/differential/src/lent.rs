@@ -5,6 +5,9 @@ use std::fmt::{self, Debug};
 /// Cells before and behind a list, where a write outside of it would show.
 const MARGIN: usize = 4;
 
+/// So many cells at the end of a list that say nothing new are written out as their number.
+const LONG: usize = 256;
+
 /// What a cell holds before a call: different from cell to cell, and never an answer.
 pub trait Mark: Copy + Debug + PartialEq {
     fn mark(cell: usize) -> Self;
@@ -15,6 +18,16 @@ pub trait Mark: Copy + Debug + PartialEq {
 impl Mark for i64 {
     fn mark(cell: usize) -> Self {
         -7_000_000_000_000_000_000 - cell as i64
+    }
+
+    fn literal(list: &[Self]) -> String {
+        format!("{list:?}")
+    }
+}
+
+impl Mark for u64 {
+    fn mark(cell: usize) -> Self {
+        17_000_000_000_000_000_000 + cell as u64
     }
 
     fn literal(list: &[Self]) -> String {
@@ -96,7 +109,25 @@ impl<T: Mark> Debug for Lent<T> {
     fn fmt(&self, out: &mut fmt::Formatter) -> fmt::Result {
         let untouched = |cell: usize| self.cells[cell] == T::mark(cell);
         let mut margins = (0..MARGIN).chain(MARGIN + self.length..self.cells.len());
-        write!(out, "{}", T::literal(self.list()))?;
+        let list = self.list();
+        let indices = || (0..list.len()).rev();
+        let blank = indices()
+            .take_while(|&index| untouched(MARGIN + index))
+            .count();
+        let alike = indices()
+            .take_while(|&index| list.last() == list.get(index))
+            .count();
+        match list.last() {
+            Some(_) if blank > LONG => {
+                let head = T::literal(&list[..list.len() - blank]);
+                write!(out, "{head} and {blank} cells as they were")?;
+            }
+            Some(last) if alike > LONG => {
+                let head = T::literal(&list[..list.len() - alike]);
+                write!(out, "{head} and {alike} cells of {last:?}")?;
+            }
+            _ => write!(out, "{}", T::literal(list))?,
+        }
         if margins.all(untouched) {
             Ok(())
         } else {
@@ -116,6 +147,18 @@ mod tests {
         lent.cells[MARGIN + 2] = 0;
         assert_ne!(lent, Lent::holding(&[1, 2]));
         assert!(format!("{lent:?}").contains("margins"));
+    }
+
+    #[test]
+    fn a_long_end_is_written_out_as_its_number() {
+        let mut lent = Lent::<u8>::blank(1_000);
+        assert_eq!(format!("{lent:?}"), "b\"\" and 1000 cells as they were");
+        lent.put(b"ab");
+        assert_eq!(format!("{lent:?}"), "b\"ab\" and 998 cells as they were");
+        let alike = Lent::holding(&[b"ab".as_slice(), &[7; 998]].concat());
+        assert_eq!(format!("{alike:?}"), "b\"ab\" and 998 cells of 7");
+        assert_eq!(format!("{:?}", Lent::holding(&[5_u64; 3])), "[5, 5, 5]");
+        assert_eq!(format!("{:?}", Lent::<u64>::blank(0)), "[]");
     }
 
     #[test]

@@ -7,3 +7,4 @@ pub mod lent;
 pub mod molsadriu;
 pub mod net;
 pub mod operations;
+pub mod season;

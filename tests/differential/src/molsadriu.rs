@@ -136,6 +136,51 @@ extern "C" {
         length: *mut usize,
     ) -> Verdict;
 
+    fn molsadriu_report(
+        archive: *const u8,
+        archive_length: usize,
+        totals: *mut u64,
+        totals_room: usize,
+    ) -> Verdict;
+
+    fn molsadriu_season_begin(
+        held: *const u8,
+        held_length: usize,
+        totals: *mut u64,
+        totals_room: usize,
+        place: *mut u64,
+        place_room: usize,
+    ) -> Verdict;
+
+    fn molsadriu_season_next(
+        bytes: *const u8,
+        bytes_length: usize,
+        held: *mut u8,
+        held_room: usize,
+        totals: *mut u64,
+        totals_room: usize,
+        place: *mut u64,
+        place_room: usize,
+    ) -> Verdict;
+
+    fn molsadriu_season_end(
+        held: *const u8,
+        held_length: usize,
+        totals: *mut u64,
+        totals_room: usize,
+        place: *mut u64,
+        place_room: usize,
+    ) -> Verdict;
+
+    fn molsadriu_add_reports(
+        first: *const u64,
+        first_length: usize,
+        second: *const u64,
+        second_length: usize,
+        sum: *mut u64,
+        sum_room: usize,
+    ) -> Verdict;
+
     fn molsadriu_refused_line(number: u64, place: u64, out: *mut u8, out_room: usize) -> usize;
 
     fn molsadriu_list_file(
@@ -278,6 +323,81 @@ pub fn probable_error(n: usize, [u, q, mean, probable]: &mut [Numbers; 4]) -> Ve
             n,
             mean.pointer(),
             probable.pointer(),
+        )
+    }
+}
+
+pub type Counts = Lent<u64>;
+
+pub fn report(archive: &mut Lent<u8>, totals: &mut Counts) -> Verdict {
+    unsafe {
+        molsadriu_report(
+            archive.pointer(),
+            archive.length(),
+            totals.pointer(),
+            totals.length(),
+        )
+    }
+}
+
+/// Lists in the header's order: totals, place.
+pub fn season_begin(held: &mut Lent<u8>, [totals, place]: &mut [Counts; 2]) -> Verdict {
+    unsafe {
+        molsadriu_season_begin(
+            held.pointer(),
+            held.length(),
+            totals.pointer(),
+            totals.length(),
+            place.pointer(),
+            place.length(),
+        )
+    }
+}
+
+/// Lists as for the beginning.
+pub fn season_next(
+    bytes: &mut Lent<u8>,
+    held: &mut Lent<u8>,
+    [totals, place]: &mut [Counts; 2],
+) -> Verdict {
+    unsafe {
+        molsadriu_season_next(
+            bytes.pointer(),
+            bytes.length(),
+            held.pointer(),
+            held.length(),
+            totals.pointer(),
+            totals.length(),
+            place.pointer(),
+            place.length(),
+        )
+    }
+}
+
+/// Lists as for the beginning.
+pub fn season_end(held: &mut Lent<u8>, [totals, place]: &mut [Counts; 2]) -> Verdict {
+    unsafe {
+        molsadriu_season_end(
+            held.pointer(),
+            held.length(),
+            totals.pointer(),
+            totals.length(),
+            place.pointer(),
+            place.length(),
+        )
+    }
+}
+
+/// Lists in the header's order: first, second; sum.
+pub fn add_reports([first, second, sum]: &mut [Counts; 3]) -> Verdict {
+    unsafe {
+        molsadriu_add_reports(
+            first.pointer(),
+            first.length(),
+            second.pointer(),
+            second.length(),
+            sum.pointer(),
+            sum.length(),
         )
     }
 }

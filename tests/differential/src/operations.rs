@@ -43,7 +43,7 @@ pub struct Drawn<C> {
 }
 
 impl<C> Drawn<C> {
-    fn new(case: C, rng: &mut Rng) -> Self {
+    pub(crate) fn new(case: C, rng: &mut Rng) -> Self {
         let null = rng.chance(50);
         Drawn { case, null }
     }
@@ -68,14 +68,20 @@ fn wild(rng: &mut Rng, most: usize) -> Vec<i64> {
     (0..length).map(|_| number(rng)).collect()
 }
 
-fn is_wild(rng: &mut Rng) -> bool {
+pub(crate) fn is_wild(rng: &mut Rng) -> bool {
     rng.below(30) == 0
+}
+
+/// Number and place of a refusal, as a verdict has them.
+pub(crate) fn refused(refusal: Refusal) -> [u64; 2] {
+    [refusal.number, refusal.place].map(|x| u64::try_from(x).unwrap_or(!0))
 }
 
 fn of_verdict(verdict: Verdict, numbers: impl Into<Vec<Lent<i64>>>) -> Outcome {
     Outcome {
         said: [verdict.number, verdict.place],
         numbers: numbers.into(),
+        counts: Vec::new(),
         bytes: Vec::new(),
     }
 }
@@ -98,16 +104,17 @@ fn expected<T>(
             }
             [0, 0]
         }
-        Err(refusal) => [refusal.number, refusal.place].map(|x| u64::try_from(x).unwrap_or(!0)),
+        Err(refusal) => refused(refusal),
     };
     Outcome {
         said: verdict,
         numbers,
+        counts: Vec::new(),
         bytes: Vec::new(),
     }
 }
 
-fn verdict_reply(outcome: &Outcome) -> Reply {
+pub(crate) fn verdict_reply(outcome: &Outcome) -> Reply {
     match outcome.said {
         [0, _] => Reply::Accepted,
         [number, _] => Reply::Refused(number),
@@ -540,6 +547,7 @@ fn of_bytes(said: u64, bytes: Vec<Lent<u8>>) -> Outcome {
     Outcome {
         said: [said, 0],
         numbers: Vec::new(),
+        counts: Vec::new(),
         bytes,
     }
 }

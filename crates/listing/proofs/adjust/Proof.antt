@@ -19,10 +19,10 @@ room-requires c κs = search needs
 -- ---- a buffer that has room
 module _ (t : tie.After-table) where
   abbrev start : tie.Start
-  start = t .before .before .before .before .before .before .before .before .before
+  start = t .before .before .before .before .before .before .before .before .before .before
 
   roomy : roomOf (start .args .sheet) ≤ length (now (start .args .out))
-  roomy = let f = t .before .before .before .before .before in omega (arith, f .if1 .left, f .before .room .ensures)
+  roomy = let f = t .before .before .before .before .before .before in omega (arith, f .if1 .left, f .before .room .ensures)
 
 returns : tie.Need-returns
 returns c =
@@ -41,6 +41,9 @@ slice-aggregate-table-3 c = search needs
 slice-aggregate-table-4 : tie.Need-slice-aggregate-table-4
 slice-aggregate-table-4 c = search needs
 
+slice-aggregate-table-5 : tie.Need-slice-aggregate-table-5
+slice-aggregate-table-5 c = search needs
+
 table-requires : tie.Need-table-requires
 table-requires c κs = search needs
 
@@ -49,7 +52,7 @@ enum-known-reply c = search needs
 
 returns-2 : tie.Need-returns-2
 returns-2 c =
-    let t = c .before .before .before .before .before .before .before in let s = start t in
+    let t = c .before .before .before .before .before .before .before .before in let s = start t in
     table-refused (now (s .args .file)) (s .args .sheet) (now (s .args .out)) (roomy t) (c .before .reply .given .0 .0) (sym (t .table .ensures .answer) ∙ c .before .reply .given .1)
 
 enum-told : tie.Need-enum-told
@@ -58,7 +61,7 @@ enum-told c = search needs
 -- ---- the table of an accepted file
 module _ (c : tie.After-enum-told) where
   abbrev tabled : tie.After-table
-  tabled = c .before .before .before .before .before .before
+  tabled = c .before .before .before .before .before .before .before
 
   abbrev m : ℕ
   m = tabled .table .result .m
@@ -140,6 +143,7 @@ adjust-spec =
     slice-aggregate-table-2
     slice-aggregate-table-3
     slice-aggregate-table-4
+    slice-aggregate-table-5
     table-requires
     enum-known-reply
     returns-2

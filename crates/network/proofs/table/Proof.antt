@@ -17,8 +17,12 @@ use Rattle.network.proofs.table.Statement.{statement}
 use Rattle.network.proofs.table.Tie as tie
 
 -- ---- a file whose scan is accepted
-accepts : (c : tie.After-enum-told) → scanReply (now (c .before .before .before .before .args .file)) ≡ Accepted
-accepts c = sym (c .before .before .scan .ensures .answer) ∙ c .enum-told .given .1
+module _ (c : tie.After-enum-told) where
+  abbrev start : tie.Start
+  start = c .before .before .before .before .before
+
+  accepts : scanReply (now (start .args .file)) ≡ Accepted
+  accepts = sym (c .before .before .scan .ensures .answer) ∙ c .enum-told .given .1
 
 scan-requires : tie.Need-scan-requires
 scan-requires c κs = search needs
@@ -28,7 +32,7 @@ enum-known-scanned c = search needs
 
 returns : tie.Need-returns
 returns c =
-    let s = c .before .before .before .before .before in
+    let s = c .before .before .before .before .before .before in
     table-refused (now (s .args .file)) _ (sym (c .before .before .before .scan .ensures .answer) ∙ c .before .scanned .given .1)
 
 enum-told : tie.Need-enum-told
@@ -36,8 +40,8 @@ enum-told c = search needs
 
 read-requires : tie.Need-read-requires
 read-requires c κs =
-    let file = now (c .before .before .before .before .before .before .args .file) in let accepted = accepts (c .before .before) in
-    ((omega (arith, scan-bounds file accepted .m), file-led file accepted), (c .before .before .before .before .before .before .pre .0, c .before .before .before .before .before .before .pre .1))
+    let s = start (c .before .before) in let file = now (s .args .file) in let accepted = accepts (c .before .before) in
+    ((omega (arith, scan-bounds file accepted .m), file-led file accepted), (s .pre .0, s .pre .1))
 
 slice-reshare-prefix-form-all : tie.Need-slice-reshare-prefix-form-all
 slice-reshare-prefix-form-all c = search needs
@@ -53,8 +57,8 @@ slice-aggregate-form-all-2 c = let d = c .before .before .before .before .read .
 
 form-all-requires : tie.Need-form-all-requires
 form-all-requires c κs =
-    let r = c .before .before .before .before .before .before in let d = r .read .ensures .0 in let s = r .before .before .before .before .before .before .before in let file = now (s .args .file) in let room = scan-bounds file (accepts (r .before .before .before)) in (
-      (d .within, omega (arith, directions-long d, d .most), s .pre .2, s .pre .3),
+    let r = c .before .before .before .before .before .before .before in let d = r .read .ensures .0 in let told = r .before .before .before in let s = start told in let room = scan-bounds (now (s .args .file)) (accepts told) in (
+      (d .within, omega (arith, directions-long d, d .most), s .pre .2, s .pre .3, s .pre .4),
       (r .read .ensures .1, (omega (arith, room .n, ap (λ (cs : List Condition). length cs) (d .conditions)), subst Fit (sym (d .conditions)) (room .fit), d .opened)),
     )
 
@@ -70,9 +74,13 @@ same-length-3 c = search needs
 same-length-4 : tie.Need-same-length-4
 same-length-4 c = search needs
 
+same-length-5 : tie.Need-same-length-5
+same-length-5 c = search needs
+
 returns-2 : tie.Need-returns-2
 returns-2 c =
-    let r = c .before .before .before .before .before .before .before .before .before in table-formed (now (r .before .before .before .before .before .before .before .args .file)) (accepts (r .before .before .before)) (r .read .ensures .0) (c .before .before .form-all .ensures)
+    let formed = c .before .before .before .before in let r = formed .before .before .before .before .before .before .before .before in let told = r .before .before .before in
+    table-formed (now (start told .args .file)) (accepts told) (r .read .ensures .0) (formed .form-all .ensures)
 
 pub table-spec : {M : Type 1} → statement M
 table-spec =
@@ -92,4 +100,5 @@ table-spec =
     same-length-2
     same-length-3
     same-length-4
+    same-length-5
     returns-2)

@@ -10,6 +10,7 @@ use differential::operations::{
     AdjustFile, AdjustTable, Coefficients, Line, LineStatusAt, ListFile, Misclosure, ProbableError,
     ProbableFile, RefusedLine, StationBook, StationMeans,
 };
+use differential::season::{AddReports, Begin, End, Next, Report, Season};
 
 const CASES: u64 = 75_000;
 const SEED: u64 = 138;
@@ -45,6 +46,12 @@ fn reply(words: &[&str]) -> Option<bool> {
         row::<ProbableError>(),
         row::<ProbableFile>(),
         row::<StationBook>(),
+        row::<Report>(),
+        row::<Season>(),
+        row::<Begin>(),
+        row::<Next>(),
+        row::<End>(),
+        row::<AddReports>(),
         row::<RefusedLine>(),
         row::<ListFile>(),
         row::<Line>(),

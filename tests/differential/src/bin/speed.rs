@@ -1,5 +1,7 @@
 //! speed [CALLS [REPEATS]]: how long the library and `reference/` take for nets and
-//! sighting books as large as the rules allow, in one process and in turn.
+//! sighting books as large as the rules allow, in one process and in turn; then for the
+//! archive of a season.
+//! speed season [REPEATS]: the archive alone.
 //! speed net [NUMBER], speed book [NUMBER]: the file of one of these nets or books, 1 to
 //! 16, for timing the programs.
 
@@ -11,10 +13,13 @@ use std::time::Instant;
 
 use differential::book::fullest_book;
 use differential::lent::Lent;
-use differential::molsadriu::{self, OnFile, Verdict, LISTING, PROBABLE_LISTING, STATION_LISTING};
+use differential::molsadriu::{
+    self, Counts, OnFile, Verdict, LISTING, PROBABLE_LISTING, STATION_LISTING,
+};
 use differential::net::{self, Net};
 use reference::precision::Errors;
 use reference::refusal::Refusal;
+use reference::season::{report_of, HELD, MOST_NETS, PLACES, TOTALS};
 use reference::{adjustment, book, network, precision};
 
 /// Nets, or books, in rotation. One net over and over would flatter: the processor learns
@@ -28,6 +33,11 @@ const REPEATS: usize = 5;
 /// turns in such blocks.
 const BLOCK: usize = 5 * ROTATION;
 
+/// The net of the season, which is there as often as a report holds nets.
+const SEASON_NET: &[u8] = include_bytes!("../../../../examples/quadrilateral.net");
+/// The bytes of a part in which a stream takes the season.
+const PART: usize = 65_536;
+
 const ACCEPTED: Verdict = Verdict {
     number: 0,
     place: 0,
@@ -39,6 +49,12 @@ fn main() -> ExitCode {
         Some(word) => word.parse().unwrap_or(0),
         None => otherwise,
     };
+    if words.first().is_some_and(|word| word == "season") {
+        return match number(1, REPEATS) {
+            0 => usage(),
+            repeats => season(repeats),
+        };
+    }
     let nets: Option<Vec<Net>> = (SEED..).take(ROTATION).map(net::accepted).collect();
     let Some(nets) = nets else {
         eprintln!("a seed has no net that is accepted");
@@ -149,12 +165,12 @@ fn main() -> ExitCode {
             let _ = black_box(book::station_book(black_box(&books[book]), STATION_LISTING));
         },
     );
-    ExitCode::SUCCESS
+    season(repeats)
 }
 
 fn usage() -> ExitCode {
     eprintln!(
-        "use: speed [CALLS [REPEATS]], at least {BLOCK} and 1; or speed net [NUMBER] or speed book [NUMBER], 1 to {ROTATION}"
+        "use: speed [CALLS [REPEATS]], at least {BLOCK} and 1; speed season [REPEATS]; or speed net [NUMBER] or speed book [NUMBER], 1 to {ROTATION}"
     );
     ExitCode::from(2)
 }
@@ -283,6 +299,121 @@ impl File {
                 && self.out.list().starts_with(&listing)
         })
     }
+}
+
+/// A season's archive as it is lent to the library, whole and in parts, with the lists of
+/// its answers.
+struct Season {
+    archive: Lent<u8>,
+    parts: Vec<Lent<u8>>,
+    held: Lent<u8>,
+    /// Totals and place.
+    counts: [Counts; 2],
+}
+
+impl Season {
+    fn of(archive: &[u8]) -> Self {
+        Season {
+            archive: Lent::holding(archive),
+            parts: archive.chunks(PART).map(Lent::holding).collect(),
+            held: Lent::blank(HELD),
+            counts: [Lent::blank(TOTALS), Lent::blank(PLACES)],
+        }
+    }
+
+    fn report(&mut self) -> Verdict {
+        molsadriu::report(&mut self.archive, &mut self.counts[0])
+    }
+
+    /// The verdict at the end of the stream, or the first that is not 0.
+    fn stream(&mut self) -> Verdict {
+        let Season {
+            parts,
+            held,
+            counts,
+            ..
+        } = self;
+        let begun = molsadriu::season_begin(held, counts);
+        let mut taken = parts
+            .iter_mut()
+            .map(|part| molsadriu::season_next(part, held, counts));
+        match taken.find(|verdict| *verdict != ACCEPTED) {
+            Some(verdict) => verdict,
+            None if begun != ACCEPTED => begun,
+            None => molsadriu::season_end(held, counts),
+        }
+    }
+}
+
+/// Times the archive of as many nets as a report holds, whole and in parts, against its nets
+/// adjusted one by one.
+fn season(repeats: usize) -> ExitCode {
+    let net = [SEASON_NET, b".\n"].concat();
+    let archive = net.repeat(MOST_NETS as usize);
+    let mut season = Season::of(&archive);
+    let mut file = File::of(SEASON_NET, LISTING, molsadriu::adjust_file);
+    let expected = report_of(&archive).totals;
+    let mut agrees = file.agrees(network::adjust_file(SEASON_NET, LISTING));
+    for call in [Season::report, Season::stream] {
+        season.counts[0] = Lent::blank(TOTALS);
+        agrees &= call(&mut season) == ACCEPTED && season.counts[0].list() == expected;
+    }
+    if !agrees {
+        eprintln!("the two sides do not agree on the season");
+        return ExitCode::FAILURE;
+    }
+    println!(
+        "archive of {MOST_NETS} nets, all of them examples/quadrilateral.net, {} bytes: {repeats} times; parts of {PART} bytes",
+        archive.len()
+    );
+    let mut all = [Vec::new(), Vec::new(), Vec::new(), Vec::new()];
+    for repeat in 1..=repeats {
+        let took = [
+            seconds(|| {
+                black_box(black_box(&mut season).report());
+            }),
+            seconds(|| {
+                black_box(black_box(&mut season).stream());
+            }),
+            seconds(|| {
+                for _ in 0..MOST_NETS {
+                    black_box(black_box(&mut file).list());
+                }
+            }),
+            seconds(|| {
+                black_box(report_of(black_box(&archive)));
+            }),
+        ];
+        let [whole, parts, nets, reference] = took;
+        println!(
+            "  {repeat}: whole {whole:.3} s, in parts {parts:.3} s, net by net {nets:.3} s, reference {reference:.3} s"
+        );
+        for (times, took) in all.iter_mut().zip(took) {
+            times.push(took);
+        }
+    }
+    let per_net = |seconds: f64| seconds * 1e6 / MOST_NETS as f64;
+    let [whole, parts, nets, reference] = all.map(|times| least_and_median(times).0);
+    println!(
+        "  least, per net in microseconds: whole {:.2}, in parts {:.2}, net by net {:.2}, reference {:.2}",
+        per_net(whole),
+        per_net(parts),
+        per_net(nets),
+        per_net(reference)
+    );
+    println!(
+        "  least: whole / net by net {:.2}, in parts / net by net {:.2}, reference / whole {:.2}",
+        whole / nets,
+        parts / nets,
+        reference / whole
+    );
+    ExitCode::SUCCESS
+}
+
+fn seconds(work: impl FnOnce()) -> f64 {
+    let start = Instant::now();
+    work();
+    start.elapsed().as_secs_f64()
 }
 
 /// Times both sides in turn, and writes totals, least and median, and their ratios. Each

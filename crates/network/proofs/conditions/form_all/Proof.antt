@@ -25,16 +25,16 @@ use Rattle.network.proofs.conditions.form_all.Statement.{statement}
 use Rattle.network.proofs.conditions.form_all.Tie as tie
 
 abbrev Inv-loop : tie.InvT-loop
-Inv-loop file first behind directions q a₀ w₀ m start₀ said₀ next₀ at₀ n₀ a w start said next at n =
-    FormedTo (netFrom file first .conditions) (netFrom file start .conditions) directions q a w at n
+Inv-loop file first behind directions q a₀ w₀ letters₀ m start₀ said₀ next₀ at₀ n₀ a w letters start said next at n =
+    FormedTo (netFrom file first .conditions) (netFrom file start .conditions) directions q a w letters at n
     × (start ≤ length file) × Opened (linesOf (drop start file)) × Stands file start said next
 
 abbrev μ-loop : tie.MeasureT-loop
-μ-loop file first behind directions q a₀ w₀ m start₀ said₀ next₀ at₀ n₀ a w start said next at n = length file - start
+μ-loop file first behind directions q a₀ w₀ letters₀ m start₀ said₀ next₀ at₀ n₀ a w letters start said next at n = length file - start
 
 loop-holds : tie.Need-loop-holds Inv-loop μ-loop
 loop-holds c =
-    let s = c .before in (formed-none _ _ _ _ _ (s .pre .0 .2) (s .pre .0 .3) (s .pre .1 .1 .1), s .pre .0 .0, s .pre .1 .1 .2, s .pre .1 .0)
+    let s = c .before .before in (formed-none _ _ _ _ _ _ (s .pre .0 .2) (s .pre .0 .3) (s .pre .0 .4) (s .pre .1 .1 .1), s .pre .0 .0, s .pre .1 .1 .2, s .pre .1 .0)
 
 heading-of-requires : tie.Need-heading-of-requires Inv-loop μ-loop
 heading-of-requires c κs = search needs
@@ -46,16 +46,19 @@ enum-told : tie.Need-enum-told Inv-loop μ-loop
 enum-told c = search needs
 
 same-length : tie.Need-same-length Inv-loop μ-loop
-same-length c = let l = c .before .before .before in l .loop .inv .0 .a-long ∙ sym (l .before .before .pre .0 .2)
+same-length c = let l = c .before .before .before in l .loop .inv .0 .a-long ∙ sym (l .before .before .before .pre .0 .2)
 
 same-length-2 : tie.Need-same-length-2 Inv-loop μ-loop
-same-length-2 c = let l = c .before .before .before in l .loop .inv .0 .w-long ∙ sym (l .before .before .pre .0 .3)
+same-length-2 c = let l = c .before .before .before in l .loop .inv .0 .w-long ∙ sym (l .before .before .before .pre .0 .3)
+
+same-length-3 : tie.Need-same-length-3 Inv-loop μ-loop
+same-length-3 c = let l = c .before .before .before in l .loop .inv .0 .letters-long ∙ sym (l .before .before .before .pre .0 .4)
 
 returns : tie.Need-returns Inv-loop μ-loop
 returns c =
     let l = c .before .before .before in
     form-end (l .loop .inv .0)
-    (no-heading (now (l .before .before .args .file)) (l .loop .start) (l .loop .said) (l .loop .inv .3 .says) (sym (c .before .before .heading-of .ensures) ∙ c .enum-told .given .1) (l .loop .inv .2))
+    (no-heading (now (l .before .before .before .args .file)) (l .loop .start) (l .loop .said) (l .loop .inv .3 .says) (sym (c .before .before .heading-of .ensures) ∙ c .enum-told .given .1) (l .loop .inv .2))
 
 -- ---- a C line, with its kind and target
 module _ (c : tie.After-known-told Inv-loop μ-loop) where
@@ -63,7 +66,7 @@ module _ (c : tie.After-known-told Inv-loop μ-loop) where
   loop = c .before .before .before .before
 
   abbrev start : tie.Start Inv-loop μ-loop
-  start = loop .before .before
+  start = loop .before .before .before
 
   abbrev file : List ℕ
   file = now (start .args .file)
@@ -169,14 +172,23 @@ mul-x c = let t = turn (line (c .before .before .before .before)) in omega (arit
 slice-set-from-x : tie.Need-slice-set-from-x Inv-loop μ-loop
 slice-set-from-x c = let k = line (c .before .before .before .before) in omega (arith, turn k, loop k .loop .inv .0 .w-long)
 
+letter-of-requires : tie.Need-letter-of-requires Inv-loop μ-loop
+letter-of-requires c κs = search needs
+
+slice-write-letters : tie.Need-slice-write-letters Inv-loop μ-loop
+slice-write-letters c = let k = line (c .before .before .before .before .before) in omega (arith, turn k, loop k .loop .inv .0 .letters-long)
+
 enum-known-figure-2 : tie.Need-enum-known-figure-2 Inv-loop μ-loop
 enum-known-figure-2 c = search needs
 
-same-length-3 : tie.Need-same-length-3 Inv-loop μ-loop
-same-length-3 c = let e = c .before .before .before .before in let k = line e in put-back e ∙ loop k .loop .inv .0 .a-long ∙ sym (start k .pre .0 .2)
-
 same-length-4 : tie.Need-same-length-4 Inv-loop μ-loop
-same-length-4 c = let k = line (c .before .before .before .before) in loop k .loop .inv .0 .w-long ∙ sym (start k .pre .0 .3)
+same-length-4 c = let e = c .before .before .before .before in let k = line e in put-back e ∙ loop k .loop .inv .0 .a-long ∙ sym (start k .pre .0 .2)
+
+same-length-5 : tie.Need-same-length-5 Inv-loop μ-loop
+same-length-5 c = let k = line (c .before .before .before .before) in loop k .loop .inv .0 .w-long ∙ sym (start k .pre .0 .3)
+
+same-length-6 : tie.Need-same-length-6 Inv-loop μ-loop
+same-length-6 c = let k = line (c .before .before .before .before) in loop k .loop .inv .0 .letters-long ∙ sym (start k .pre .0 .4)
 
 returns-2 : tie.Need-returns-2 Inv-loop μ-loop
 returns-2 c =
@@ -184,19 +196,20 @@ returns-2 c =
     forms-refused why (form-refused (loop k .loop .inv .0) (here k) why (sym (figured e) ∙ c .before .figure2 .given .1))
 
 add-at : tie.Need-add-at Inv-loop μ-loop
-add-at c = omega (arith, room (line (c .before .before .before .before)))
+add-at c = omega (arith, room (line (c .before .before .before .before .before)))
 
 add-n : tie.Need-add-n Inv-loop μ-loop
-add-n c = omega (arith, turn (line (c .before .before .before .before)))
+add-n c = omega (arith, turn (line (c .before .before .before .before .before)))
 
 loop-less : tie.Need-loop-less Inv-loop μ-loop
-loop-less c = let e = c .before .before .before .before in omega (arith, on (line e) .on, e .form-at .ensures .0 .on, e .form-at .ensures .0 .within)
+loop-less c = let e = c .before .before .before .before .before in omega (arith, on (line e) .on, e .form-at .ensures .0 .on, e .form-at .ensures .0 .within)
 
 loop-again : tie.Need-loop-again Inv-loop μ-loop
 loop-again c =
-    let e = c .before .before .before .before in let k = line e in let l = loop k in let v = c .before .figure .given in (
+    let e = c .before .before .before .before .before in let k = line e in let l = loop k in let v = c .before .before .figure .given in (
       same-left (e .form-at .ensures .0 .conditions)
-          (form-more (l .loop .inv .0) (here k) (few k) (narrow k) _ (old k) _ (listed e) (old-long k) (wide e) (v .0 .0) (sym (figured e) ∙ v .1) _ (read-at (v .0 .0) (c .known-told2 .given .0 .1))),
+          (form-more (l .loop .inv .0) (here k) (few k) (narrow k) _ (old k) _ (listed e) (old-long k) (wide e) (v .0 .0) (sym (figured e) ∙ v .1) _ _
+          (read-at (v .0 .0) (c .before .known-told2 .given .0 .1)) (c .letter-of .ensures)),
       e .form-at .ensures .0 .within,
       e .form-at .ensures .0 .opened,
       e .form-at .ensures .1,
@@ -214,6 +227,7 @@ form-all-spec =
     enum-told
     same-length
     same-length-2
+    same-length-3
     returns
     add-form-at
     mul-form-at
@@ -225,9 +239,12 @@ form-all-spec =
     enum-known-figure
     mul-x
     slice-set-from-x
+    letter-of-requires
+    slice-write-letters
     enum-known-figure-2
-    same-length-3
     same-length-4
+    same-length-5
+    same-length-6
     returns-2
     add-at
     add-n
