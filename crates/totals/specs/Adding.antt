@@ -20,7 +20,7 @@ use Rattle.text.specs.Written.{lineEnd}
 use Rattle.page.specs.Lines.{refusedLine}
 use Rattle.totals.specs.Totals.{joined}
 use Rattle.totals.specs.Promise.{mostNets, mostTotal, tooLarge}
-use Rattle.totals.specs.Text.{headOf, placeOf, pairOn, reportText}
+use Rattle.totals.specs.Text.{headOf, placeOf, pairOn, reportText, longestReport}
 use Rattle.totals.specs.declared.adding.Entry.{Entry}
 use Rattle.totals.specs.declared.adding.Entry.the-variants.{Numbers, Malformed}
 use Rattle.totals.specs.declared.adding.Tally.{Tally}
@@ -177,4 +177,4 @@ streamOf a held = record { tally = a .tally; begun = take (a .length) held }
 
 -- what goes into a lent buffer of so many bytes: nothing, where it could not hold the longest report
 unfoldable pub answerIn : (room : ℕ) → Tally → (begun : ℕ) → List ℕ
-answerIn room t begun = cond (ltb room 1060) [] (answerOf t begun)
+answerIn room t begun = cond (ltb room longestReport) [] (answerOf t begun)

@@ -39,6 +39,10 @@ lastLine past = cond past (refusedLine 30 (mostNets + 1)) []
 unfoldable pub reportText : (totals : List ℕ) (past : Bool) → List ℕ
 reportText totals past = inOrder 14 (lineOf totals) ++ lastLine past
 
+-- bytes that hold any report: 72 for each of the fourteen lines, where every number had 20 digits, and 52 for the last
+abbrev pub longestReport : ℕ
+longestReport = 1060
+
 -- what goes into a lent buffer of so many bytes: nothing, where the totals are not sixteen or the buffer could not hold the longest report
 unfoldable pub reportIn : (room : ℕ) (totals : List ℕ) (past : Bool) → List ℕ
-reportIn room totals past = cond (eqb (length totals) 16) (cond (ltb room 1060) [] (reportText totals past)) []
+reportIn room totals past = cond (eqb (length totals) 16) (cond (ltb room longestReport) [] (reportText totals past)) []

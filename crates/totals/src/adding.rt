@@ -8,7 +8,7 @@ ghost use Rattle.text.specs.Rows.{rowWithin};
 ghost use Rattle.text.specs.Written.{Wrote};
 ghost use Rattle.totals.specs.declared.adding.Entry.the-variants.{Numbers};
 ghost use Rattle.totals.specs.Adding.{entryWith, entryOf, entryAt, lineAfter, dueAfter, netsAfter, countedAfter, miscounted, pastAfter, passes, added, sumAfter};
-ghost use Rattle.totals.specs.Adding.{faulty, faultIn, wellEntered, entered, afterLine, noneRead, unfinished, answerIn, afterByte, afterBytes, streamOf};
+ghost use Rattle.totals.specs.Adding.{faulty, faultIn, entered, afterLine, noneRead, unfinished, answerIn, afterByte, afterBytes, streamOf};
 use crate::MOST_NETS;
 use crate::MOST_TOTAL;
 use crate::report;
