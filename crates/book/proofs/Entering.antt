@@ -23,7 +23,7 @@ use Rattle.reply.specs.declared.Reply.the-variants.{Accepted, Refused}
 use Rattle.reply.proofs.Checking.{refuse-at, refuse-none}
 use Rattle.text.specs.Parts.{placeFrom}
 use Rattle.text.specs.Lines.{LF, lineAt, linesOf, bytesOf, unended}
-use Rattle.text.specs.Rows.{behindAt, rowValues}
+use Rattle.text.specs.Rows.{letteredWithin, behindAt, rowValues}
 use Rattle.text.proofs.Parting.{place-after}
 use Rattle.text.proofs.Splitting.{line-next, lines-whole, lines-rest, lines-end}
 use Rattle.book.specs.Lines.{letter-S, sightingOf, linesIn, lineNo, fieldNo, column, missing, malformed, linesReply}
@@ -98,7 +98,7 @@ module _ (file : List ℕ) where
     row found = cond found (sightingOf (lineAt file start)) none
 
     is-row : behindAt file start letter-S 4 ≡ row (ltb end (length file))
-    unfolding behindAt sightingOf
+    unfolding letteredWithin sightingOf
     is-row = refl
 
     none-by : start < length file → (found : Bool) → ltb end (length file) ≡ found → row found ≡ none → linesReply file ≡ Refused (Malformed (n + 1))

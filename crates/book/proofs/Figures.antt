@@ -13,9 +13,9 @@ use Rattle.station.proofs.StationFigures.{pairOfObjects, figure-9 as station-9}
 use Rattle.text.specs.Parts.{onFirst, parted}
 use Rattle.text.specs.Lines.{linesOf, bytesOf, unended}
 use Rattle.text.specs.Fields.{fieldsOf, fieldAt, letterOf}
-use Rattle.text.specs.Numbers.{readDigits, unsignedOf, plus, minus, numeral}
+use Rattle.text.specs.Numbers.{readDigits, unsignedOf, plus, minus, numeralWithin}
 use Rattle.text.specs.Decimal.{digits, digitsOf, written}
-use Rattle.text.specs.Rows.{before, numbersIn, behindLetter, rowValues}
+use Rattle.text.specs.Rows.{before, numbersWithin, behindWithin, rowValues}
 use Rattle.text.specs.Written.{inOrder}
 use Rattle.page.specs.Page.{printed}
 use Rattle.book.specs.Lines.{sightingOf, lineNo, fieldNo, malformed, bookOf, linesReply, bookReply}
@@ -41,11 +41,11 @@ listing9 =
 
 -- its sightings are those of figure 9
 sightings-9 : bookOf book9 ≡ pairOfObjects 648004000 144010000 792016000
-unfolding tabulate onFirst parted linesOf fieldsOf fieldAt letterOf readDigits unsignedOf plus minus numeral before numbersIn behindLetter rowValues sightingOf lineNo fieldNo bookOf
+unfolding tabulate onFirst parted linesOf fieldsOf fieldAt letterOf readDigits unsignedOf plus minus numeralWithin before numbersWithin behindWithin rowValues sightingOf lineNo fieldNo bookOf
 sightings-9 = refl
 
 lines-9 : linesReply book9 ≡ Accepted
-unfolding first onFirst parted linesOf bytesOf unended fieldsOf fieldAt letterOf readDigits unsignedOf plus minus numeral before numbersIn behindLetter sightingOf lineNo malformed linesReply
+unfolding first onFirst parted linesOf bytesOf unended fieldsOf fieldAt letterOf readDigits unsignedOf plus minus numeralWithin before numbersWithin behindWithin sightingOf lineNo malformed linesReply
 lines-9 = refl
 
 reply-9 : bookReply book9 ≡ Accepted
@@ -81,5 +81,5 @@ thirdFace =
     []
 
 pub refusals : (bookReply unknown ≡ Refused (Malformed 1)) × (bookReply lacksLf ≡ Refused (Malformed 2)) × (bookReply [] ≡ Refused Sightings) × (bookReply thirdFace ≡ Refused (Field 2))
-unfolding first tabulate onFirst parted linesOf bytesOf unended fieldsOf fieldAt letterOf readDigits unsignedOf plus minus numeral before numbersIn behindLetter rowValues sightingOf lineNo fieldNo malformed bookOf linesReply bookReply lengthsFit outOfRange replyOf
+unfolding first tabulate onFirst parted linesOf bytesOf unended fieldsOf fieldAt letterOf readDigits unsignedOf plus minus numeralWithin before numbersWithin behindWithin rowValues sightingOf lineNo fieldNo malformed bookOf linesReply bookReply lengthsFit outOfRange replyOf
 refusals = (refl, refl, refl, refl)

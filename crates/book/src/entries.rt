@@ -4,6 +4,7 @@ ghost use Prim.Native.Nat.{_≤_};
 ghost use lib.IntN.{pos};
 ghost use lib.ListN.{length, getD, set};
 ghost use Rattle.book.specs.Inner.{EnteredAs};
+use text::MOST_DIGITS;
 use text::row;
 use text::row::RowEnd;
 
@@ -55,7 +56,7 @@ pub fn read(
     let mut start = 0;
     let mut n = 0;
     while start < file.len() {
-        let end = row::read_behind(file, start, b'S', 4, &mut x);
+        let end = row::read_behind(MOST_DIGITS, file, start, b'S', 4, &mut x);
         let RowEnd::Next(next) = end else {
             return Entries::Broken((n + 1) as u64);
         };

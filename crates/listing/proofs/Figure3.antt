@@ -26,7 +26,7 @@ use Rattle.precision.proofs.Meaning.{mean-found}
 use Rattle.text.specs.Parts.{onFirst, parted}
 use Rattle.text.specs.Lines.{linesOf}
 use Rattle.text.specs.Fields.{fieldsOf, fieldAt, letterOf}
-use Rattle.text.specs.Numbers.{readDigits, unsignedOf, plus, minus, numeral}
+use Rattle.text.specs.Numbers.{readDigits, unsignedOf, plus, minus, numeralWithin}
 use Rattle.text.specs.Decimal.{digits, digitsOf, written}
 use Rattle.network.specs.Records.{with, directionLine, anglesLine, sidesLine, conditionLine, angleLine, fixedLine, sideLine, lineOf, recordOf}
 use Rattle.network.specs.Scan.{belongs, outOfTurn, oneTooMany, directionReply, anglesReply, sidesReply, termReply, lineReply, counted, endFault, endReply, scanned, scanReply}
@@ -72,5 +72,5 @@ abbrev pub errors-line : List ℕ
 errors-line = 69 ∷ 9 ∷ 49 ∷ 55 ∷ 51 ∷ 50 ∷ 9 ∷ 49 ∷ 49 ∷ 54 ∷ 56 ∷ 10 ∷ []
 
 pub figure-3 : (fileReply file ≡ Accepted) × (listingOf Plain file ≡ listing) × (listingOf WithErrors file ≡ listing ++ errors-line)
-unfolding floor modulo first nearest sum tabulate directionsReply kindOf share angle part directionsMiscounted termsMiscounted inTurn termsCheck checks coefficient coefficientsReply coefficientsList misclosure misclosureFigure N reduced D L M weakRow weak back K V-of R-of u-of adjusted-of Q-of countsAmiss differs lengthsAmiss coefficientFault misclosureFault tableReply rowsReply correlatesReply remaindersReply correctionsReply solutionReply inputReply adjustReply onFirst parted linesOf fieldsOf fieldAt letterOf readDigits unsignedOf plus minus numeral digits digitsOf written with directionLine anglesLine sidesLine conditionLine angleLine fixedLine sideLine lineOf recordOf termFault same belongs outOfTurn oneTooMany directionReply anglesReply sidesReply termReply lineReply counted endFault endReply scanned scanReply lineBefore netOf refusedAs figureValue zeros lentOf conditionReply formedReply rowOf misclosureOf rowsOf misclosuresOf tableIn room netReply netAnswers fileReply inOrder answersListing netListing answersErrors answersOn S probableError errorsOf onSheet printed listingOf
+unfolding floor modulo first nearest sum tabulate directionsReply kindOf share angle part directionsMiscounted termsMiscounted inTurn termsCheck checks coefficient coefficientsReply coefficientsList misclosure misclosureFigure N reduced D L M weakRow weak back K V-of R-of u-of adjusted-of Q-of countsAmiss differs lengthsAmiss coefficientFault misclosureFault tableReply rowsReply correlatesReply remaindersReply correctionsReply solutionReply inputReply adjustReply onFirst parted linesOf fieldsOf fieldAt letterOf readDigits unsignedOf plus minus numeralWithin digits digitsOf written with directionLine anglesLine sidesLine conditionLine angleLine fixedLine sideLine lineOf recordOf termFault same belongs outOfTurn oneTooMany directionReply anglesReply sidesReply termReply lineReply counted endFault endReply scanned scanReply lineBefore netOf refusedAs figureValue zeros lentOf conditionReply formedReply rowOf misclosureOf rowsOf misclosuresOf tableIn room netReply netAnswers fileReply inOrder answersListing netListing answersErrors answersOn S probableError errorsOf onSheet printed listingOf
 figure-3 = (refl, refl, ap (λ (e : ℤ). listing ++ eLine e (probableError e)) (mean-found 2 15120000000 1732 (omega arith) tt tt))

@@ -7,7 +7,7 @@ use Rattle.reply.specs.declared.Refusal.the-variants.{Malformed, Count, OutOfRa
 use Rattle.reply.specs.declared.Reply.the-variants.{Accepted, Refused}
 use Rattle.text.specs.Parts.{onFirst, parted}
 use Rattle.text.specs.Fields.{fieldsOf, fieldAt, letterOf}
-use Rattle.text.specs.Numbers.{readDigits, unsignedOf, plus, minus, numeral}
+use Rattle.text.specs.Numbers.{readDigits, unsignedOf, plus, minus, numeralWithin}
 use Rattle.network.specs.Records.{with, directionLine, anglesLine, sidesLine, conditionLine, angleLine, fixedLine, sideLine, lineOf, recordOf}
 use Rattle.exact.specs.Same.{same}
 use Rattle.condition.specs.Terms as terms
@@ -97,5 +97,5 @@ unfolding
     scanReply scanned endReply endFault counted lineReply termReply anglesReply sidesReply directionReply oneTooMany outOfTurn belongs
     terms.termFault terms.letterOf same
     recordOf lineOf sideLine fixedLine angleLine conditionLine sidesLine anglesLine directionLine with
-    letterOf fieldAt fieldsOf parted onFirst numeral minus plus unsignedOf readDigits
+    letterOf fieldAt fieldsOf parted onFirst numeralWithin minus plus unsignedOf readDigits
 figures = (refl, refl, refl, refl, refl, refl, refl, refl, refl, refl, refl, refl)

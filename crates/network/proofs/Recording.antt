@@ -22,7 +22,7 @@ use Rattle.text.specs.Parts.{bytesBefore, placeFrom, onFirst, parted}
 use Rattle.text.specs.Lines.{LF, lineAt}
 use Rattle.text.specs.Fields.{TAB, fieldsOf, fieldAt, letterOf}
 use Rattle.text.specs.Numbers.{numeral, upTo}
-use Rattle.text.specs.Rows.{before, numbersIn, rowAt}
+use Rattle.text.specs.Rows.{before, numbersWithin, numbersIn, rowWithin, rowAt}
 use Rattle.text.specs.declared.number.Number.{Number}
 use Rattle.text.specs.declared.number.Number.the-variants.{Value, Malformed}
 use Rattle.text.proofs.Parting.{place-here, place-next}
@@ -78,7 +78,7 @@ chain-step k fields make (Value z) rec = rec z ∙ sym (by-before z (numbersIn k
 chain-step k fields make Malformed rec = either (eqb (length fields) k)
 
 chain-row : (k : ℕ) (fields : List (List ℕ)) (make : List ℤ → Record) → cond (eqb (length fields) k) (chain k 0 fields make) Unreadable ≡ byRow (numbersIn k fields) make
-unfolding chain byRow numbersIn
+unfolding chain byRow numbersWithin
 chain-row zero [] make = refl
 chain-row zero (field ∷ fields) make = rw (ne-eqb (suc (length fields)) 0 (λ e. omega (arith, e)))
 chain-row (suc k) [] make = rw (ne-eqb 0 (suc k) (λ e. omega (arith, e)))
@@ -345,7 +345,7 @@ module _ (file : List ℕ) (start : ℕ) where
   row-by false letter = either (eqb (numbersOf letter) 0)
 
   pub numbered-is : (letter : ℕ) → numberedAt file start letter ≡ cond found (numberedIn letter (fieldsOf (upTo LF file start))) Unreadable
-  unfolding numberedAt rowAt lineAt
+  unfolding numberedAt rowWithin lineAt
   numbered-is letter = row-by found letter
 
 module _ (file : List ℕ) (start : ℕ) where

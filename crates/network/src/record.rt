@@ -8,6 +8,7 @@ ghost use Rattle.text.specs.Fields.{TAB};
 ghost use Rattle.network.specs.Records.{letter-C};
 ghost use Rattle.network.specs.Turns.{Readable, numbersOf, recordWith, numberedAt, saidAt};
 use text::LF;
+use text::MOST_DIGITS;
 use text::TAB;
 use text::row;
 use text::row::RowEnd;
@@ -125,7 +126,7 @@ fn numbered(file: &[u8], at: usize, letter: u8) -> Turn
             next: at,
         };
     }
-    let end = row::read(file, at, count, &mut x);
+    let end = row::read(MOST_DIGITS, file, at, count, &mut x);
     let RowEnd::Next(next) = end else {
         return Turn {
             said: Record::Unreadable,

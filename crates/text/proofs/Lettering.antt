@@ -22,7 +22,7 @@ use Rattle.text.specs.Parts.{bytesBefore, placeFrom, onFirst, parted}
 use Rattle.text.specs.Lines.{LF, lineAt}
 use Rattle.text.specs.Fields.{TAB, fieldsOf, fieldAt, letterOf}
 use Rattle.text.specs.Numbers.{upTo}
-use Rattle.text.specs.Rows.{numbersIn, behindLetter, rowAt, behindAt, endOf, rowEnd, behindEnd, rowValues}
+use Rattle.text.specs.Rows.{numbersWithin, behindWithin, rowWithin, letteredWithin, endOf, rowEnd, behindEnd, rowValues}
 use Rattle.text.specs.declared.row.RowEnd.the-variants.{Next, NoRow}
 use Rattle.text.proofs.Parting.{place-next}
 use Rattle.text.proofs.Rowing.{told-some, told-none}
@@ -120,54 +120,54 @@ pub short-line : (s : List ℕ) → length s < 2 → bytesBefore LF s < length s
 short-line s l h = omega (arith, l, h)
 
 -- ---- the numbers behind the letter
-no-numbers : (count : ℕ) → 1 ≤ count → numbersIn count [] ≡ none
-unfolding numbersIn
-no-numbers zero l = absurd (omega arith)
-no-numbers (suc k) l = refl
+no-numbers : (most count : ℕ) → 1 ≤ count → numbersWithin most count [] ≡ none
+unfolding numbersWithin
+no-numbers most zero l = absurd (omega arith)
+no-numbers most (suc k) l = refl
 
-module _ (letter count : ℕ) (plain : 10 < letter) where
+module _ (most letter count : ℕ) (plain : 10 < letter) where
   no-zero : eqb 0 letter ≡ false
   no-zero = ne-eqb 0 letter (λ e. omega (arith, e, plain))
 
-  unlettered : (line : List ℕ) → eqb (firstLetter line) letter ≡ false → behindLetter letter count line ≡ none
-  unfolding behindLetter fieldAt
+  unlettered : (line : List ℕ) → eqb (firstLetter line) letter ≡ false → behindWithin most letter count line ≡ none
+  unfolding behindWithin fieldAt
   unlettered line e = rw e
 
-  lettered : (r : List ℕ) → behindLetter letter count (lineIn (letter ∷ TAB ∷ r)) ≡ numbersIn count (fieldsOf (lineIn r))
-  unfolding behindLetter fieldAt letterOf
+  lettered : (r : List ℕ) → behindWithin most letter count (lineIn (letter ∷ TAB ∷ r)) ≡ numbersWithin most count (fieldsOf (lineIn r))
+  unfolding behindWithin fieldAt letterOf
   lettered r =
       rw (one-tab letter (ne-eqb letter LF (λ e. omega (arith, e, plain))) (ne-eqb letter TAB (λ e. omega (arith, e, plain))) r, eq-eqb letter letter refl)
 
   module _ (any : 1 ≤ count) where
-    alone : (r : List ℕ) → behindLetter letter count (lineIn (letter ∷ LF ∷ r)) ≡ none
-    unfolding behindLetter fieldAt letterOf
+    alone : (r : List ℕ) → behindWithin most letter count (lineIn (letter ∷ LF ∷ r)) ≡ none
+    unfolding behindWithin fieldAt letterOf
     alone r =
         let lf = ne-eqb letter LF (λ e. omega (arith, e, plain)) in let tab = ne-eqb letter TAB (λ e. omega (arith, e, plain)) in
-        rw (one-end letter lf tab r, lone-field letter lf tab, eq-eqb letter letter refl) (no-numbers count any)
+        rw (one-end letter lf tab r, lone-field letter lf tab, eq-eqb letter letter refl) (no-numbers most count any)
 
-    untabbed : (c : ℕ) (r : List ℕ) → eqb c TAB ≡ false → behindLetter letter count (lineIn (letter ∷ c ∷ r)) ≡ none
+    untabbed : (c : ℕ) (r : List ℕ) → eqb c TAB ≡ false → behindWithin most letter count (lineIn (letter ∷ c ∷ r)) ≡ none
     untabbed c r t = by-end (eqb c LF) refl
       where
-        by-end : (b : Bool) → eqb c LF ≡ b → behindLetter letter count (lineIn (letter ∷ c ∷ r)) ≡ none
+        by-end : (b : Bool) → eqb c LF ≡ b → behindWithin most letter count (lineIn (letter ∷ c ∷ r)) ≡ none
         by-end true l = rw (eqb-true c LF l) (alone r)
         by-end false l = unlettered (lineIn (letter ∷ c ∷ r)) (ap (λ (n : ℕ). eqb n letter) (no-first letter c r l t) ∙ no-zero)
 
 -- ---- in a file
-module _ (file : List ℕ) (start letter count : ℕ) (plain : 10 < letter) where
+module _ (most : ℕ) (file : List ℕ) (start letter count : ℕ) (plain : 10 < letter) where
   abbrev found : Bool
   found = ltb (placeFrom LF file start) (length file)
 
-  none-by : (b : Bool) → found ≡ b → (placeFrom LF file start < length file → behindLetter letter count (upTo LF file start) ≡ none) → behindAt file start letter count ≡ none
-  unfolding behindAt lineAt
+  none-by : (b : Bool) → found ≡ b → (placeFrom LF file start < length file → behindWithin most letter count (upTo LF file start) ≡ none) → letteredWithin most file start letter count ≡ none
+  unfolding letteredWithin lineAt
   none-by true t h = rw t (h (ltb-true (placeFrom LF file start) (length file) t))
   none-by false t h = rw t
 
-  pub behind-short : length file - start < 2 → behindAt file start letter count ≡ none
+  pub behind-short : length file - start < 2 → letteredWithin most file start letter count ≡ none
   unfolding placeFrom fieldsOf parted letterOf
   behind-short l =
       none-by found refl
       (λ h. let none : bytesBefore LF (drop start file) ≡ 0 = short-line (drop start file) (omega (arith, l, length-drop start file)) (omega (arith, h, length-drop start file)) in
-      rw none (unlettered letter count plain [] (no-zero letter count plain)))
+      rw none (unlettered most letter count plain [] (no-zero most letter count plain)))
 
   module _ (l : start + 2 ≤ length file) where
     abbrev b : ℕ
@@ -179,46 +179,46 @@ module _ (file : List ℕ) (start letter count : ℕ) (plain : 10 < letter) wher
     line-is : upTo LF file start ≡ lineIn (b ∷ c ∷ drop (start + 2) file)
     line-is = ap lineIn (two-bytes file start l)
 
-    pub behind-other : (b ≡ letter → ⊥) → behindAt file start letter count ≡ none
+    pub behind-other : (b ≡ letter → ⊥) → letteredWithin most file start letter count ≡ none
     behind-other n =
         none-by found refl
-        (λ h. ap (behindLetter letter count) line-is ∙ unlettered letter count plain _ (other-letter b letter (c ∷ drop (start + 2) file) (ne-eqb b letter n) (no-zero letter count plain)))
+        (λ h. ap (behindWithin most letter count) line-is ∙ unlettered most letter count plain _ (other-letter b letter (c ∷ drop (start + 2) file) (ne-eqb b letter n) (no-zero most letter count plain)))
 
     module _ (same : b ≡ letter) where
       letter-is : upTo LF file start ≡ lineIn (letter ∷ c ∷ drop (start + 2) file)
       letter-is = line-is ∙ ap (λ (x : ℕ). lineIn (x ∷ c ∷ drop (start + 2) file)) same
 
-      pub behind-no-tab : 1 ≤ count → (c ≡ TAB → ⊥) → behindAt file start letter count ≡ none
+      pub behind-no-tab : 1 ≤ count → (c ≡ TAB → ⊥) → letteredWithin most file start letter count ≡ none
       behind-no-tab any t =
-          none-by found refl (λ h. ap (behindLetter letter count) letter-is ∙ untabbed letter count plain any c (drop (start + 2) file) (ne-eqb c TAB t))
+          none-by found refl (λ h. ap (behindWithin most letter count) letter-is ∙ untabbed most letter count plain any c (drop (start + 2) file) (ne-eqb c TAB t))
 
       module _ (t : c ≡ TAB) where
         pub behind-place : placeFrom LF file start ≡ placeFrom LF file (start + 2)
         behind-place = two-on file start l (λ z. omega (arith, z, same, plain)) (λ z. omega (arith, z, t))
 
-        row-by : (x : Bool) → cond x (behindLetter letter count (cond x (upTo LF file start) [])) none ≡ cond x (numbersIn count (fieldsOf (cond x (upTo LF file (start + 2)) []))) none
-        row-by true = ap (behindLetter letter count) (letter-is ∙ ap (λ (x : ℕ). lineIn (letter ∷ x ∷ drop (start + 2) file)) t) ∙ lettered letter count plain (drop (start + 2) file)
+        row-by : (x : Bool) → cond x (behindWithin most letter count (cond x (upTo LF file start) [])) none ≡ cond x (numbersWithin most count (fieldsOf (cond x (upTo LF file (start + 2)) []))) none
+        row-by true = ap (behindWithin most letter count) (letter-is ∙ ap (λ (x : ℕ). lineIn (letter ∷ x ∷ drop (start + 2) file)) t) ∙ lettered most letter count plain (drop (start + 2) file)
         row-by false = refl
 
-        pub behind-row : behindAt file start letter count ≡ rowAt file (start + 2) count
-        unfolding behindAt rowAt lineAt
+        pub behind-row : letteredWithin most file start letter count ≡ rowWithin most file (start + 2) count
+        unfolding letteredWithin rowWithin lineAt
         behind-row = rw (← behind-place) (row-by found)
 
-        pub behind-end : rowEnd file (start + 2) count ≡ behindEnd file start letter count
+        pub behind-end : rowEnd most file (start + 2) count ≡ behindEnd most file start letter count
         unfolding rowEnd behindEnd
         behind-end = rw (behind-row, behind-place)
 
 -- ---- the answer
-module _ (file : List ℕ) (start letter count : ℕ) where
-  pub no-answer : behindAt file start letter count ≡ none → (xs : List ℤ) → (NoRow ≡ behindEnd file start letter count) × (xs ≡ rowValues (behindAt file start letter count) xs)
+module _ (most : ℕ) (file : List ℕ) (start letter count : ℕ) where
+  pub no-answer : letteredWithin most file start letter count ≡ none → (xs : List ℤ) → (NoRow ≡ behindEnd most file start letter count) × (xs ≡ rowValues (letteredWithin most file start letter count) xs)
   unfolding behindEnd endOf rowValues
   no-answer e xs = (rw e, rw e)
 
-  pub behind-told : (next : ℕ) (xs : List ℤ) → behindEnd file start letter count ≡ Next next → xs ≡ rowValues (behindAt file start letter count) xs
-      → (behindAt file start letter count ≡ some xs) × (next ≡ placeFrom LF file start + 1)
+  pub behind-told : (next : ℕ) (xs : List ℤ) → behindEnd most file start letter count ≡ Next next → xs ≡ rowValues (letteredWithin most file start letter count) xs
+      → (letteredWithin most file start letter count ≡ some xs) × (next ≡ placeFrom LF file start + 1)
   unfolding behindEnd
-  behind-told next xs e v = told-some (behindAt file start letter count) (placeFrom LF file start + 1) next xs e v
+  behind-told next xs e v = told-some (letteredWithin most file start letter count) (placeFrom LF file start + 1) next xs e v
 
-  pub no-behind-told : behindEnd file start letter count ≡ NoRow → behindAt file start letter count ≡ none
+  pub no-behind-told : behindEnd most file start letter count ≡ NoRow → letteredWithin most file start letter count ≡ none
   unfolding behindEnd
-  no-behind-told e = told-none (behindAt file start letter count) (placeFrom LF file start + 1) e
+  no-behind-told e = told-none (letteredWithin most file start letter count) (placeFrom LF file start + 1) e

@@ -3,7 +3,10 @@
 --   place-after, before-le                 it ends at or after its start, and no byte is counted that is not there
 --   parts-more                             the parts from a start: the one there, and those after the byte that ends it
 --   parts-dropped, parts-last              the parts of a text without the byte: none, or the text itself
-use mathlib.Core.Path.{_≡_, refl}
+--   begins-all, begins-short               a text begins with no word's end; and with no word that goes on behind it
+--   begins-more, begins-other              one byte more of the word, by what stands there in the text
+--   begins-length                          a word is no longer than a text that begins with it
+use mathlib.Core.Path.{_≡_, refl, sym}
 use mathlib.Core.Bool.{Bool, true, false, cond}
 use mathlib.Core.List.{List, [], _∷_}
 use Prim.Native.Nat.{ℕ, suc, _+_, _<_, _≤_}
@@ -14,7 +17,8 @@ use borrow.Author.Tests.{eq-eqb, ne-eqb}
 use lib.Dec.{eqb}
 use lib.ListN.{length, getD, take, drop, drop-of-length-le, length-drop}
 use lib.Seq.{drop-cons, drop-drop}
-use Rattle.text.specs.Parts.{bytesBefore, placeFrom, onFirst, parted}
+use Rattle.exact.proofs.Searching.{not-both}
+use Rattle.text.specs.Parts.{bytesBefore, placeFrom, onFirst, parted, begins}
 
 -- ---- the search
 module _ (byte : ℕ) (s : List ℕ) (i : ℕ) where
@@ -89,3 +93,33 @@ module _ (byte : ℕ) where
   unfolding parted bytesBefore
   parts-last [] l = refl
   parts-last (x ∷ xs) l = last-step x xs (eqb x byte) (parts-last xs) l
+
+-- ---- a word that a text begins with
+module _ (word text : List ℕ) (i : ℕ) where
+  pub begins-all : length word ≤ i → begins (drop i word) (drop i text) ≡ true
+  unfolding begins
+  begins-all l = rw (drop-of-length-le word l)
+
+  module _ (w : i < length word) where
+    pub begins-short : length text ≤ i → begins (drop i word) (drop i text) ≡ false
+    unfolding begins
+    begins-short l = rw (drop-cons word i 0 w, drop-of-length-le text l)
+
+    module _ (l : i < length text) where
+      pub begins-other : (getD text i 0 ≡ getD word i 0 → ⊥) → begins (drop i word) (drop i text) ≡ false
+      unfolding begins
+      begins-other e = rw (drop-cons word i 0 w, drop-cons text i 0 l, ne-eqb (getD text i 0) (getD word i 0) e)
+
+      pub begins-more : getD text i 0 ≡ getD word i 0 → begins (drop i word) (drop i text) ≡ begins (drop (i + 1) word) (drop (i + 1) text)
+      unfolding begins
+      begins-more e = rw (drop-cons word i 0 w, drop-cons text i 0 l, eq-eqb (getD text i 0) (getD word i 0) e, add-one i)
+
+length-step : (b c : Bool) (m n : ℕ) → (c ≡ true → m ≤ n) → cond b c false ≡ true → suc m ≤ suc n
+length-step true c m n rec e = omega (arith, rec e)
+length-step false c m n rec e = not-both (sym e)
+
+pub begins-length : (word text : List ℕ) → begins word text ≡ true → length word ≤ length text
+unfolding begins
+begins-length [] text e = omega arith
+begins-length (w ∷ word) [] e = not-both (sym e)
+begins-length (w ∷ word) (b ∷ text) e = length-step (eqb b w) (begins word text) (length word) (length text) (begins-length word text) e

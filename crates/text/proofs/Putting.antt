@@ -3,6 +3,8 @@
 --   wrote-length, rewrote, read-signed  the buffer keeps its length; the same bytes; a signed number is what the machine reads
 --   one-wrote                           the same bytes at the same place leave one buffer
 --   then                                what was written, and what was written after it, are written together
+--   word-none, word-more                a word, byte by byte
+--   wrote-start                         what was written from the start of a buffer stands there
 --   digits-most, written-most           a number takes at most 20 digits, and a minus
 --   come, come-within, come-on          how far the writing has come
 --   count-on, signed-on                 a field takes at most 22 places
@@ -16,8 +18,8 @@ use native.Mathlib.Nat.{add-zero, add-suc, suc-add, suc-mul, mul-le-mul-right}
 use native.Mathlib.Numerals.{add-one}
 use native.Mathlib.Omega.{arith}
 use lib.Dec.{ltb}
-use lib.ListN.{length, set, length-append}
-use lib.Seq.{sets, length-sets}
+use lib.ListN.{length, getD, set, take, drop, length-append}
+use lib.Seq.{sets, length-sets, sets-eq, take-suc, take-append-le, take-all}
 use lib.IntN.{ℤ, pos, negsuc}
 use mir.Syntax.{w64}
 use mir.Val.{SFits, toZ, ofZ}
@@ -44,6 +46,20 @@ rewrote {a} {b} {at} {p} h w = subst (λ (zs : List ℕ). Wrote a at zs b p) h w
 
 pub one-wrote : {a b b' : List ℕ} {at p p' : ℕ} {xs : List ℕ} → Wrote a at xs b p → Wrote a at xs b' p' → (p ≡ p') × (b ≡ b')
 one-wrote w w' = (w .place ∙ sym (w' .place), w .buffer ∙ sym (w' .buffer))
+
+-- ---- a word, byte by byte
+pub word-none : (a word : List ℕ) (at : ℕ) → Wrote a at (take 0 word) a at
+word-none a word at = record { buffer = refl; place = omega arith }
+
+pub word-more : {a b c : List ℕ} {at p q : ℕ} (word : List ℕ) (i : ℕ) → i < length word → Wrote a at (take i word) b p → Wrote b p (getD word i 0 ∷ []) c q
+    → Wrote a at (take (i + 1) word) c q
+word-more word i l f g = rewrote (sym (ap (λ (n : ℕ). take n word) (add-one i) ∙ take-suc word i 0 l)) (then f g)
+
+pub wrote-start : {a b : List ℕ} {p : ℕ} (xs : List ℕ) → length xs ≤ length a → Wrote a 0 xs b p → take p b ≡ xs
+wrote-start {a} {b} {p} xs l w =
+    ap (take p) (w .buffer ∙ sets-eq xs a 0 (omega (arith, l)))
+    ∙ take-append-le p xs (drop (0 + length xs) a) (omega (arith, w .place))
+    ∙ take-all p xs (omega (arith, w .place))
 
 -- a signed number as the machine reads it
 pub read-signed : {a b : List ℕ} {at p : ℕ} (z : ℤ) → SFits w64 z → Wrote a at (signedField (toZ w64 (ofZ w64 z))) b p → Wrote a at (signedField z) b p

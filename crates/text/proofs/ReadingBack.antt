@@ -2,18 +2,19 @@
 --   reads-digits      the digits of a number below 10 ^ 20 have its value
 --   few-digits        a number below 10 ^ k has at most k of them
 --   leading           the first digit of a number above 0 is no 0
---   reads-back        a written number of at most 11 digits is the number that the network file's rule reads
+--   reads-back        a written number of at most so many digits, 20 or fewer, is the number that the files' rule reads
 use mathlib.Core.Path.{_≡_, refl, sym, _∙_, ap}
 use mathlib.Core.Bool.{Bool, true, false, _&&_}
 use mathlib.Core.List.{List, [], _∷_, _++_, append-assoc, append-nil}
 use Prim.Native.Nat.{ℕ, zero, suc, _+_, _*_, _/_, _%_, _<_, _≤_, _^_}
+use native.Mathlib.Nat.{pow-le-pow-right}
 use native.Mathlib.Omega.{arith}
 use borrow.Author.Tests.{le-ltb, ltb-true, ltb-false, ne-eqb}
-use lib.Dec.{ltb}
+use lib.Dec.{ltb, lit<}
 use lib.IntN.{ℤ, pos, negsuc, natAbs}
 use lib.ListN.{length, getD, length-append}
 use Rattle.text.specs.Decimal.{digits, digitsOf, written}
-use Rattle.text.specs.Numbers.{readDigits, unsignedOf, plus, minus, numeral}
+use Rattle.text.specs.Numbers.{readDigits, unsignedOf, plus, minus, numeralWithin}
 use Rattle.text.specs.declared.number.Number.the-variants.{Value}
 use Rattle.text.specs.declared.number.Digits.the-variants.{Whole}
 use Rattle.text.proofs.Writing.{one-small, one-large, tenth}
@@ -80,7 +81,7 @@ pub leading : (n : ℕ) → n < 10 ^ 20 → 1 ≤ n → 49 ≤ getD (digitsOf n)
 unfolding digitsOf
 leading n h l = leads-on 19 n h l
 
--- ---- read by the network file's rule
+-- ---- read by the files' rule
 no-text : (s : List ℕ) → length s ≡ 0 → getD s 0 0 ≡ 0
 no-text [] e = refl
 no-text (x ∷ s) e = absurd (omega (arith, e))
@@ -89,32 +90,36 @@ no-and : (b : Bool) → (b && false) ≡ false
 no-and true = refl
 no-and false = refl
 
--- at most 11 digits, the first of them no 0
-unsigned-led : (s : List ℕ) → length s ≤ 11 → 49 ≤ getD s 0 0 → unsignedOf s ≡ readDigits 0 s
+-- at most so many digits, the first of them no 0
+unsigned-led : (most : ℕ) (s : List ℕ) → length s ≤ most → 49 ≤ getD s 0 0 → unsignedOf most s ≡ readDigits 0 s
 unfolding unsignedOf
-unsigned-led s l h =
+unsigned-led most s l h =
     rw (
       ne-eqb (length s) 0 (λ e. omega (arith, no-text s e)),
-      le-ltb 11 (length s) l,
+      le-ltb most (length s) l,
       ne-eqb (getD s 0 0) 48 (λ e. omega arith),
       no-and (ltb 1 (length s)),
     )
 
-unsigned-back : (n : ℕ) → suc n < 10 ^ 11 → unsignedOf (digitsOf (suc n)) ≡ Whole (suc n)
-unsigned-back n h =
-    unsigned-led (digitsOf (suc n)) (few-digits 10 (suc n) h) (leading (suc n) (omega arith) (omega arith))
-    ∙ reads-digits (suc n) (omega arith)
+module _ (k : ℕ) (l : k < 20) where
+  within : (n : ℕ) → n < 10 ^ suc k → n < 10 ^ 20
+  within n h = omega (arith, pow-le-pow-right {n = 10} (lit< tt) l)
 
-zero-back : numeral (written (pos 0)) ≡ Value (pos 0)
-unfolding numeral written digitsOf digits unsignedOf readDigits plus
-zero-back = refl
+  unsigned-back : (n : ℕ) → suc n < 10 ^ suc k → unsignedOf (suc k) (digitsOf (suc n)) ≡ Whole (suc n)
+  unsigned-back n h =
+      unsigned-led (suc k) (digitsOf (suc n)) (few-digits k (suc n) h) (leading (suc n) (within (suc n) h) (omega arith))
+      ∙ reads-digits (suc n) (within (suc n) h)
 
-pub reads-back : (z : ℤ) → natAbs z < 10 ^ 11 → numeral (written z) ≡ Value z
-unfolding numeral written plus minus
-reads-back (pos zero) h = zero-back
-reads-back (pos (suc n)) h =
-    rw (
-      ne-eqb (getD (digitsOf (suc n)) 0 0) 45 (λ e. omega (arith, leading (suc n) (omega arith) (omega arith))),
-      unsigned-back n h,
-    )
-reads-back (negsuc n) h = rw (unsigned-back n h, ne-eqb (suc n) 0 (λ e. omega arith))
+  zero-back : numeralWithin (suc k) (written (pos 0)) ≡ Value (pos 0)
+  unfolding numeralWithin written digitsOf digits unsignedOf readDigits plus
+  zero-back = rw (le-ltb (suc k) 1 (omega arith))
+
+  pub reads-back : (z : ℤ) → natAbs z < 10 ^ suc k → numeralWithin (suc k) (written z) ≡ Value z
+  unfolding numeralWithin written plus minus
+  reads-back (pos zero) h = zero-back
+  reads-back (pos (suc n)) h =
+      rw (
+        ne-eqb (getD (digitsOf (suc n)) 0 0) 45 (λ e. omega (arith, leading (suc n) (within (suc n) h) (omega arith))),
+        unsigned-back n h,
+      )
+  reads-back (negsuc n) h = rw (unsigned-back n h, ne-eqb (suc n) 0 (λ e. omega arith))

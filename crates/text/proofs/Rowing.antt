@@ -22,8 +22,8 @@ use lib.Seq.{take-append-add, take-append-le, append-snoc, length-take-le, take-
 use Rattle.text.specs.Parts.{bytesBefore, placeFrom, onFirst, parted}
 use Rattle.text.specs.Lines.{LF, lineAt}
 use Rattle.text.specs.Fields.{TAB, fieldsOf}
-use Rattle.text.specs.Numbers.{numeral, upTo, numberTo}
-use Rattle.text.specs.Rows.{before, numbersIn, rowAt, endOf, rowEnd, rowValues}
+use Rattle.text.specs.Numbers.{numeralWithin, upTo, numberTo}
+use Rattle.text.specs.Rows.{before, numbersWithin, rowWithin, endOf, rowEnd, rowValues}
 use Rattle.text.specs.declared.number.Number.{Number}
 use Rattle.text.specs.declared.number.Number.the-variants.{Value, Malformed}
 use Rattle.text.specs.declared.row.RowEnd.{RowEnd}
@@ -84,10 +84,10 @@ module _ (line : List ℕ) where
   unfolding fieldsOf
   fields-last l = parts-last TAB line l
 
-  some-field : (b : Bool) → ltb tab (length line) ≡ b → numbersIn 0 (fieldsOf line) ≡ none
-  unfolding numbersIn
-  some-field true t = rw (fields-more (ltb-true tab (length line) t))
-  some-field false t = rw (fields-last (ltb-false tab (length line) t))
+  some-field : (most : ℕ) (b : Bool) → ltb tab (length line) ≡ b → numbersWithin most 0 (fieldsOf line) ≡ none
+  unfolding numbersWithin
+  some-field most true t = rw (fields-more (ltb-true tab (length line) t))
+  some-field most false t = rw (fields-last (ltb-false tab (length line) t))
 
 -- ---- a row, by the number at its start
 abbrev values : Number → ℕ
@@ -98,23 +98,23 @@ found-by : (b : Bool) (x : Number) (z : ℤ) → cond b x Malformed ≡ Value z 
 found-by true x z e = (refl, e)
 found-by false x z e = absurd (omega (arith, ap values e))
 
-module _ (file : List ℕ) (at : ℕ) where
+module _ (most : ℕ) (file : List ℕ) (at : ℕ) where
   abbrev left : List ℕ
   left = drop at file
 
   abbrev row : ℕ → Bool → Option (List ℤ)
-  row k b = cond b (numbersIn k (fieldsOf (cond b (upTo LF file at) []))) none
+  row k b = cond b (numbersWithin most k (fieldsOf (cond b (upTo LF file at) []))) none
 
-  module _ (z : ℤ) (e : numberTo TAB file at ≡ Value z) where
+  module _ (z : ℤ) (e : numberTo most TAB file at ≡ Value z) where
     abbrev tab-at : ℕ
     tab-at = placeFrom TAB file at
 
-    told : (ltb tab-at (length file) ≡ true) × (numeral (upTo TAB file at) ≡ Value z)
+    told : (ltb tab-at (length file) ≡ true) × (numeralWithin most (upTo TAB file at) ≡ Value z)
     unfolding numberTo
-    told = found-by (ltb tab-at (length file)) (numeral (upTo TAB file at)) z e
+    told = found-by (ltb tab-at (length file)) (numeralWithin most (upTo TAB file at)) z e
 
     high : High (upTo TAB file at)
-    high = numeral-high (upTo TAB file at) z (told .1)
+    high = numeral-high most (upTo TAB file at) z (told .1)
 
     pub tab-within : tab-at < length file
     tab-within = ltb-true tab-at (length file) (told .0)
@@ -143,17 +143,17 @@ module _ (file : List ℕ) (at : ℕ) where
         ∙ ap (λ (l : List ℕ). take (length (upTo TAB file at) + suc (bytesBefore LF (drop (tab-at + 1) file))) l) split
         ∙ take-append-add (upTo TAB file at) (TAB ∷ drop (tab-at + 1) file) (suc (bytesBefore LF (drop (tab-at + 1) file)))
 
-    row-on : (k : ℕ) (b : Bool) → row (suc k) b ≡ before (Value z) (cond b (numbersIn k (fieldsOf (cond b (upTo LF file (tab-at + 1)) []))) none)
-    unfolding numbersIn before
+    row-on : (k : ℕ) (b : Bool) → row (suc k) b ≡ before (Value z) (cond b (numbersWithin most k (fieldsOf (cond b (upTo LF file (tab-at + 1)) []))) none)
+    unfolding numbersWithin before
     row-on k true = rw (line-on, fields-tab (upTo TAB file at) (upTo LF file (tab-at + 1)) high, told .1)
     row-on k false = refl
 
-    pub tab-number : (k : ℕ) → rowAt file at (suc k) ≡ before (Value z) (rowAt file (tab-at + 1) k)
-    unfolding rowAt lineAt
+    pub tab-number : (k : ℕ) → rowWithin most file at (suc k) ≡ before (Value z) (rowWithin most file (tab-at + 1) k)
+    unfolding rowWithin lineAt
     tab-number k = rw (← tab-place) (row-on k (ltb (placeFrom LF file at) (length file)))
 
   -- what a malformed number is: the line's first field, or a line with no tab
-  module _ (e : numberTo TAB file at ≡ Malformed) where
+  module _ (e : numberTo most TAB file at ≡ Malformed) where
     abbrev line : List ℕ
     line = upTo LF file at
 
@@ -161,7 +161,7 @@ module _ (file : List ℕ) (at : ℕ) where
       line-split : left ≡ line ++ drop (bytesBefore LF left) left
       line-split = sym (take-append-drop (bytesBefore LF left) left)
 
-      first-field : bytesBefore TAB line < length line → numeral (take (bytesBefore TAB line) line) ≡ Malformed
+      first-field : bytesBefore TAB line < length line → numeralWithin most (take (bytesBefore TAB line) line) ≡ Malformed
       unfolding numberTo placeFrom
       first-field l =
           let same : bytesBefore TAB left ≡ bytesBefore TAB line = ap (bytesBefore TAB) line-split ∙ before-append TAB line (drop (bytesBefore LF left) left) l in
@@ -170,44 +170,44 @@ module _ (file : List ℕ) (at : ℕ) where
           ∙ ap (λ (s : List ℕ). take (bytesBefore TAB line) s) line-split
           ∙ take-append-le (bytesBefore TAB line) line (drop (bytesBefore LF left) left) (omega (arith, l)) in
           let within : at + bytesBefore TAB left < length file = omega (arith, same, l, found, before-le LF left, length-take-le (bytesBefore LF left) left (before-le LF left)) in
-          ap numeral (sym text)
-          ∙ sym (ap (λ (b : Bool). cond b (numeral (upTo TAB file at)) Malformed) (lt-ltb (at + bytesBefore TAB left) (length file) within))
+          ap (numeralWithin most) (sym text)
+          ∙ sym (ap (λ (b : Bool). cond b (numeralWithin most (upTo TAB file at)) Malformed) (lt-ltb (at + bytesBefore TAB left) (length file) within))
           ∙ e
 
-      none-by : (k : ℕ) (b : Bool) → ltb (bytesBefore TAB line) (length line) ≡ b → numbersIn (suc (suc k)) (fieldsOf line) ≡ none
-      unfolding numbersIn before
+      none-by : (k : ℕ) (b : Bool) → ltb (bytesBefore TAB line) (length line) ≡ b → numbersWithin most (suc (suc k)) (fieldsOf line) ≡ none
+      unfolding numbersWithin before
       none-by k true t = let l = ltb-true (bytesBefore TAB line) (length line) t in rw (fields-more line l, first-field l)
-      none-by k false t = rw (fields-last line (ltb-false (bytesBefore TAB line) (length line) t)) (before-none (numeral line))
+      none-by k false t = rw (fields-last line (ltb-false (bytesBefore TAB line) (length line) t)) (before-none (numeralWithin most line))
 
     tab-none-by : (k : ℕ) (b : Bool) → ltb (placeFrom LF file at) (length file) ≡ b → row (suc (suc k)) b ≡ none
     tab-none-by k true t = none-by (ltb-true (placeFrom LF file at) (length file) t) k (ltb (bytesBefore TAB line) (length line)) refl
     tab-none-by k false t = refl
 
-    pub tab-none : (k : ℕ) → rowAt file at (suc (suc k)) ≡ none
-    unfolding rowAt lineAt
+    pub tab-none : (k : ℕ) → rowWithin most file at (suc (suc k)) ≡ none
+    unfolding rowWithin lineAt
     tab-none k = tab-none-by k (ltb (placeFrom LF file at) (length file)) refl
 
-  pub last-number : (z : ℤ) → numberTo LF file at ≡ Value z → rowAt file at 1 ≡ some (z ∷ [])
-  unfolding numberTo rowAt lineAt numbersIn before
+  pub last-number : (z : ℤ) → numberTo most LF file at ≡ Value z → rowWithin most file at 1 ≡ some (z ∷ [])
+  unfolding numberTo rowWithin lineAt numbersWithin before
   last-number z e =
-      let t = found-by (ltb (placeFrom LF file at) (length file)) (numeral (upTo LF file at)) z e in
-      rw (t .0, fields-plain (upTo LF file at) (numeral-high (upTo LF file at) z (t .1)), t .1)
+      let t = found-by (ltb (placeFrom LF file at) (length file)) (numeralWithin most (upTo LF file at)) z e in
+      rw (t .0, fields-plain (upTo LF file at) (numeral-high most (upTo LF file at) z (t .1)), t .1)
 
-  one-by : (b : Bool) → ltb (bytesBefore TAB (upTo LF file at)) (length (upTo LF file at)) ≡ b → numeral (upTo LF file at) ≡ Malformed
-      → numbersIn 1 (fieldsOf (upTo LF file at)) ≡ none
-  unfolding numbersIn before
+  one-by : (b : Bool) → ltb (bytesBefore TAB (upTo LF file at)) (length (upTo LF file at)) ≡ b → numeralWithin most (upTo LF file at) ≡ Malformed
+      → numbersWithin most 1 (fieldsOf (upTo LF file at)) ≡ none
+  unfolding numbersWithin before
   one-by true t m =
       let line = upTo LF file at in let rest = drop (bytesBefore TAB line + 1) line in
-      rw (fields-more line (ltb-true (bytesBefore TAB line) (length line) t), some-field rest (ltb (bytesBefore TAB rest) (length rest)) refl)
-      (before-none (numeral (take (bytesBefore TAB line) line)))
+      rw (fields-more line (ltb-true (bytesBefore TAB line) (length line) t), some-field rest most (ltb (bytesBefore TAB rest) (length rest)) refl)
+      (before-none (numeralWithin most (take (bytesBefore TAB line) line)))
   one-by false t m = let line = upTo LF file at in rw (fields-last line (ltb-false (bytesBefore TAB line) (length line) t), m)
 
-  last-by : (b : Bool) → cond b (numeral (upTo LF file at)) Malformed ≡ Malformed → row 1 b ≡ none
+  last-by : (b : Bool) → cond b (numeralWithin most (upTo LF file at)) Malformed ≡ Malformed → row 1 b ≡ none
   last-by true e = one-by (ltb (bytesBefore TAB (upTo LF file at)) (length (upTo LF file at))) refl e
   last-by false e = refl
 
-  pub last-none : numberTo LF file at ≡ Malformed → rowAt file at 1 ≡ none
-  unfolding numberTo rowAt lineAt
+  pub last-none : numberTo most LF file at ≡ Malformed → rowWithin most file at 1 ≡ none
+  unfolding numberTo rowWithin lineAt
   last-none e = last-by (ltb (placeFrom LF file at) (length file)) e
 
 -- ---- the numbers read so far, and those of what is left
@@ -226,29 +226,29 @@ prepend-more xs z (some zs) = ap some (sym (append-snoc xs z zs))
 prepend-more xs z none = refl
 
 -- so far i numbers of x have been read, and what is left stands at `at`
-module _ (file : List ℕ) (start at count i : ℕ) (x : List ℤ) (so : rowAt file start count ≡ prepend (take i x) (rowAt file at (count - i))) where
-  pub row-more : (z y : ℤ) (next : ℕ) → y ≡ z → numberTo TAB file at ≡ Value z → next ≡ placeFrom TAB file at + 1 → i < count → i < length x
-      → rowAt file start count ≡ prepend (take (i + 1) (set x i y)) (rowAt file next (count - (i + 1)))
+module _ (most : ℕ) (file : List ℕ) (start at count i : ℕ) (x : List ℤ) (so : rowWithin most file start count ≡ prepend (take i x) (rowWithin most file at (count - i))) where
+  pub row-more : (z y : ℤ) (next : ℕ) → y ≡ z → numberTo most TAB file at ≡ Value z → next ≡ placeFrom TAB file at + 1 → i < count → i < length x
+      → rowWithin most file start count ≡ prepend (take (i + 1) (set x i y)) (rowWithin most file next (count - (i + 1)))
   row-more z y next same e n l long =
       let one : count - i ≡ suc (count - (i + 1)) = omega (arith, l) in
       so
-      ∙ ap (prepend (take i x)) (ap (rowAt file at) one ∙ tab-number file at z e (count - (i + 1)))
-      ∙ prepend-more (take i x) z (rowAt file (placeFrom TAB file at + 1) (count - (i + 1)))
+      ∙ ap (prepend (take i x)) (ap (rowWithin most file at) one ∙ tab-number most file at z e (count - (i + 1)))
+      ∙ prepend-more (take i x) z (rowWithin most file (placeFrom TAB file at + 1) (count - (i + 1)))
       ∙ rw (same, n, add-one i, take-suc-set x i z long)
 
-  pub row-last : (z y : ℤ) → y ≡ z → numberTo LF file at ≡ Value z → count ≡ i + 1 → i < length x → rowAt file start count ≡ some (take count (set x i y))
+  pub row-last : (z y : ℤ) → y ≡ z → numberTo most LF file at ≡ Value z → count ≡ i + 1 → i < length x → rowWithin most file start count ≡ some (take count (set x i y))
   unfolding prepend
   row-last z y same e l long =
       let one : count - i ≡ 1 = omega (arith, l) in
-      so ∙ ap (prepend (take i x)) (ap (rowAt file at) one ∙ last-number file at z e) ∙ rw (same, l, add-one i, take-suc-set x i z long)
+      so ∙ ap (prepend (take i x)) (ap (rowWithin most file at) one ∙ last-number most file at z e) ∙ rw (same, l, add-one i, take-suc-set x i z long)
 
 -- ---- the answer
-module _ (file : List ℕ) (start count : ℕ) where
-  pub row-some : (zs : List ℤ) (next : ℕ) → rowAt file start count ≡ some zs → next ≡ placeFrom LF file start + 1 → Next next ≡ rowEnd file start count
+module _ (most : ℕ) (file : List ℕ) (start count : ℕ) where
+  pub row-some : (zs : List ℤ) (next : ℕ) → rowWithin most file start count ≡ some zs → next ≡ placeFrom LF file start + 1 → Next next ≡ rowEnd most file start count
   unfolding rowEnd endOf
   row-some zs next e n = rw (e, n)
 
-  pub row-none : rowAt file start count ≡ none → NoRow ≡ rowEnd file start count
+  pub row-none : rowWithin most file start count ≡ none → NoRow ≡ rowEnd most file start count
   unfolding rowEnd endOf
   row-none e = rw e
 
@@ -271,12 +271,12 @@ unfolding endOf
 told-none (some zs) n e = absurd (omega (arith, ap ends e))
 told-none none n e = refl
 
-module _ (file : List ℕ) (start count : ℕ) where
-  pub row-told : (next : ℕ) (xs : List ℤ) → rowEnd file start count ≡ Next next → xs ≡ rowValues (rowAt file start count) xs
-      → (rowAt file start count ≡ some xs) × (next ≡ placeFrom LF file start + 1)
+module _ (most : ℕ) (file : List ℕ) (start count : ℕ) where
+  pub row-told : (next : ℕ) (xs : List ℤ) → rowEnd most file start count ≡ Next next → xs ≡ rowValues (rowWithin most file start count) xs
+      → (rowWithin most file start count ≡ some xs) × (next ≡ placeFrom LF file start + 1)
   unfolding rowEnd
-  row-told next xs e v = told-some (rowAt file start count) (placeFrom LF file start + 1) next xs e v
+  row-told next xs e v = told-some (rowWithin most file start count) (placeFrom LF file start + 1) next xs e v
 
-  pub no-row-told : rowEnd file start count ≡ NoRow → rowAt file start count ≡ none
+  pub no-row-told : rowEnd most file start count ≡ NoRow → rowWithin most file start count ≡ none
   unfolding rowEnd
-  no-row-told e = told-none (rowAt file start count) (placeFrom LF file start + 1) e
+  no-row-told e = told-none (rowWithin most file start count) (placeFrom LF file start + 1) e

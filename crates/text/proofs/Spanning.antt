@@ -22,7 +22,7 @@ use lib.ListN.{length, getD, take, drop, length-drop, length-append, take-append
 use lib.Seq.{take-suc, getD-drop, getD-take, drop-drop, drop-cons, length-take-le, take-append-add}
 use Rattle.exact.proofs.Searching.{neither}
 use Rattle.text.specs.Parts.{bytesBefore, placeFrom}
-use Rattle.text.specs.Numbers.{noDigit, readDigits, unsignedOf, plus, minus, numeral, upTo, unsignedTo, numberTo, Spans}
+use Rattle.text.specs.Numbers.{noDigit, readDigits, unsignedOf, plus, minus, numeralWithin, upTo, unsignedTo, numberTo, Spans}
 use Rattle.text.specs.declared.number.Digits.{Digits}
 use Rattle.text.specs.declared.number.Digits.the-variants.{Whole, NoDigits}
 use Rattle.text.specs.declared.number.Number.{Number}
@@ -103,15 +103,15 @@ either-none true d e = sym e
 either-none false d e = refl
 
 -- a text that does not read as digits
-unread : (s : List ℕ) → readDigits 0 s ≡ NoDigits → unsignedOf s ≡ NoDigits
+unread : (most : ℕ) (s : List ℕ) → readDigits 0 s ≡ NoDigits → unsignedOf most s ≡ NoDigits
 unfolding unsignedOf
-unread s e = by-fault (eqb (length s) 0 || (ltb 11 (length s) || (ltb 1 (length s) && eqb (getD s 0 0) 48)))
+unread most s e = by-fault (eqb (length s) 0 || (ltb most (length s) || (ltb 1 (length s) && eqb (getD s 0 0) 48)))
   where
     by-fault : (b : Bool) → cond b NoDigits (readDigits 0 s) ≡ NoDigits
     by-fault true = refl
     by-fault false = e
 
-module _ (text : List ℕ) (start ending : ℕ) (s : Span) (h : Spans text start s) (low : ending < 45) where
+module _ (most : ℕ) (text : List ℕ) (start ending : ℕ) (s : Span) (h : Spans most text start s) (low : ending < 45) where
   abbrev digits : List ℕ
   digits = take (s .end - start) (drop start text)
 
@@ -138,7 +138,7 @@ module _ (text : List ℕ) (start ending : ℕ) (s : Span) (h : Spans text start
       ∙ take-append-add digits (drop (s .end) text) (bytesBefore ending (drop (s .end) text))
 
   -- the text ends with them
-  pub ended-text : length text ≤ s .end → NoDigits ≡ unsignedTo ending text start
+  pub ended-text : length text ≤ s .end → NoDigits ≡ unsignedTo most ending text start
   unfolding unsignedTo
   ended-text l = rw (place-on, place-end ending text (s .end) l, le-ltb (s .end) (length text) l)
 
@@ -148,7 +148,7 @@ module _ (text : List ℕ) (start ending : ℕ) (s : Span) (h : Spans text start
       pub ended-place : placeFrom ending text start ≡ s .end
       ended-place = place-on ∙ place-here ending text (s .end) l e
 
-      pub ended-here : unsignedTo ending text start ≡ unsignedOf digits
+      pub ended-here : unsignedTo most ending text start ≡ unsignedOf most digits
       unfolding unsignedTo placeFrom
       ended-here =
           let none : bytesBefore ending (drop (s .end) text) ≡ 0 = omega (arith, place-here ending text (s .end) l e) in
@@ -163,22 +163,22 @@ module _ (text : List ℕ) (start ending : ℕ) (s : Span) (h : Spans text start
       unfolding bytesBefore other
       up-to-other = up-to-on ∙ ap (λ (rest : List ℕ). digits ++ rest) (rw (drop-cons text (s .end) 0 l, ne-eqb (getD text (s .end) 0) ending e))
 
-      other-by : (b : Bool) → ltb (s .end) (start + 11) ≡ b → unsignedOf (upTo ending text start) ≡ NoDigits
+      other-by : (b : Bool) → ltb (s .end) (start + most) ≡ b → unsignedOf most (upTo ending text start) ≡ NoDigits
       unfolding readDigits
       other-by true t =
-          unread (upTo ending text start)
+          unread most (upTo ending text start)
           (ap (readDigits 0) up-to-other
           ∙ reads-on 0 (s .value) digits (getD text (s .end) 0 ∷ other) (h .value)
-          ∙ rw (h .stop l (ltb-true (s .end) (start + 11) t)))
+          ∙ rw (h .stop l (ltb-true (s .end) (start + most) t)))
       other-by false t =
-          let far = ltb-false (s .end) (start + 11) t in
-          let long : 11 < length (upTo ending text start) =
+          let far = ltb-false (s .end) (start + most) t in
+          let long : most < length (upTo ending text start) =
           omega (arith, far, ap length up-to-other, length-append digits (getD text (s .end) 0 ∷ other), span-length, h .from) in
-          sym (unsigned-long (upTo ending text start) (λ z. omega (arith, z, long)) long)
+          sym (unsigned-long most (upTo ending text start) (λ z. omega (arith, z, long)) long)
 
-      pub ended-other : NoDigits ≡ unsignedTo ending text start
+      pub ended-other : NoDigits ≡ unsignedTo most ending text start
       unfolding unsignedTo
-      ended-other = either-none (ltb (placeFrom ending text start) (length text)) (unsignedOf (upTo ending text start)) (other-by (ltb (s .end) (start + 11)) refl)
+      ended-other = either-none (ltb (placeFrom ending text start) (length text)) (unsignedOf most (upTo ending text start)) (other-by (ltb (s .end) (start + most)) refl)
 
   -- the first of them
   pub span-first : start < s .end → getD digits 0 0 ≡ getD text start 0
@@ -195,7 +195,7 @@ unfolding plus
 plus-either true d = refl
 plus-either false d = refl
 
-module _ (text : List ℕ) (start ending : ℕ) (low : ending < 45) where
+module _ (most : ℕ) (text : List ℕ) (start ending : ℕ) (low : ending < 45) where
   module _ (l : start < length text) (e : getD text start 0 ≡ 45) where
     pub signed-place : placeFrom ending text start ≡ placeFrom ending text (start + 1)
     signed-place = place-next ending text start l (λ z. omega (arith, e, z, low))
@@ -206,10 +206,10 @@ module _ (text : List ℕ) (start ending : ℕ) (low : ending < 45) where
         let other : eqb 45 ending ≡ false = ne-eqb 45 ending (λ z. omega (arith, z, low)) in
         rw (drop-cons text start 0 l, e, other, add-one start)
 
-    pub minus-to : minus (unsignedTo ending text (start + 1)) ≡ numberTo ending text start
-    unfolding unsignedTo numberTo numeral
+    pub minus-to : minus (unsignedTo most ending text (start + 1)) ≡ numberTo most ending text start
+    unfolding unsignedTo numberTo numeralWithin
     minus-to =
-        minus-either (ltb (placeFrom ending text (start + 1)) (length text)) (unsignedOf (upTo ending text (start + 1)))
+        minus-either (ltb (placeFrom ending text (start + 1)) (length text)) (unsignedOf most (upTo ending text (start + 1)))
         ∙ rw (signed-place, up-to-signed)
 
   first-of : (n : ℕ) (s : List ℕ) → (getD s 0 0 ≡ 45 → ⊥) → getD (take n s) 0 0 ≡ 45 → ⊥
@@ -217,13 +217,13 @@ module _ (text : List ℕ) (start ending : ℕ) (low : ending < 45) where
   first-of (suc n) [] f e = f e
   first-of (suc n) (x ∷ s) f e = f e
 
-  pub plus-to : (getD text start 0 ≡ 45 → ⊥) → plus (unsignedTo ending text start) ≡ numberTo ending text start
+  pub plus-to : (getD text start 0 ≡ 45 → ⊥) → plus (unsignedTo most ending text start) ≡ numberTo most ending text start
   unfolding unsignedTo numberTo
   plus-to f =
       let here : getD (drop start text) 0 0 ≡ getD text start 0 = getD-drop start text 0 0 ∙ ap (λ (n : ℕ). getD text n 0) (add-zero start) in
-      plus-either (ltb (placeFrom ending text start) (length text)) (unsignedOf (upTo ending text start))
+      plus-either (ltb (placeFrom ending text start) (length text)) (unsignedOf most (upTo ending text start))
       ∙ ap (λ (x : Number). cond (ltb (placeFrom ending text start) (length text)) x Malformed)
-      (number-plus (upTo ending text start) (first-of (bytesBefore ending (drop start text)) (drop start text) (λ e. f (sym here ∙ e))))
+      (number-plus most (upTo ending text start) (first-of (bytesBefore ending (drop start text)) (drop start text) (λ e. f (sym here ∙ e))))
 
 -- a value comes from digits
 abbrev values : Number → ℕ
@@ -241,17 +241,17 @@ plus-came (Whole v) z e k = k v refl
 plus-came NoDigits z e k = absurd (omega (arith, ap values e))
 
 -- ---- a number has no byte below 45
-unsigned-high : (s : List ℕ) (v : ℕ) → unsignedOf s ≡ Whole v → High s
+unsigned-high : (most : ℕ) (s : List ℕ) (v : ℕ) → unsignedOf most s ≡ Whole v → High s
 unfolding unsignedOf
-unsigned-high s v e =
-    digits-high 0 v s (first-by (eqb (length s) 0 || (ltb 11 (length s) || (ltb 1 (length s) && eqb (getD s 0 0) 48))) (readDigits 0 s) v e .1)
+unsigned-high most s v e =
+    digits-high 0 v s (first-by (eqb (length s) 0 || (ltb most (length s) || (ltb 1 (length s) && eqb (getD s 0 0) 48))) (readDigits 0 s) v e .1)
 
-pub numeral-high : (s : List ℕ) (z : ℤ) → numeral s ≡ Value z → High s
+pub numeral-high : (most : ℕ) (s : List ℕ) (z : ℤ) → numeralWithin most s ≡ Value z → High s
 unfolding High
-numeral-high [] z e = tt
-numeral-high (b ∷ bs) z e = by-first (eqb b 45) refl
+numeral-high most [] z e = tt
+numeral-high most (b ∷ bs) z e = by-first (eqb b 45) refl
   where
     by-first : (x : Bool) → eqb b 45 ≡ x → High (b ∷ bs)
     by-first true t =
-        minus-came (unsignedOf bs) z (number-minus (b ∷ bs) (eqb-true b 45 t) ∙ e) (λ v q. (omega (arith, eqb-true b 45 t), unsigned-high bs v q))
-    by-first false t = plus-came (unsignedOf (b ∷ bs)) z (number-plus (b ∷ bs) (eqb-false b 45 t) ∙ e) (λ v q. unsigned-high (b ∷ bs) v q)
+        minus-came (unsignedOf most bs) z (number-minus most (b ∷ bs) (eqb-true b 45 t) ∙ e) (λ v q. (omega (arith, eqb-true b 45 t), unsigned-high most bs v q))
+    by-first false t = plus-came (unsignedOf most (b ∷ bs)) z (number-plus most (b ∷ bs) (eqb-false b 45 t) ∙ e) (λ v q. unsigned-high most (b ∷ bs) v q)

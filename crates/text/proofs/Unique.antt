@@ -20,15 +20,15 @@ one-line file start a b x y = only x y
 pub one-status : (file : List ℕ) (start : ℕ) (a b : LineStatus) → a ≡ statusAt file start → b ≡ statusAt file start → a ≡ b
 one-status file start a b x y = only x y
 
-pub one-number : (ending : ℕ) (text : List ℕ) (start : ℕ) (a b : Number) → a ≡ numberTo ending text start → b ≡ numberTo ending text start → a ≡ b
-one-number ending text start a b = only
+pub one-number : (most ending : ℕ) (text : List ℕ) (start : ℕ) (a b : Number) → a ≡ numberTo most ending text start → b ≡ numberTo most ending text start → a ≡ b
+one-number most ending text start a b = only
 
 -- and of the place after it, where there is a number
 pub one-place : (ending : ℕ) (text : List ℕ) (start n k : ℕ) → n ≡ placeFrom ending text start + 1 → k ≡ placeFrom ending text start + 1 → n ≡ k
 one-place ending text start n k = only
 
-pub one-row : (file : List ℕ) (start count : ℕ) (a b : RowEnd) → a ≡ rowEnd file start count → b ≡ rowEnd file start count → a ≡ b
-one-row file start count a b = only
+pub one-row : (most : ℕ) (file : List ℕ) (start count : ℕ) (a b : RowEnd) → a ≡ rowEnd most file start count → b ≡ rowEnd most file start count → a ≡ b
+one-row most file start count a b = only
 
-pub one-behind : (file : List ℕ) (start letter count : ℕ) (a b : RowEnd) → a ≡ behindEnd file start letter count → b ≡ behindEnd file start letter count → a ≡ b
-one-behind file start letter count a b = only
+pub one-behind : (most : ℕ) (file : List ℕ) (start letter count : ℕ) (a b : RowEnd) → a ≡ behindEnd most file start letter count → b ≡ behindEnd most file start letter count → a ≡ b
+one-behind most file start letter count a b = only

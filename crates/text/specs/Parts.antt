@@ -1,5 +1,5 @@
--- Where a byte first stands in a text, and the parts into which it parts the text.
-use mathlib.Core.Bool.{cond}
+-- Where a byte first stands in a text, the parts into which it parts the text, and whether the text begins with a word.
+use mathlib.Core.Bool.{Bool, true, false, cond}
 use mathlib.Core.List.{List, [], _∷_}
 use Prim.Native.Nat.{ℕ, suc, _+_}
 use lib.ListN.{drop}
@@ -23,3 +23,8 @@ onFirst b (l ∷ ls) = (b ∷ l) ∷ ls
 unfoldable pub parted : ℕ → List (List ℕ) → List ℕ → List (List ℕ)
 parted byte end [] = end
 parted byte end (b ∷ bs) = cond (eqb b byte) ([] ∷ parted byte end bs) (onFirst b (parted byte end bs))
+
+unfoldable pub begins : (word text : List ℕ) → Bool
+begins [] text = true
+begins (w ∷ word) [] = false
+begins (w ∷ word) (b ∷ text) = cond (eqb b w) (begins word text) false

@@ -1,5 +1,5 @@
-// Numbers as the files write them: an optional minus, no leading zero except "0" itself, no "-0", 1 to 11 digits. Each is read once, from its first
-// byte to the one that ends it.
+// Numbers as the files write them: an optional minus, no leading zero except "0" itself, no "-0", 1 to `most` digits, which are at most 18. Each is
+// read once, from its first byte to the one that ends it.
 ghost use mathlib.Core.Path.{_≡_};
 ghost use Prim.Native.Nat.{ℕ, _+_, _<_, _≤_};
 ghost use lib.ListN.{length};
@@ -15,8 +15,6 @@ const NINE: u8 = 57;
 
 const MINUS: u8 = 45;
 
-const MOST_DIGITS: usize = 11;
-
 // What a text without its minus holds.
 enum Digits {
     Whole(u64),
@@ -28,7 +26,7 @@ pub enum Number {
     Malformed,
 }
 
-// The digits that stand at a start, 11 at most: their value, and where they end.
+// The digits that stand at a start, so many at most: their value, and where they end.
 struct Span {
     value: u64,
     end: usize,
@@ -46,25 +44,25 @@ pub struct Read {
     pub next: usize,
 }
 
-// Where 11 digits from a start on would end, or the text's end where that comes first.
-fn furthest(start: usize, n: usize) -> usize
+// Where `most` digits from a start on would end, or the text's end where that comes first.
+fn furthest(most: usize, start: usize, n: usize) -> usize
     requires { ⌜ start ≤ n ⌝ }
-    ensures { λ r. ⌜ (start ≤ r) × (r ≤ n) × (r ≤ start + 11) × (r < n → r ≡ start + 11) ⌝ }
+    ensures { λ r. ⌜ (start ≤ r) × (r ≤ n) × (r ≤ start + most) × (r < n → r ≡ start + most) ⌝ }
 {
-    if n - start < MOST_DIGITS {
+    if n - start < most {
         return n;
     }
-    start + MOST_DIGITS
+    start + most
 }
 
-fn digits_from(text: &[u8], start: usize) -> Span
-    requires { ⌜ start ≤ length (now text) ⌝ }
-    ensures { λ r. ⌜ Spans (now (text .entry)) start r ⌝ }
+fn digits_from(most: usize, text: &[u8], start: usize) -> Span
+    requires { ⌜ (most ≤ 18) × (start ≤ length (now text)) ⌝ }
+    ensures { λ r. ⌜ Spans most (now (text .entry)) start r ⌝ }
 {
-    let most = furthest(start, text.len());
+    let last = furthest(most, start, text.len());
     let mut value: u64 = 0;
     let mut end = start;
-    while end < most {
+    while end < last {
         let byte = text[end];
         if byte < ZERO {
             return Span { value, end };
@@ -78,14 +76,14 @@ fn digits_from(text: &[u8], start: usize) -> Span
     Span { value, end }
 }
 
-// The digits from a start up to the first byte `ending`, where there are 1 to 11 and no leading zero.
-fn unsigned_to(text: &[u8], start: usize, ending: u8) -> Unsigned
-    requires { ⌜ (start ≤ length (now text)) × (ending < 45) ⌝ }
-    ensures value { λ r. ⌜ r .digits ≡ unsignedTo ending (now (text .entry)) start ⌝ }
+// The digits from a start up to the first byte `ending`, where there are 1 to `most` and no leading zero.
+fn unsigned_to(most: usize, text: &[u8], start: usize, ending: u8) -> Unsigned
+    requires { ⌜ (most ≤ 18) × (start ≤ length (now text)) × (ending < 45) ⌝ }
+    ensures value { λ r. ⌜ r .digits ≡ unsignedTo most ending (now (text .entry)) start ⌝ }
     ensures small { λ r. ⌜ Small (r .digits) ⌝ }
     ensures next { λ r. ⌜ ((v : ℕ) → r .digits ≡ Whole v → r .next ≡ placeFrom ending (now (text .entry)) start + 1) ⌝ }
 {
-    let span = digits_from(text, start);
+    let span = digits_from(most, text, start);
     let end = span.end;
     let none = Unsigned {
         digits: Digits::NoDigits,
@@ -140,15 +138,15 @@ fn minus_of(digits: Digits) -> Number
     }
 }
 
-// The number from a start up to the first byte `ending`, a tab or an LF.
-pub fn read_to(text: &[u8], start: usize, ending: u8) -> Read
-    requires { ⌜ (start ≤ length (now text)) × (ending < 45) ⌝ }
-    ensures number { λ r. ⌜ r .number ≡ numberTo ending (now (text .entry)) start ⌝ }
+// The number of at most so many digits from a start up to the first byte `ending`, a tab or an LF.
+pub fn read_to(most: usize, text: &[u8], start: usize, ending: u8) -> Read
+    requires { ⌜ (most ≤ 18) × (start ≤ length (now text)) × (ending < 45) ⌝ }
+    ensures number { λ r. ⌜ r .number ≡ numberTo most ending (now (text .entry)) start ⌝ }
     ensures next { λ r. ⌜ ((z : ℤ) → r .number ≡ Value z → r .next ≡ placeFrom ending (now (text .entry)) start + 1) ⌝ }
 {
     if start < text.len() {
         if text[start] == MINUS {
-            let size = unsigned_to(text, start + 1, ending);
+            let size = unsigned_to(most, text, start + 1, ending);
             let digits = size.digits;
             return Read {
                 number: minus_of(digits),
@@ -156,7 +154,7 @@ pub fn read_to(text: &[u8], start: usize, ending: u8) -> Read
             };
         }
     }
-    let size = unsigned_to(text, start, ending);
+    let size = unsigned_to(most, text, start, ending);
     let digits = size.digits;
     Read {
         number: plus_of(digits),

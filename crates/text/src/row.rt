@@ -2,7 +2,7 @@
 ghost use mathlib.Core.Path.{_≡_};
 ghost use Prim.Native.Nat.{_<_, _≤_};
 ghost use lib.ListN.{length, take};
-ghost use Rattle.text.specs.Rows.{rowAt, rowEnd, rowValues, behindAt, behindEnd};
+ghost use Rattle.text.specs.Rows.{rowWithin, rowEnd, rowValues, letteredWithin, behindEnd};
 use crate::LF;
 use crate::TAB;
 use crate::number;
@@ -14,18 +14,18 @@ pub enum RowEnd {
     NoRow,
 }
 
-// The numbers of the line at `start`, `count` of them and no other field, into the first places of x.
-pub fn read(file: &[u8], start: usize, count: usize, x: &mut [i64]) -> RowEnd
-    requires { ⌜ (start ≤ length (now file)) × (1 ≤ count) × (count ≤ length (now x)) ⌝ }
-    ensures end { λ r. ⌜ r ≡ rowEnd (now (file .entry)) start count ⌝ }
-    ensures values { λ r. ⌜ take count (now (x .exit)) ≡ rowValues (rowAt (now (file .entry)) start count) (take count (now (x .exit))) ⌝ }
+// The numbers of the line at `start`, `count` of them with at most so many digits and no other field, into the first places of x.
+pub fn read(most: usize, file: &[u8], start: usize, count: usize, x: &mut [i64]) -> RowEnd
+    requires { ⌜ (most ≤ 18) × (start ≤ length (now file)) × (1 ≤ count) × (count ≤ length (now x)) ⌝ }
+    ensures end { λ r. ⌜ r ≡ rowEnd most (now (file .entry)) start count ⌝ }
+    ensures values { λ r. ⌜ take count (now (x .exit)) ≡ rowValues (rowWithin most (now (file .entry)) start count) (take count (now (x .exit))) ⌝ }
     ensures long { λ r. ⌜ length (now (x .exit)) ≡ length (now (x .entry)) ⌝ }
 {
     let last = count - 1;
     let mut at = start;
     let mut i = 0;
     while i < last {
-        let field = number::read_to(file, at, TAB);
+        let field = number::read_to(most, file, at, TAB);
         let number = field.number;
         let Number::Value(value) = number else {
             return RowEnd::NoRow;
@@ -34,7 +34,7 @@ pub fn read(file: &[u8], start: usize, count: usize, x: &mut [i64]) -> RowEnd
         at = field.next;
         i += 1;
     }
-    let field = number::read_to(file, at, LF);
+    let field = number::read_to(most, file, at, LF);
     let number = field.number;
     let Number::Value(value) = number else {
         return RowEnd::NoRow;
@@ -43,11 +43,18 @@ pub fn read(file: &[u8], start: usize, count: usize, x: &mut [i64]) -> RowEnd
     RowEnd::Next(field.next)
 }
 
-// The numbers of the line at `start` behind its letter, `count` of them and no other field, into the first places of x.
-pub fn read_behind(file: &[u8], start: usize, letter: u8, count: usize, x: &mut [i64]) -> RowEnd
-    requires { ⌜ (start ≤ length (now file)) × (10 < letter) × (1 ≤ count) × (count ≤ length (now x)) ⌝ }
-    ensures end { λ r. ⌜ r ≡ behindEnd (now (file .entry)) start letter count ⌝ }
-    ensures values { λ r. ⌜ take count (now (x .exit)) ≡ rowValues (behindAt (now (file .entry)) start letter count) (take count (now (x .exit))) ⌝ }
+// The numbers of the line at `start` behind its letter, `count` of them with at most so many digits and no other field, into the first places of x.
+pub fn read_behind(
+    most: usize,
+    file: &[u8],
+    start: usize,
+    letter: u8,
+    count: usize,
+    x: &mut [i64],
+) -> RowEnd
+    requires { ⌜ (most ≤ 18) × (start ≤ length (now file)) × (10 < letter) × (1 ≤ count) × (count ≤ length (now x)) ⌝ }
+    ensures end { λ r. ⌜ r ≡ behindEnd most (now (file .entry)) start letter count ⌝ }
+    ensures values { λ r. ⌜ take count (now (x .exit)) ≡ rowValues (letteredWithin most (now (file .entry)) start letter count) (take count (now (x .exit))) ⌝ }
     ensures long { λ r. ⌜ length (now (x .exit)) ≡ length (now (x .entry)) ⌝ }
 {
     if file.len() - start < 2 {
@@ -59,5 +66,5 @@ pub fn read_behind(file: &[u8], start: usize, letter: u8, count: usize, x: &mut 
     if file[start + 1] != TAB {
         return RowEnd::NoRow;
     }
-    read(file, start + 2, count, x)
+    read(most, file, start + 2, count, x)
 }

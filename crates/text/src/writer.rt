@@ -15,6 +15,20 @@ pub fn put_byte(out: &mut [u8], at: usize, b: u8) -> usize
     at + 1
 }
 
+// A word.
+pub fn put_word(out: &mut [u8], at: usize, word: &[u8]) -> usize
+    requires { ⌜ at + length (now word) ≤ length (now out) ⌝ }
+    ensures { λ r. ⌜ Wrote (now (out .entry)) at (now (word .entry)) (now (out .exit)) r ⌝ }
+{
+    let mut next = at;
+    let mut i = 0;
+    while i < word.len() {
+        next = put_byte(out, next, word[i]);
+        i += 1;
+    }
+    next
+}
+
 // Three bytes of a word.
 pub fn put_three(out: &mut [u8], at: usize, a: u8, b: u8, c: u8) -> usize
     requires { ⌜ at + 3 ≤ length (now out) ⌝ }

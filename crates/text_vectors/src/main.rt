@@ -1,5 +1,6 @@
 // Runs the line reader and the numbers on chosen inputs and prints what they answer. What it must print was worked out apart from it.
 use text::LF;
+use text::MOST_DIGITS;
 use text::line;
 use text::line::LineStatus;
 use text::number;
@@ -24,13 +25,11 @@ fn show_line(file: &[u8], start: usize) {
     vectors::text(b"]\n");
 }
 
-// The number that a line is.
-fn show_number(text: &[u8]) {
+// A line, and the number that it was read as.
+fn show_read(text: &[u8], n: Number) {
     vectors::text(b"[");
     vectors::text(line::line(text, 0));
     vectors::text(b"] ");
-    let read = number::read_to(text, 0, LF);
-    let n = read.number;
     match n {
         Number::Value(v) => {
             vectors::number(v);
@@ -40,6 +39,20 @@ fn show_number(text: &[u8]) {
         }
     }
     vectors::text(b"\n");
+}
+
+// The number that a line is, of at most 11 digits.
+fn show_number(text: &[u8]) {
+    let read = number::read_to(MOST_DIGITS, text, 0, LF);
+    let n = read.number;
+    show_read(text, n);
+}
+
+// The same, of at most 18.
+fn show_long(text: &[u8]) {
+    let read = number::read_to(18, text, 0, LF);
+    let n = read.number;
+    show_read(text, n);
 }
 
 fn lines() {
@@ -82,6 +95,11 @@ fn numbers() {
     show_number(b"/9\n");
     show_number(b"1\r\n");
     show_number(b"1296000000\n");
+    show_long(b"100000000000\n");
+    show_long(b"999999999999999999\n");
+    show_long(b"-999999999999999999\n");
+    show_long(b"1000000000000000000\n");
+    show_long(b"012345678901234567\n");
 }
 
 fn main() {

@@ -1,2 +1,7 @@
 pub mod Totalling
 pub mod Promising
+pub mod Printing
+pub mod Entering
+pub mod Streaming
+pub mod Summing
+pub mod Figures

@@ -1,11 +1,11 @@
 -- The promise of `add_reports`, from what its checks have said. Assumes nothing.
 --   by-first, by-second, by-room, by-sizes      the reply, where the checks before have accepted
 --   past-nets, within-nets                      and by the number of nets
---   small                                       numbers that are not too large fit, and so does what they make
+--   small-at, small                             numbers that are not too large fit, and so does what they make
 --   refused-adds, accepted-adds                 a refusal with the third list as it was lent keeps the promise, and so does an acceptance with the sum
 --   one-sum                                     two answers that keep the promise are equal, and leave equal lists
 use mathlib.Core.Path.{_≡_, refl, sym, _∙_, ap}
-use mathlib.Core.Bool.{true, false}
+use mathlib.Core.Bool.{false}
 use mathlib.Core.List.{List}
 use Prim.Native.Nat.{ℕ, _+_, _≤_, _<_}
 use native.Mathlib.Omega.{arith}
@@ -21,7 +21,7 @@ use Rattle.reply.specs.declared.Reply.the-variants.{Accepted, Refused}
 use Rattle.reply.specs.Checks.{refuseIf, leaves}
 use Rattle.reply.specs.Verdicts.{verdictOf}
 use Rattle.reply.proofs.Checking.{none-refused}
-use Rattle.totals.specs.Totals.{joined, sumOf}
+use Rattle.totals.specs.Totals.{sumOf}
 use Rattle.totals.specs.Promise.{mostNets, mostTotal, lengthsAmiss, tooLarge, tooLargeAt, sizesReply, sumReply, Adds}
 
 module _ (first second : List ℕ) (room : ℕ) where
@@ -55,12 +55,15 @@ module _ (first second : List ℕ) (room : ℕ) where
           pub within-nets : getD first 0 0 + getD second 0 0 ≤ mostNets → sumReply first second room ≡ Accepted
           within-nets l = by-nets ∙ rw (le-ltb mostNets (getD first 0 0 + getD second 0 0) l)
 
-pub small : (first second : List ℕ) → sizesReply first second ≡ Accepted → (i : ℕ) → i < 16 → getD first i 0 + getD second i 0 ≤ 1999999999999999998
+pub small-at : (i x y : ℕ) → tooLarge i x y ≡ false → x + y ≤ 1999999999999999998
 unfolding tooLarge
+small-at i x y e =
+    let n = neither (ltb mostTotal x) _ e in let m = neither (ltb mostTotal y) _ (n .1) in
+    omega (arith, ltb-false mostTotal x (n .0), ltb-false mostTotal y (m .0))
+
+pub small : (first second : List ℕ) → sizesReply first second ≡ Accepted → (i : ℕ) → i < 16 → getD first i 0 + getD second i 0 ≤ 1999999999999999998
 small first second a i l =
-    let n = neither (ltb mostTotal (getD first i 0)) _ (none-refused 16 (tooLargeAt first second) (λ i. OutOfRange (i + 1)) a i l) in
-    let m = neither (ltb mostTotal (getD second i 0)) _ (n .1) in
-    omega (arith, ltb-false mostTotal (getD first i 0) (n .0), ltb-false mostTotal (getD second i 0) (m .0))
+    small-at i (getD first i 0) (getD second i 0) (none-refused 16 (tooLargeAt first second) (λ i. OutOfRange (i + 1)) a i l)
 
 module _ (first second lent : List ℕ) where
   pub refused-adds : (why : Refusal) → sumReply first second (length lent) ≡ Refused why → Adds first second lent (Refused why) lent

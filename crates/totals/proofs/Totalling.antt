@@ -7,14 +7,13 @@
 --   report-length, report-at, report-first           a total of the report; the report of a net before others
 --   sum-more                                         a share added to the totals so far, and then the others
 --   report-joined                                    the report of nets and others after them is the sum of the two reports
-use mathlib.Core.Path.{_≡_, refl, sym, _∙_, ap, ap₂}
+use mathlib.Core.Path.{_≡_, sym, _∙_, ap, ap₂}
 use mathlib.Core.Bool.{Bool, true, false, cond}
 use mathlib.Core.List.{List, [], _∷_, _++_}
 use Prim.Native.Nat.{ℕ, zero, suc, _+_, _≤_, _<_, max}
 use native.Mathlib.Nat.{add-comm, add-assoc, add-zero, max-comm, max-zero, zero-max, suc-max-suc, max-le}
 use native.Mathlib.Omega.{arith}
 use lib.ListN.{length, getD}
-use Rattle.exact.specs.Tabulate.{tabulate}
 use Rattle.exact.proofs.Filling.{tabulate-length, tabulate-at, tabulate-ext, tabulate-is}
 use Rattle.totals.specs.Totals.{largestAt, joined, sumOf, total, reportOf}
 

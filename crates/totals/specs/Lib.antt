@@ -1,2 +1,4 @@
 pub mod Totals
 pub mod Promise
+pub mod Text
+pub mod Adding

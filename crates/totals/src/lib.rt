@@ -1,4 +1,8 @@
-// The sixteen totals of a season report (specs/Totals.antt has their places): a net's share added to them, and the public operation on two reports.
+// The sixteen totals of a season report (specs/Totals.antt has their places): a net's share added to them, the public operation on two reports, a report as
+// text, and the sum of reports that come as text.
+pub mod adding;
+pub mod report;
+
 ghost use mathlib.Core.Path.{_≡_};
 ghost use mathlib.Core.List.{[]};
 ghost use Prim.Native.Nat.{ℕ, _+_, _≤_, _<_};

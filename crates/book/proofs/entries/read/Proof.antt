@@ -34,7 +34,7 @@ slice-aggregate-read-behind : tie.Need-slice-aggregate-read-behind Inv-loop μ-l
 slice-aggregate-read-behind c = search needs
 
 read-behind-requires : tie.Need-read-behind-requires Inv-loop μ-loop
-read-behind-requires c κs = let v = c .before .before .loop .inv in (v .1 .0 .within, omega arith, omega arith, omega (arith, v .0))
+read-behind-requires c κs = let v = c .before .before .loop .inv in (omega arith, v .1 .0 .within, omega arith, omega arith, omega (arith, v .0))
 
 enum-known-end : tie.Need-enum-known-end Inv-loop μ-loop
 enum-known-end c = search needs
@@ -65,7 +65,7 @@ same-length-4 c = let l = broken c in l .loop .inv .1 .1 .1 .1 .1 .room ∙ sym 
 returns : tie.Need-returns Inv-loop μ-loop
 returns c =
     let l = broken c in
-    no-sighting (now (l .before .before .args .file)) (l .loop .inv .1 .0) (omega arith) (no-behind-told _ _ _ _ (sym (c .before .before .before .read-behind .ensures .0) ∙ c .enum-told .given .1))
+    no-sighting (now (l .before .before .args .file)) (l .loop .inv .1 .0) (omega arith) (no-behind-told 11 _ _ _ _ (sym (c .before .before .before .read-behind .ensures .0) ∙ c .enum-told .given .1))
 
 -- ---- a sighting
 slice-aggregate-enter : tie.Need-slice-aggregate-enter Inv-loop μ-loop
@@ -87,14 +87,14 @@ module _ (c : tie.After-reading Inv-loop μ-loop) where
   file = now (turn .before .before .args .file)
 
   abbrev fields : List ℤ
-  fields = answered .read-behind .last .1 .1 .1 .1 .0
+  fields = answered .read-behind .last .1 .1 .1 .1 .1 .0
 
   abbrev next : ℕ
   next = c .before .before .before .before .before .before .before .before .before .before .before .end .given .0 .0
 
   told : (behindAt file (turn .loop .start) letter-S 4 ≡ some (take 4 fields)) × (next ≡ placeFrom LF file (turn .loop .start) + 1)
   told =
-      behind-told file (turn .loop .start) letter-S 4 next (take 4 fields)
+      behind-told 11 file (turn .loop .start) letter-S 4 next (take 4 fields)
       (sym (answered .read-behind .ensures .0) ∙ c .before .before .before .before .before .before .before .before .before .before .before .end .given .1) (answered .read-behind .ensures .1 .0)
 
   on : (sightingOf (lineNo file (turn .loop .n)) ≡ some (take 4 fields)) × Begun file (placeFrom LF file (turn .loop .start) + 1) (turn .loop .n + 1)

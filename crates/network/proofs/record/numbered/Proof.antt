@@ -28,7 +28,7 @@ slice-aggregate-read c = search needs
 read-requires : tie.Need-read-requires
 read-requires c κs =
     let n = c .before .before in let most = subst (λ (k : ℕ). k ≤ 4) (sym (n .numbers-of .ensures)) (numbers-most (n .before .before .args .letter)) in
-    (n .before .before .pre, omega (arith, c .before .if1 .left), most)
+    (omega arith, n .before .before .pre, omega (arith, c .before .if1 .left), most)
 
 enum-known-end : tie.Need-enum-known-end
 enum-known-end c = search needs
@@ -39,9 +39,9 @@ enum-told c = search needs
 returns-2 : tie.Need-returns-2
 returns-2 c =
     let n = c .before .before .before .before .before .before in let a = n .before .before .args in
-    let row : rowEnd (now (a .file)) (a .at) (numbersOf (a .letter)) ≡ NoRow =
-    ap (rowEnd (now (a .file)) (a .at)) (sym (n .numbers-of .ensures)) ∙ sym (c .before .before .before .read .ensures .0) ∙ c .enum-told .given .1 in
-    (numbered-none (now (a .file)) (a .at) (a .letter) (no-row-told (now (a .file)) (a .at) (numbersOf (a .letter)) row), λ z. absurd z)
+    let row : rowEnd 11 (now (a .file)) (a .at) (numbersOf (a .letter)) ≡ NoRow =
+    ap (rowEnd 11 (now (a .file)) (a .at)) (sym (n .numbers-of .ensures)) ∙ sym (c .before .before .before .read .ensures .0) ∙ c .enum-told .given .1 in
+    (numbered-none (now (a .file)) (a .at) (a .letter) (no-row-told 11 (now (a .file)) (a .at) (numbersOf (a .letter)) row), λ z. absurd z)
 
 slice-aggregate-record-with : tie.Need-slice-aggregate-record-with
 slice-aggregate-record-with c = search needs
@@ -52,9 +52,9 @@ record-with-requires c κs = search needs
 returns-3 : tie.Need-returns-3
 returns-3 c =
     let n = c .before .before .before .before .before .before .before .before .before in let a = n .before .before .args in
-    let r = c .before .before .before .before .before .before .read in let x = r .last .1 .1 .1 .0 in
+    let r = c .before .before .before .before .before .before .read in let x = r .last .1 .1 .1 .1 .0 in
     let told =
-    row-told (now (a .file)) (a .at) (n .numbers-of .result) (c .before .before .before .end .given .0 .0) (take (n .numbers-of .result) x)
+    row-told 11 (now (a .file)) (a .at) (n .numbers-of .result) (c .before .before .before .end .given .0 .0) (take (n .numbers-of .result) x)
     (sym (r .ensures .0) ∙ c .before .before .before .end .given .1) (r .ensures .1 .0) in
     let row = subst (λ (k : ℕ). rowAt (now (a .file)) (a .at) k ≡ some (take k x)) (n .numbers-of .ensures) (told .0) in (
       c .record-with .ensures

@@ -10,17 +10,17 @@ use denote.Ref.{now}
 use lib.ListN.{length, drop, getD, take}
 use Rattle.text.specs.Numbers.{noDigit, readDigits, Spans}
 use Rattle.text.specs.declared.number.Digits.the-variants.{Whole}
-use Rattle.text.proofs.Numerals.{small-next, small-11}
+use Rattle.text.proofs.Numerals.{small-next, small-18}
 use Rattle.text.proofs.Spanning.{span-none, span-more}
 use Rattle.text.proofs.number.digits_from.Statement.{statement}
 use Rattle.text.proofs.number.digits_from.Tie as tie
 
 abbrev Inv-loop : tie.InvT-loop
-Inv-loop text start most value₀ end₀ value end =
-    (start ≤ end) × (end ≤ most) × (value < 10 ^ (end - start)) × (readDigits 0 (take (end - start) (drop start text)) ≡ Whole value)
+Inv-loop most text start last value₀ end₀ value end =
+    (start ≤ end) × (end ≤ last) × (value < 10 ^ (end - start)) × (readDigits 0 (take (end - start) (drop start text)) ≡ Whole value)
 
 abbrev μ-loop : tie.MeasureT-loop
-μ-loop text start most value₀ end₀ value end = most - end
+μ-loop most text start last value₀ end₀ value end = last - end
 
 -- ---- a turn
 module _ (l : tie.At-loop Inv-loop μ-loop) where
@@ -30,20 +30,23 @@ module _ (l : tie.At-loop Inv-loop μ-loop) where
   abbrev start : ℕ
   start = l .before .before .before .args .start
 
+  abbrev most : ℕ
+  most = l .before .before .before .args .most
+
   abbrev here : ℕ
   here = l .loop .end
 
-  most-within : l .before .furthest .result ≤ length text
-  most-within = l .before .furthest .ensures .1
+  last-within : l .before .furthest .result ≤ length text
+  last-within = l .before .furthest .ensures .1
 
-  small : l .loop .value < 10 ^ 11
-  small = small-11 (l .loop .value) (here - start) (l .loop .inv .2) (omega (arith, l .loop .inv .1, l .before .furthest .ensures .2))
+  small : l .loop .value < 10 ^ 18
+  small = small-18 (l .loop .value) (here - start) (l .loop .inv .2) (omega (arith, l .loop .inv .1, l .before .furthest .ensures .2, l .before .before .before .pre .0))
 
   -- the digits end here
-  stopped : (here < length text → here < start + 11 → noDigit (getD text here 0) ≡ true) → Spans text start (record { value = l .loop .value; end = here })
+  stopped : (here < length text → here < start + most → noDigit (getD text here 0) ≡ true) → Spans most text start (record { value = l .loop .value; end = here })
   stopped s = record {
     from = l .loop .inv .0;
-    within = omega (arith, l .loop .inv .1, most-within);
+    within = omega (arith, l .loop .inv .1, last-within);
     few = omega (arith, l .loop .inv .1, l .before .furthest .ensures .2);
     value = l .loop .inv .3;
     small = small;
@@ -59,7 +62,7 @@ loop-holds c =
     (omega arith, c .furthest .ensures .0, rw none (omega arith), span-none (now (a .text)) (a .start))
 
 shared-slice-read-byte : tie.Need-shared-slice-read-byte Inv-loop μ-loop
-shared-slice-read-byte c = omega (arith, most-within (c .before .before))
+shared-slice-read-byte c = omega (arith, last-within (c .before .before))
 
 returns : tie.Need-returns Inv-loop μ-loop
 returns c = let l = c .before .before .before in stopped l (λ a b. rw (lt-ltb (getD (text l) (here l) 0) 48 (c .if1 .taken)))
@@ -83,7 +86,7 @@ add-value : tie.Need-add-value Inv-loop μ-loop
 add-value c = omega (arith, small (turn c))
 
 add-end : tie.Need-add-end Inv-loop μ-loop
-add-end c = omega (arith, most-within (turn c))
+add-end c = omega (arith, last-within (turn c))
 
 loop-less : tie.Need-loop-less Inv-loop μ-loop
 loop-less c = search needs
@@ -95,7 +98,7 @@ loop-again c =
       omega (arith, inv .0),
       omega arith,
       rw further (small-next (l .loop .value) (d - 48) (here l - start l) (inv .2) (omega arith)),
-      span-more (text l) (start l) (here l) (l .loop .value) (inv .0) (omega (arith, most-within l)) (inv .3) (omega arith) (omega arith),
+      span-more (text l) (start l) (here l) (l .loop .value) (inv .0) (omega (arith, last-within l)) (inv .3) (omega arith) (omega arith),
     )
 
 returns-3 : tie.Need-returns-3 Inv-loop μ-loop

@@ -27,9 +27,9 @@ returns : tie.Need-returns
 returns c =
     let u = c .before in let t = u .before in let s = t .before .before .before .before in
     let a = s .args in let l = t .before .before .if1 .taken in let is = c .minus-of .ensures ∙ ap minus (u .unsigned-to .ensures .0) in (
-      is ∙ minus-to (now (a .text)) (a .start) (a .ending) (s .pre .1) l (t .if2 .taken),
+      is ∙ minus-to (a .most) (now (a .text)) (a .start) (a .ending) (s .pre .2) l (t .if2 .taken),
       λ z e. minus-came (u .unsigned-to .result .digits) z (sym (c .minus-of .ensures) ∙ e)
-          (λ v q. u .unsigned-to .ensures .1 .1 v q ∙ ap (λ (n : ℕ). n + 1) (sym (signed-place (now (a .text)) (a .start) (a .ending) (s .pre .1) l (t .if2 .taken)))),
+          (λ v q. u .unsigned-to .ensures .1 .1 v q ∙ ap (λ (n : ℕ). n + 1) (sym (signed-place (a .most) (now (a .text)) (a .start) (a .ending) (s .pre .2) l (t .if2 .taken)))),
     )
 
 unsigned-to-requires-2 : tie.Need-unsigned-to-requires-2
@@ -43,7 +43,7 @@ returns-2 c =
     let u = c .before in let j = u .before in let s = j .before .before in let a = s .args in
     let no-minus : (getD (now (a .text)) (a .start) 0 ≡ 45 → ⊥) =
     ⊎-elim (λ w. w .2 .left) (λ w e. omega (arith, e, List·getD-eq-default (now (a .text)) 0 (w .left))) (j .if1 .came) in (
-      c .plus-of .ensures ∙ ap plus (u .unsigned-to2 .ensures .0) ∙ plus-to (now (a .text)) (a .start) (a .ending) (s .pre .1) no-minus,
+      c .plus-of .ensures ∙ ap plus (u .unsigned-to2 .ensures .0) ∙ plus-to (a .most) (now (a .text)) (a .start) (a .ending) (s .pre .2) no-minus,
       λ z e. plus-came (u .unsigned-to2 .result .digits) z (sym (c .plus-of .ensures) ∙ e) (λ v q. u .unsigned-to2 .ensures .1 .1 v q),
     )
 

@@ -19,7 +19,7 @@ sub-if1 c = search needs
 returns : tie.Need-returns
 returns c =
     let s = c .before .before in let a = s .args in
-    let none = no-answer (now (a .file)) (a .start) (a .letter) (a .count) (behind-short (now (a .file)) (a .start) (a .letter) (a .count) (s .pre .1) (c .if1 .taken)) _ in
+    let none = no-answer (a .most) (now (a .file)) (a .start) (a .letter) (a .count) (behind-short (a .most) (now (a .file)) (a .start) (a .letter) (a .count) (s .pre .2) (c .if1 .taken)) _ in
     (none .0, (none .1, refl))
 
 shared-slice-read-if2 : tie.Need-shared-slice-read-if2
@@ -28,7 +28,7 @@ shared-slice-read-if2 c = search needs
 returns-2 : tie.Need-returns-2
 returns-2 c =
     let s = c .before .before .before .before in let a = s .args in
-    let none = no-answer (now (a .file)) (a .start) (a .letter) (a .count) (behind-other (now (a .file)) (a .start) (a .letter) (a .count) (s .pre .1) (omega (arith, c .before .before .if1 .left)) (c .if2 .taken)) _ in
+    let none = no-answer (a .most) (now (a .file)) (a .start) (a .letter) (a .count) (behind-other (a .most) (now (a .file)) (a .start) (a .letter) (a .count) (s .pre .2) (omega (arith, c .before .before .if1 .left)) (c .if2 .taken)) _ in
     (none .0, (none .1, refl))
 
 add-if3 : tie.Need-add-if3
@@ -41,7 +41,7 @@ returns-3 : tie.Need-returns-3
 returns-3 c =
     let e = c .before .before in let s = e .before .before .before .before in let a = s .args in
     let none =
-    no-answer (now (a .file)) (a .start) (a .letter) (a .count) (behind-no-tab (now (a .file)) (a .start) (a .letter) (a .count) (s .pre .1) (omega (arith, e .before .before .if1 .left)) (e .if2 .left) (s .pre .2) (c .if3 .taken)) _ in
+    no-answer (a .most) (now (a .file)) (a .start) (a .letter) (a .count) (behind-no-tab (a .most) (now (a .file)) (a .start) (a .letter) (a .count) (s .pre .2) (omega (arith, e .before .before .if1 .left)) (e .if2 .left) (s .pre .3) (c .if3 .taken)) _ in
     (none .0, (none .1, refl))
 
 add-read : tie.Need-add-read
@@ -57,9 +57,9 @@ returns-4 : tie.Need-returns-4
 returns-4 c =
     let r = c .before in let e = r .before .before .before .before in let s = e .before .before .before .before in let a = s .args in
     let l : a .start + 2 ≤ length (now (a .file)) = omega (arith, e .before .before .if1 .left) in let tab = r .before .before .if3 .left in (
-      r .read .ensures .0 ∙ behind-end (now (a .file)) (a .start) (a .letter) (a .count) (s .pre .1) l (e .if2 .left) tab,
+      r .read .ensures .0 ∙ behind-end (a .most) (now (a .file)) (a .start) (a .letter) (a .count) (s .pre .2) l (e .if2 .left) tab,
       (
-        r .read .ensures .1 .0 ∙ ap (λ (o : Option (List ℤ)). rowValues o (take (a .count) (r .read .last .1 .1 .1 .0))) (sym (behind-row (now (a .file)) (a .start) (a .letter) (a .count) (s .pre .1) l (e .if2 .left) tab)),
+        r .read .ensures .1 .0 ∙ ap (λ (o : Option (List ℤ)). rowValues o (take (a .count) (r .read .last .1 .1 .1 .1 .0))) (sym (behind-row (a .most) (now (a .file)) (a .start) (a .letter) (a .count) (s .pre .2) l (e .if2 .left) tab)),
         r .read .ensures .1 .1,
       ),
     )
