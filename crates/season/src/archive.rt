@@ -11,11 +11,11 @@ ghost use Rattle.season.specs.Archive.{stops};
 ghost use Rattle.season.specs.Season.{sharesOf, seasonReply, seasonReport};
 ghost use Rattle.season.specs.Stream.{countedIn};
 ghost use Rattle.season.specs.Inner.{IsShare, Roomy, NextStop};
-use crate::find;
 use crate::net;
 use reply::Refusal;
 use reply::Reply;
 use text::LF;
+use text::find;
 use totals::MOST_NETS;
 
 // Whether the line from `at` to `end`, where its LF stands, is a single full stop.

@@ -1,6 +1,5 @@
 // Season reports: of an archive in memory (`report`), and of one that comes in parts (`stream`).
 mod archive;
-mod find;
 mod net;
 pub mod stream;
 
