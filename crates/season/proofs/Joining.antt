@@ -1,6 +1,7 @@
 -- The report at a stream's end is the report of all the bytes that came, in whatever parts. Assumes nothing.
 --   lineState, state-stop, state-after    where a stream stands in a line, and after a byte more
 --   Holds, kept-holds, open-share         the bytes of the open net that are held, and its share
+--   unbroken-more                         a line so far has no LF
 --   line-stop, line-other                 the parts from a line on, by whether it is a full stop line
 --   Reading, reading-none                 the state holds the open net: its lines, and the line so far
 --   Streams                               the state and the bytes to come give the report of all
@@ -155,7 +156,7 @@ open-share held lines line bytes h one = by-length (decLe (length (lines ++ line
     by-length (no n) = many-share n
 
 -- ---- a line so far has no LF
-unbroken-more : (line : List ℕ) (byte : ℕ) → (byte ≡ LF → ⊥) → length line ≤ bytesBefore LF line → length (line ++ (byte ∷ [])) ≤ bytesBefore LF (line ++ (byte ∷ []))
+pub unbroken-more : (line : List ℕ) (byte : ℕ) → (byte ≡ LF → ⊥) → length line ≤ bytesBefore LF line → length (line ++ (byte ∷ [])) ≤ bytesBefore LF (line ++ (byte ∷ []))
 unfolding bytesBefore
 unbroken-more [] byte e l = rw (ne-eqb byte LF e) (omega arith)
 unbroken-more (x ∷ line) byte e l = by-byte (eqb x LF) l (unbroken-more line byte e)
