@@ -7,3 +7,4 @@ pub mod Promising
 pub mod Streaming
 pub mod Joining
 pub mod Adding
+pub mod Figures
