@@ -1,8 +1,12 @@
 -- A small archive, reckoned by the rule: figure 3's net, accepted; an empty net, which is 2; and a byte left, which is 1. Assumes nothing.
 --   figure-parts, figure-report      its parts, and its report
-use mathlib.Core.Path.{_≡_, refl}
+--   report-none                      an empty archive has no nets
+--   report-shuts-out                 no report that is the same for every archive is the rule's
+use mathlib.Core.Path.{_≡_, refl, sym, _∙_, ap}
 use mathlib.Core.List.{List, [], _∷_, _++_}
 use Prim.Native.Nat.{ℕ}
+use native.Mathlib.Omega.{arith}
+use lib.ListN.{getD}
 use Rattle.exact.specs.Circle.{floor, modulo}
 use Rattle.exact.specs.First.{first}
 use Rattle.exact.specs.Nearest.{nearest}
@@ -47,3 +51,10 @@ figure-parts = refl
 pub figure-report : seasonReport (sharesOf archive) ≡ 3 ∷ 1 ∷ 1 ∷ 1 ∷ 0 ∷ 0 ∷ 0 ∷ 0 ∷ 0 ∷ 0 ∷ 0 ∷ 3000 ∷ 3000 ∷ 0 ∷ 0 ∷ 0 ∷ []
 unfolding floor modulo first nearest sum tabulate directionsReply kindOf share angle part directionsMiscounted termsMiscounted inTurn termsCheck checks coefficient coefficientsReply coefficientsList misclosure misclosureFigure N reduced D L M weakRow weak back K V-of R-of u-of countsAmiss differs lengthsAmiss coefficientFault misclosureFault tableReply rowsReply correlatesReply remaindersReply correctionsReply solutionReply inputReply adjustReply onFirst parted linesOf fieldsOf fieldAt letterOf readDigits unsignedOf plus minus numeralWithin with directionLine anglesLine sidesLine conditionLine angleLine fixedLine sideLine lineOf recordOf termFault same belongs outOfTurn oneTooMany directionReply anglesReply sidesReply termReply lineReply counted endFault endReply scanned scanReply lineBefore netOf refusedAs figureValue zeros lentOf conditionReply formedReply rowOf misclosureOf rowsOf misclosuresOf room netReply fileReply count sharesThree largestAt joined total reportOf stops onto partsIn partsOf countedUnder sumTo mostTo sizeAt figures netFigures shareWith shareOf leftShare leftShares sharesIn sharesOf seasonReport lettersOf
 figure-report = refl
+
+pub report-none : seasonReport (sharesOf []) ≡ 0 ∷ 0 ∷ 0 ∷ 0 ∷ 0 ∷ 0 ∷ 0 ∷ 0 ∷ 0 ∷ 0 ∷ 0 ∷ 0 ∷ 0 ∷ 0 ∷ 0 ∷ 0 ∷ []
+unfolding tabulate parted partsIn partsOf leftShares sharesIn sharesOf total reportOf seasonReport
+report-none = refl
+
+pub report-shuts-out : (totals : List ℕ) → ((bytes : List ℕ) → seasonReport (sharesOf bytes) ≡ totals) → ⊥
+report-shuts-out totals same = omega (arith, ap (λ (x : List ℕ). getD x 0 0) (sym report-none ∙ same [] ∙ sym (same archive) ∙ figure-report))
