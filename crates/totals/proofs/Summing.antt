@@ -52,7 +52,7 @@ unfolding onto onFirst
 onto-more begun b [] = refl
 onto-more begun b (line ∷ lines) = ap (λ (l : List ℕ). l ∷ lines) (append-snoc begun b line)
 
-abbrev linesIn : List ℕ → List (List ℕ)
+abbrev pub linesIn : List ℕ → List (List ℕ)
 linesIn text = parted LF ([] ∷ []) text
 
 -- there is one
@@ -69,7 +69,7 @@ some-part [] k = k [] [] refl
 some-part (b ∷ text) k = some-step b (linesIn text) (eqb b LF) (some-part text) k
 
 -- a line and those after it
-lines-on : (t : Tally) (line text : List ℕ) → afterLines t (line ∷ linesIn text) ≡ afterLines (afterLine t (cut (line ++ lineEnd))) (linesIn text)
+pub lines-on : (t : Tally) (line text : List ℕ) → afterLines t (line ∷ linesIn text) ≡ afterLines (afterLine t (cut (line ++ lineEnd))) (linesIn text)
 unfolding afterLines
 lines-on t line text = some-part text (λ next lines e. rw e)
 
