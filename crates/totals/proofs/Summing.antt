@@ -1,6 +1,7 @@
 -- The stream of reports answers what the rule says of the whole text, whatever parts it comes in. Assumes nothing.
 --   cut-more               a line's first 64 bytes, with one more
 --   onto, onto-none, onto-more, some-part    bytes in front of a text's first line; every text has a line, if only an empty one behind its last LF
+--   linesIn, lines-on      a text's lines; a line is read, and then those after it
 --   by-lines, whole-text   byte by byte and line by line are the same
 --   bytes-joined, parts-joined               bytes and more bytes, and any parts, are all of them joined
 --   Taken, taken-none, taken-more            what a state and its buffer hold once a text has been read
