@@ -5,3 +5,4 @@ pub mod Entering
 pub mod Streaming
 pub mod Summing
 pub mod Figures
+pub mod ReadingReports

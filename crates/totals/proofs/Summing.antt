@@ -1,6 +1,7 @@
 -- The stream of reports answers what the rule says of the whole text, whatever parts it comes in. Assumes nothing.
 --   cut-more               a line's first 64 bytes, with one more
 --   onto, onto-none, onto-more, some-part    bytes in front of a text's first line; every text has a line, if only an empty one behind its last LF
+--   linesIn, lines-on      a text's lines; a line is read, and then those after it
 --   by-lines, whole-text   byte by byte and line by line are the same
 --   bytes-joined, parts-joined               bytes and more bytes, and any parts, are all of them joined
 --   Taken, taken-none, taken-more            what a state and its buffer hold once a text has been read
@@ -52,7 +53,7 @@ unfolding onto onFirst
 onto-more begun b [] = refl
 onto-more begun b (line ∷ lines) = ap (λ (l : List ℕ). l ∷ lines) (append-snoc begun b line)
 
-abbrev linesIn : List ℕ → List (List ℕ)
+abbrev pub linesIn : List ℕ → List (List ℕ)
 linesIn text = parted LF ([] ∷ []) text
 
 -- there is one
@@ -69,7 +70,7 @@ some-part [] k = k [] [] refl
 some-part (b ∷ text) k = some-step b (linesIn text) (eqb b LF) (some-part text) k
 
 -- a line and those after it
-lines-on : (t : Tally) (line text : List ℕ) → afterLines t (line ∷ linesIn text) ≡ afterLines (afterLine t (cut (line ++ lineEnd))) (linesIn text)
+pub lines-on : (t : Tally) (line text : List ℕ) → afterLines t (line ∷ linesIn text) ≡ afterLines (afterLine t (cut (line ++ lineEnd))) (linesIn text)
 unfolding afterLines
 lines-on t line text = some-part text (λ next lines e. rw e)
 
