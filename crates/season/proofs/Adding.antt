@@ -5,11 +5,13 @@
 --   joined-report                     where both hold at most 100,000 nets together, the report of the two joined is the two reports added
 --   All, shares-all                   every net of an archive has one share
 --   report-total                      each total is the one defined from the list of nets
+--   report-most                       no total is above what 100,000 nets can have
 --   nets-reported, counts-add-up      NETS is the number of nets reported, and ACCEPTED and the nine counts add up to it
+--   printed-and-added                 the reports of two archives, printed and then added by `add_reports`, are the printed report of the two joined
 use mathlib.Core.Path.{_≡_, refl, sym, _∙_, ap, ap₂, subst}
 use mathlib.Core.Bool.{Bool, true, false, cond}
 use mathlib.Core.List.{List, [], _∷_, _++_, map, append-assoc, append-nil}
-use Prim.Native.Nat.{ℕ, zero, suc, _+_, _≤_, _<_}
+use Prim.Native.Nat.{ℕ, zero, suc, _+_, _*_, _≤_, _<_}
 use native.Mathlib.Omega.{arith}
 use borrow.Author.Tests.{ne-eqb, eqb-true, eqb-false, le-ltb}
 use lib.Dec.{eqb}
@@ -21,7 +23,10 @@ use Rattle.text.specs.Lines.{LF}
 use Rattle.text.specs.Parts.{bytesBefore, parted}
 use Rattle.totals.specs.Totals.{largestAt, total, sumOf, reportOf}
 use Rattle.totals.specs.Promise.{mostNets}
-use Rattle.totals.proofs.Totalling.{joined-sum, report-at, report-joined}
+use Rattle.totals.specs.Text.{reportText}
+use Rattle.totals.specs.Adding.{sumText}
+use Rattle.totals.proofs.Totalling.{joined-sum, joined-most, sum-at, report-length, report-at, report-joined}
+use Rattle.totals.proofs.ReadingReports.{countsIn, Report, sums-back}
 use Rattle.season.specs.Archive.{STOP, stops, onto, partsIn, partsOf}
 use Rattle.season.specs.Share.{sumTo, shareOf, leftShare}
 use Rattle.season.specs.Season.{leftShares, sharesIn, sharesOf, seasonReply, seasonReport}
@@ -185,6 +190,16 @@ all-taken zero shares a = tt
 all-taken (suc n) [] a = tt
 all-taken (suc n) (share ∷ shares) a = (a .0, all-taken n shares (a .1))
 
+take-most : (n : ℕ) (shares : List (List ℕ)) → length (take n shares) ≤ n
+take-most zero shares = omega arith
+take-most (suc n) [] = omega arith
+take-most (suc n) (share ∷ shares) = omega (arith, take-most n shares)
+
+take-fewer : (n : ℕ) (shares : List (List ℕ)) → length (take n shares) ≤ length shares
+take-fewer zero shares = omega arith
+take-fewer (suc n) [] = omega arith
+take-fewer (suc n) (share ∷ shares) = omega (arith, take-fewer n shares)
+
 -- ---- sums of counts
 sum-ext : (n : ℕ) (f g : ℕ → ℕ) → ((k : ℕ) → k < n → f k ≡ g k) → sumTo n f ≡ sumTo n g
 unfolding sumTo
@@ -245,3 +260,41 @@ module _ (archive : List ℕ) where
   counts-add-up =
       sum-ext 10 (λ k. getD (seasonReport (sharesOf archive)) (suc k) 0) (λ k. total (suc k) reported) (λ k l. report-total (suc k) (omega arith))
       ∙ counts reported all-reported ∙ sym nets-reported
+
+-- ---- on many computers: the reports of two archives, printed and then added, are the printed report of the two joined
+total-most : (i : ℕ) (shares : List (List ℕ)) → All shares → total i shares ≤ 24000000 * length shares
+unfolding total
+total-most i [] a = omega arith
+total-most i (share ∷ shares) a = omega (arith, joined-most i (getD share i 0) (total i shares), a .0 .small i, total-most i shares (a .1))
+
+counts-same : (x : List ℕ) (n : ℕ) → countsIn x n ≡ sumTo n (λ k. getD x (suc k) 0)
+unfolding countsIn sumTo
+counts-same x zero = refl
+counts-same x (suc n) = ap (λ (c : ℕ). c + getD x (suc n) 0) (counts-same x n)
+
+most : (x n : ℕ) → x ≤ 24000000 * n → n ≤ 100000 → x ≤ 2400000000000
+most x n l h = omega arith
+
+module _ (archive : List ℕ) where
+  few : length (reported archive) ≤ mostNets
+  few = take-most mostNets (sharesOf archive)
+
+  pub report-most : (i : ℕ) → i < 16 → getD (seasonReport (sharesOf archive)) i 0 ≤ 2400000000000
+  report-most i l =
+      most (getD (seasonReport (sharesOf archive)) i 0) (length (reported archive)) (subst (λ (n : ℕ). n ≤ 24000000 * length (reported archive)) (sym (report-total archive i l)) (total-most i (reported archive) (all-reported archive))) few
+
+  is-report : Report (seasonReport (sharesOf archive))
+  unfolding seasonReport
+  is-report = record { sixteen = report-length (reported archive); counted = counts-same (seasonReport (sharesOf archive)) 10 ∙ counts-add-up archive }
+
+nets-most : (x y m n a b : ℕ) → x ≡ m → y ≡ n → m ≤ a → n ≤ b → a + b ≤ mostNets → x + y ≤ mostNets
+nets-most x y m n a b e f h k l = omega arith
+
+pub printed-and-added : {first : List ℕ} → Closed first → (second : List ℕ) → length (sharesOf first) + length (sharesOf second) ≤ mostNets
+    → sumText (reportText (seasonReport (sharesOf first)) false ++ reportText (seasonReport (sharesOf second)) false) ≡ reportText (seasonReport (sharesOf (first ++ second))) false
+printed-and-added {first} c second l =
+    let x = seasonReport (sharesOf first) in let y = seasonReport (sharesOf second) in
+    sums-back x y (is-report first) (is-report second)
+    (nets-most (getD x 0 0) (getD y 0 0) (length (reported first)) (length (reported second)) _ _ (nets-reported first) (nets-reported second) (take-fewer mostNets (sharesOf first)) (take-fewer mostNets (sharesOf second)) l)
+    (λ i h. omega (arith, sum-at x y i h, joined-most i (getD x i 0) (getD y i 0), report-most first i h, report-most second i h))
+    ∙ ap (λ (t : List ℕ). reportText t false) (sym (joined-report c second l .1))
