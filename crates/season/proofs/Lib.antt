@@ -6,3 +6,4 @@ pub mod Leading
 pub mod Promising
 pub mod Streaming
 pub mod Joining
+pub mod Unique
