@@ -231,6 +231,7 @@ static size_t painted(void (*call)(void), char *stack, char paint)
 }
 
 /* The limits: what the functions took before W-204, but 8 KiB for a table and 22 KiB for a file's three, where that request asks for 16 and 30.
+ * A season's (W-205): 22 KiB too where nets are adjusted, else what they took at first.
  * They are x86-64's; another back end lays its frames out in another way, and may take this much more. */
 #ifdef __x86_64__
 #define MORE 0
@@ -273,8 +274,8 @@ int main(int count, char **words)
     measure("molsadriu_report", report, 22 * 1024, stack);
     measure("molsadriu_season_begin", season_begin, 8, stack);
     measure("molsadriu_season_next", season_next, 22 * 1024, stack);
-    measure("molsadriu_season_end", season_end, 8, stack);
-    measure("molsadriu_add_reports", add_reports, 8, stack);
+    measure("molsadriu_season_end", season_end, 88, stack);
+    measure("molsadriu_add_reports", add_reports, 88, stack);
     free(stack);
     if (above > 0) stop("above a limit");
     return 0;
