@@ -264,7 +264,8 @@ molsadriu_verdict molsadriu_report(
  *           start, 1 after a full stop at the start, 2 elsewhere; and 1 once a net past 100,000 has come, else 0
  * A list of another length is 2 at 0. Then next and end refuse a state that no such calls have left, by the ordinal in totals and place
  * together: 3 at 1 where there are more than 100,000 nets, at 2 to 16 for another total above MOLSADRIU_MOST_TOTAL, at 17 for more than
- * 65,537 bytes, at 18 for a place in the line above 2, or 1 where the open net has no bytes, at 19 for a last number above 1.
+ * 65,537 bytes, at 18 for a place in the line above 2, or 1 where the open net has no bytes, at 19 for a last number above 1. Any other
+ * state is taken as it stands: that the lists hold what the call before left in them is up to the caller.
  *
  * Begins. In: `held`, whose bytes may be any, and are not read. Out: totals and place, all 0. Comes back: the verdict, 0 or 2. */
 molsadriu_verdict molsadriu_season_begin(

@@ -7,8 +7,9 @@
 --   told-left                              the buffer of any file that has been listed, and the number lent for its length
 --   book-left, file-left                   those of a sighting book, and of a network file
 --   begun-left, next-left, sum-left        the lists of a season's stream that is begun or fed, and the list for the sum of two reports
+--   Past, past-or-none                     the number is 30; where only 30 can be refused, it is that or 0
 --   report-left, ended-left                the totals of an archive, and the lists of a stream that is ended: by every refusal but 30
---   report-past, ended-past                and what 30 leaves there
+--   report-past, ended-past                and what 30 leaves there; state-number: a stream's state itself is never refused by 30
 use mathlib.Core.Path.{_≡_, refl, sym, _∙_, ap, subst}
 use mathlib.Core.Bool.{Bool, true, false, cond, not}
 use mathlib.Core.List.{List}

@@ -2,6 +2,7 @@
 --   SeasonRuns           the functions of a stream, by what they promise: begun, and then fed with parts of an archive, whatever they are
 --   library-runs         the library's own operations then run so
 --   bytes-accepted       no part is refused
+--   whole                the report of an archive, with room for it
 --   season-in-parts      at the end verdict and totals are those of `molsadriu_report` for all parts joined
 use mathlib.Core.Path.{_≡_, sym, _∙_, ap, subst}
 use mathlib.Core.List.{List, [], _++_}
@@ -32,7 +33,6 @@ pub bytes-accepted : {held totals place archive bytes held' totals' place' : Lis
     → SeasonNext bytes held totals place v held' totals' place' → v ≡ accepted
 bytes-accepted r n = n .verdict ∙ ap verdictOf (never-refused (library-runs r) (n .lists))
 
--- the report of an archive, with room for it
 whole : {archive lent left : List ℕ} {v : Verdict} → length lent ≡ 16 → SeasonReport archive lent v left → (v ≡ verdictOf (seasonReply (sharesOf archive))) × (left ≡ seasonReport (sharesOf archive))
 unfolding reportReply
 whole {archive} {lent} long s = let e = eq-eqb (length lent) 16 long in (rw e at (s .verdict), rw e at (s .list .totals))
