@@ -10,7 +10,8 @@
  * WHO OWNS WHAT. Everything stays the caller's. Nothing is kept after the call, nothing is allocated, and there is no state between
  * calls, so that calls from several threads at once are sound as long as nothing lent for an answer is shared. What comes in through
  * a pointer to const is only read. A list lent for an answer is written whole where the input is accepted, a buffer in its first bytes;
- * where the verdict refuses, all that was lent stays as it was. docs/COSTS.md says how much stack a call takes.
+ * where the verdict refuses, all that was lent stays as it was. One refusal alone comes with an answer: 30, from molsadriu_report and
+ * molsadriu_season_end. docs/COSTS.md says how much stack a call takes.
  *
  * WHAT CANNOT BE SEEN, and is up to the caller: that a list has as many numbers as its length says, where that length agrees with the
  * others (a null pointer with a length above 0 has not), that a pointer to one number, `w`, `length`, `mean` or `probable`, is not null,
@@ -34,7 +35,7 @@ extern "C" {
 
 /* The version of this header. Each request that changes a number of the table of refusals, a limit, a unit or a function's parameters, or
  * adds a function, raises it by one. The archive holds no version: header and archive go together, from one state of the project. */
-#define MOLSADRIU_VERSION 4
+#define MOLSADRIU_VERSION 5
 
 /* The archive is made for computers whose lengths have 64 bits; a compiler for another one stops here. */
 typedef char molsadriu_lengths_have_64_bits[sizeof(size_t) == 8 ? 1 : -1];
@@ -50,6 +51,11 @@ typedef char molsadriu_lengths_have_64_bits[sizeof(size_t) == 8 ? 1 : -1];
 #define MOLSADRIU_PROBABLE_LISTING 6606 /* bytes that hold the listing of any network file with its E line */
 #define MOLSADRIU_STATION_LISTING 1136  /* bytes that hold the listing of any sighting book */
 #define MOLSADRIU_REFUSED_LINE 52       /* bytes that hold any REFUSED line */
+#define MOLSADRIU_NETS 100000           /* most nets of a season report */
+#define MOLSADRIU_TOTALS 16             /* totals of a season report: the length of its list */
+#define MOLSADRIU_HELD 65536            /* bytes that a season report in parts holds of the open net: the length of that list */
+#define MOLSADRIU_PLACES 3              /* numbers of its place in the archive: the length of that list */
+#define MOLSADRIU_MOST_TOTAL 999999999999999999 /* most that a total may be, where it is lent */
 
 /* What a caller is told: number 0 and place 0 where the input is accepted, else the number and the place of the refusal.
  *
@@ -59,7 +65,8 @@ typedef char molsadriu_lengths_have_64_bits[sizeof(size_t) == 8 ? 1 : -1];
  *       a condition's letter is neither A nor S                             or 0
  *   2   counts of directions, conditions or terms; lengths that disagree;   line,
  *       a D line out of turn; file too long                                 or 0
- *   3   number out of range, or i = k where that is not allowed             line, direction number or term's ordinal, or 0
+ *   3   number out of range, or i = k where that is not allowed;            line, direction number or term's ordinal, or 0;
+ *       a total, or a number of a season report's state                     its ordinal
  *   4   coefficient beyond 2,000                                            condition
  *   5   misclosure beyond 1,000,000                                         condition
  *   6   weak row j: D(j,j) is below 1, or 1,000*D(j,j) is below N(j,j);     row
@@ -75,8 +82,12 @@ typedef char molsadriu_lengths_have_64_bits[sizeof(size_t) == 8 ? 1 : -1];
  *  24   position without object 1                                           100 * position + 1
  *  25   faces over 60,000 apart                                             as 23
  *  26   a position's direction over 120,000 (doubled) from the lowest's     as 23
+ *  30   a net past 100,000 in a season report; the one refusal that comes   100001
+ *       with an answer, the totals of the nets before it, but where two
+ *       reports are added
  *
- * Lines, ordinals, directions, rows and conditions count from 1. The first refusal in the rules' order of checks is told, and no other. */
+ * Lines, ordinals, directions, rows, conditions and nets count from 1. The first refusal in the rules' order of checks is told, and no
+ * other. */
 typedef struct molsadriu_verdict {
     uint64_t number;
     uint64_t place;
@@ -224,6 +235,68 @@ size_t molsadriu_line(const uint8_t *file, size_t file_length, size_t start);
 #define MOLSADRIU_NONE_LEFT 1  /* nothing: the start is at or past the end */
 #define MOLSADRIU_LF_MISSING 2 /* bytes, and no LF after them */
 uint64_t molsadriu_line_status(const uint8_t *file, size_t file_length, size_t start);
+
+/* THE SEASON REPORT is sixteen totals over the nets of an archive. An archive is network files one after another, each closed by a line
+ * with a single full stop, "." and LF, which belongs to no net. Each net counts under the number that molsadriu_adjust_file has for it,
+ * with room enough: a net of more than 65,535 bytes, or of none, under 2. Bytes left after the last full stop line are one net counted
+ * under 1, however many. The totals, by their place from 0:
+ *    0        how many nets, 0 to 100,000
+ *    1        how many were accepted
+ *    2 to 10  how many were refused under the numbers 1 to 9: place 1 + number
+ *   11, 12    over the angle conditions of the accepted nets: the sum of the sizes of their misclosures, and the largest, 0 of none
+ *   13, 14    the same over their side conditions
+ *   15        accepted nets with two conditions that share three or more directions, with coefficients other than zero in both
+ * Sizes are in thousandths of the condition's unit. */
+
+/* The report of an archive. In: the bytes of the archive, as many as there are. Out: its totals, in a list of exactly 16, whatever it
+ * held. Comes back: the verdict, 2 at 0 for a list of another length, which stays as it was; 30 at 100001 where the archive has more than
+ * 100,000 nets, and then the totals are those of the first 100,000. */
+molsadriu_verdict molsadriu_report(
+    const uint8_t *archive, size_t archive_length,
+    uint64_t *totals, size_t totals_room);
+
+/* The same report of an archive that comes in parts: begun, given the next bytes any number of times, and ended. Whatever the parts, also
+ * where they end within a line, totals and verdict at the end are those of molsadriu_report for all of them joined. What is to be
+ * remembered between the calls stands in three lists of the caller's, one set for each archive that is read:
+ *   held    exactly 65,536 bytes: those of the open net so far
+ *   totals  exactly 16: the report of the nets that have been closed
+ *   place   exactly 3: how many bytes the open net has, counted to 65,537 and no further; where in its line the archive stands, 0 at the
+ *           start, 1 after a full stop at the start, 2 elsewhere; and 1 once a net past 100,000 has come, else 0
+ * A list of another length is 2 at 0. Then next and end refuse a state that no such calls have left, by the ordinal in totals and place
+ * together: 3 at 1 where there are more than 100,000 nets, at 2 to 16 for another total above MOLSADRIU_MOST_TOTAL, at 17 for more than
+ * 65,537 bytes, at 18 for a place in the line above 2, or 1 where the open net has no bytes, at 19 for a last number above 1. Any other
+ * state is taken as it stands: that the lists hold what the call before left in them is up to the caller.
+ *
+ * Begins. In: `held`, whose bytes may be any, and are not read. Out: totals and place, all 0. Comes back: the verdict, 0 or 2. */
+molsadriu_verdict molsadriu_season_begin(
+    const uint8_t *held, size_t held_length,
+    uint64_t *totals, size_t totals_room,
+    uint64_t *place, size_t place_room);
+
+/* The next bytes of the archive, however many, none too. In and out: the three lists. Comes back: the verdict, 0, 2 or 3; a net past
+ * 100,000 is told at the end, and bytes after it change nothing. A refusal leaves all three lists as they were. */
+molsadriu_verdict molsadriu_season_next(
+    const uint8_t *bytes, size_t bytes_length,
+    uint8_t *held, size_t held_room,
+    uint64_t *totals, size_t totals_room,
+    uint64_t *place, size_t place_room);
+
+/* Ends: bytes of a net that is still open are counted under 1. In: the three lists. Out: the report in `totals`; the first two numbers of
+ * `place` are 0. Comes back: the verdict, 0, 2, 3, or 30 at 100001 where a net past 100,000 has come. 2 and 3 leave the lists as they
+ * were; 30 comes with the totals of the first 100,000 nets. */
+molsadriu_verdict molsadriu_season_end(
+    const uint8_t *held, size_t held_length,
+    uint64_t *totals, size_t totals_room,
+    uint64_t *place, size_t place_room);
+
+/* The sum of two reports: the larger of the two at places 12 and 14, the sum elsewhere. In: two lists of 16; they may be the same. Out:
+ * their sum, in a third list of exactly 16. Comes back: the verdict, 2 at 0 for another length; 3 at the ordinal, 1 to 16, of the first
+ * place where a number of either, or what the two make, is above MOLSADRIU_MOST_TOTAL; 30 at 100001 where both hold more than 100,000
+ * nets together. Here every refusal, 30 too, leaves the sum as it was. */
+molsadriu_verdict molsadriu_add_reports(
+    const uint64_t *first, size_t first_length,
+    const uint64_t *second, size_t second_length,
+    uint64_t *sum, size_t sum_room);
 
 #ifdef __cplusplus
 }

@@ -595,6 +595,340 @@ static void book(void)
     refused_file(&averaging, many, 1, MOLSADRIU_SIGHTINGS + 2);
 }
 
+/* ---- a season's archive: the state of a stream in three lists, the bytes held beside totals and place */
+static uint8_t *held, held_before[MOLSADRIU_HELD];
+static size_t held_length;
+static const uint8_t *part;
+static size_t part_length;
+
+static uint64_t *counts(const list *l)
+{
+    return (uint64_t *)l->at;
+}
+
+static molsadriu_verdict begin(const list *l)
+{
+    return molsadriu_season_begin(held, held_length, counts(&l[0]), l[0].length, counts(&l[1]), l[1].length);
+}
+
+static molsadriu_verdict next(const list *l)
+{
+    return molsadriu_season_next(part, part_length, held, held_length, counts(&l[0]), l[0].length, counts(&l[1]), l[1].length);
+}
+
+static molsadriu_verdict end(const list *l)
+{
+    return molsadriu_season_end(held, held_length, counts(&l[0]), l[0].length, counts(&l[1]), l[1].length);
+}
+
+static molsadriu_verdict report(const list *l)
+{
+    return molsadriu_report(part, part_length, counts(&l[0]), l[0].length);
+}
+
+static molsadriu_verdict add(const list *l)
+{
+    return molsadriu_add_reports(counts(&l[0]), l[0].length, counts(&l[1]), l[1].length, counts(&l[2]), l[2].length);
+}
+
+typedef molsadriu_verdict operation_on_lists(const list *);
+
+static const size_t state_lengths[2] = {MOLSADRIU_TOTALS, MOLSADRIU_PLACES};
+
+static void next_is(const char *bytes, size_t length)
+{
+    part = (const uint8_t *)bytes;
+    part_length = length;
+}
+
+/* A state whose totals are all one number. */
+static void state_is(list *l, int64_t total, int64_t bytes, int64_t line, int64_t past)
+{
+    const int64_t place[MOLSADRIU_PLACES] = {bytes, line, past};
+    for (size_t n = 0; n < MOLSADRIU_TOTALS; n++) l[0].at[n] = l[0].before[n] = total;
+    memcpy(l[1].at, place, sizeof place);
+    memcpy(l[1].before, place, sizeof place);
+    memcpy(held, held_before, MOLSADRIU_HELD);
+}
+
+static int state_stays(const list *l)
+{
+    return unchanged(l, 0, 2, state_lengths) && memcmp(held, held_before, MOLSADRIU_HELD) == 0;
+}
+
+static int place_is(const list *l, int64_t bytes, int64_t line, int64_t past)
+{
+    return l[1].at[0] == bytes && l[1].at[1] == line && l[1].at[2] == past;
+}
+
+/* Next and end alike refuse a state that has this number at this ordinal, and leave it. */
+static void state_refused(list *l, size_t ordinal, uint64_t number)
+{
+    int64_t *at = ordinal <= MOLSADRIU_TOTALS ? &l[0].at[ordinal - 1] : &l[1].at[ordinal - MOLSADRIU_TOTALS - 1];
+    int64_t *before = ordinal <= MOLSADRIU_TOTALS ? &l[0].before[ordinal - 1] : &l[1].before[ordinal - MOLSADRIU_TOTALS - 1];
+    int64_t kept = *at;
+    *at = *before = (int64_t)number;
+    CHECK(is(next(l), 3, ordinal) && state_stays(l));
+    CHECK(is(end(l), 3, ordinal) && state_stays(l));
+    *at = *before = kept;
+}
+
+/* And take it where it is within its limit: no bytes change nothing. */
+static void state_taken(list *l, size_t ordinal, uint64_t number)
+{
+    int64_t *at = ordinal <= MOLSADRIU_TOTALS ? &l[0].at[ordinal - 1] : &l[1].at[ordinal - MOLSADRIU_TOTALS - 1];
+    int64_t *before = ordinal <= MOLSADRIU_TOTALS ? &l[0].before[ordinal - 1] : &l[1].before[ordinal - MOLSADRIU_TOTALS - 1];
+    int64_t kept = *at;
+    *at = *before = (int64_t)number;
+    next_is(NULL, 0);
+    CHECK(is(next(l), 0, 0) && state_stays(l));
+    next_is("D", 1);
+    *at = *before = kept;
+}
+
+static void stream_lengths(list *l, operation_on_lists *call)
+{
+    const size_t wrong[6] = {0, MOLSADRIU_HELD - 1, MOLSADRIU_HELD + 1, 1000, SIZE_MAX / 8 + 1, SIZE_MAX};
+    wrong_lengths(call, l, 2, 0, 2);
+    for (size_t n = 0; n < 6; n++) {
+        held_length = wrong[n];
+        CHECK(is(call(l), 2, 0) && state_stays(l));
+    }
+    uint8_t *at = held;
+    held = NULL;
+    held_length = 0;
+    CHECK(is(call(l), 2, 0));
+    held = at;
+    held_length = MOLSADRIU_HELD;
+    CHECK(state_stays(l));
+    /* a length before a number that no stream has */
+    l[0].at[0] = l[0].before[0] = -1;
+    l[1].length = 2;
+    CHECK(is(call(l), 2, 0) && state_stays(l));
+    l[1].length = 3;
+    l[0].at[0] = l[0].before[0] = 0;
+}
+
+static void stream_states(list *l)
+{
+    const uint64_t above[3] = {MOLSADRIU_MOST_TOTAL + UINT64_C(1), UINT64_C(1) << 63, UINT64_MAX};
+    next_is("D", 1);
+    state_is(l, 0, 0, 0, 0);
+    stream_lengths(l, begin);
+    stream_lengths(l, next);
+    stream_lengths(l, end);
+    /* each number of a state, both sides of its limit */
+    state_taken(l, 1, MOLSADRIU_NETS);
+    state_refused(l, 1, MOLSADRIU_NETS + 1);
+    state_taken(l, 17, 65537);
+    state_refused(l, 17, 65538);
+    state_taken(l, 18, 2);
+    state_refused(l, 18, 3);
+    state_taken(l, 19, 1);
+    state_refused(l, 19, 2);
+    for (size_t n = 2; n <= MOLSADRIU_TOTALS; n++) state_taken(l, n, MOLSADRIU_MOST_TOTAL);
+    for (size_t n = 1; n <= MOLSADRIU_TOTALS + MOLSADRIU_PLACES; n++)
+        for (size_t e = 0; e < 3; e++) state_refused(l, n, above[e]);
+    /* a full stop at the start of a line is a byte of the open net */
+    state_refused(l, 18, 1);
+    state_is(l, 0, 1, 0, 0);
+    state_taken(l, 18, 1);
+    /* the lower ordinal first */
+    state_is(l, 0, 65538, 3, 2);
+    CHECK(is(next(l), 3, 17) && is(end(l), 3, 17) && state_stays(l));
+    l[0].at[15] = l[0].before[15] = -1;
+    CHECK(is(next(l), 3, 16) && is(end(l), 3, 16) && state_stays(l));
+    /* begin takes any numbers */
+    CHECK(is(begin(l), 0, 0) && place_is(l, 0, 0, 0));
+    for (size_t n = 0; n < MOLSADRIU_TOTALS; n++) CHECK(l[0].at[n] == 0);
+    CHECK(memcmp(held, held_before, MOLSADRIU_HELD) == 0);
+    /* totals at their limit take one net more, and are then refused */
+    state_is(l, 0, 0, 0, 0);
+    l[0].at[3] = MOLSADRIU_MOST_TOTAL;
+    next_is(".\n", 2);
+    CHECK(is(next(l), 0, 0) && l[0].at[0] == 1 && l[0].at[3] == MOLSADRIU_MOST_TOTAL + INT64_C(1));
+    CHECK(is(next(l), 3, 4) && is(end(l), 3, 4));
+}
+
+/* Around 100,000 nets: the last that fits, closed or left open, and one more. */
+static void nets_past(list *l)
+{
+    for (int64_t nets = MOLSADRIU_NETS - 1; nets <= MOLSADRIU_NETS; nets++)
+        for (int closed = 0; closed < 2; closed++) {
+            int64_t past = nets == MOLSADRIU_NETS;
+            state_is(l, 0, 0, 0, 0);
+            l[0].at[0] = l[0].before[0] = nets;
+            next_is(".\n", closed ? 2 : 1);
+            CHECK(is(next(l), 0, 0));
+            CHECK(closed ? place_is(l, 0, 0, past) : place_is(l, 1, 1, 0));
+            /* what comes after a net past 100,000 changes nothing */
+            if (closed && past) {
+                uint8_t *seen = buffer(MOLSADRIU_HELD);
+                memcpy(seen, held, MOLSADRIU_HELD);
+                next_is("D\t1\n.\n", 6);
+                CHECK(is(next(l), 0, 0) && place_is(l, 0, 0, 1) && memcmp(seen, held, MOLSADRIU_HELD) == 0);
+                free(seen);
+            }
+            CHECK(past ? is(end(l), 30, MOLSADRIU_NETS + 1) : is(end(l), 0, 0));
+            CHECK(place_is(l, 0, 0, past));
+            CHECK(l[0].at[0] == MOLSADRIU_NETS && l[0].at[2] == (!past && !closed) && l[0].at[3] == (!past && closed));
+            for (size_t n = 4; n < MOLSADRIU_TOTALS; n++) CHECK(l[0].at[n] == 0);
+        }
+}
+
+/* An archive in parts of so many bytes, the first of them of another length: verdict and totals of the whole. */
+static int in_parts(list *l, const char *archive, size_t length, size_t first, size_t size, molsadriu_verdict whole, const list *totals)
+{
+    state_is(l, -1, -1, -1, -1);
+    if (!is(begin(l), 0, 0)) return 0;
+    for (size_t at = 0; at < length;) {
+        size_t some = at == 0 && first != 0 ? first : size;
+        if (some > length - at) some = length - at;
+        uint8_t *bytes = buffer(some);
+        memcpy(bytes, archive + at, some);
+        next_is((const char *)bytes, some);
+        int taken = is(next(l), 0, 0);
+        free(bytes);
+        if (!taken) return 0;
+        at += some;
+    }
+    return is(end(l), whole.number, whole.place) && memcmp(l[0].at, totals->at, MOLSADRIU_TOTALS * sizeof(int64_t)) == 0;
+}
+
+/* The report of an archive, which must be this one, and the same in parts. */
+static void reported(list *l, const char *archive, size_t length, uint64_t number, const int64_t expected[MOLSADRIU_TOTALS], size_t step)
+{
+    const int64_t other[MOLSADRIU_TOTALS] = {-7, -7, -7, -7, -7, -7, -7, -7, -7, -7, -7, -7, -7, -7, -7, -7};
+    list totals = lend(other, MOLSADRIU_TOTALS);
+    uint8_t *bytes = buffer(length);
+    memcpy(bytes, archive, length);
+    next_is((const char *)bytes, length);
+    wrong_lengths(report, &totals, 1, 0, 2);
+    next_is((const char *)bytes, length);
+    molsadriu_verdict whole = report(&totals);
+    CHECK(is(whole, number, number == 30 ? MOLSADRIU_NETS + 1 : 0));
+    CHECK(memcmp(totals.at, expected, sizeof other) == 0);
+    free(bytes);
+    for (size_t first = 0; first <= length; first += step) CHECK(in_parts(l, archive, length, first, length, whole, &totals));
+    if (step == 1) CHECK(in_parts(l, archive, length, 1, 1, whole, &totals));
+    CHECK(in_parts(l, archive, length, 7, 65537, whole, &totals));
+    give_back(&totals, 1);
+}
+
+static void archives(list *l)
+{
+    /* figure 3, a side condition, two conditions that share three directions, one net under each number, an empty net, and a line left over */
+    static const char season[] =
+        "D\t1\t216000000\t1\nD\t2\t216003000\t1\nD\t3\t215997000\t1\nC\tA\t648000000\nP\t0\t1\nP\t0\t2\nF\t216000000\n"
+        "C\tA\t648000000\nP\t0\t2\nP\t0\t3\nF\t216000000\n.\n"
+        "D\t1\t0\t1\nC\tS\nR\t1\t1000\t0\t1\n.\n"
+        "D\t1\t100\t1\nD\t2\t200\t1\nD\t3\t300\t1\nC\tA\t0\nP\t0\t1\nP\t0\t2\nP\t0\t3\nC\tA\t400\nP\t1\t2\nP\t0\t3\n.\n"
+        "D\t1\t0\t1\nX\n.\n"
+        "D\t1\t0\t1\n.\n"
+        "D\t1\t0\t1\nD\t2\t0\t11\n.\n"
+        "D\t1\t0\t1\nC\tS\nL\t0\t2000\t0\t1\nL\t0\t1\t0\t1\n.\n"
+        "D\t1\t0\t1\nC\tA\t1000001\nP\t1\t0\n.\n"
+        "D\t1\t0\t1\nC\tS\nL\t0\t0\t0\t0\n.\n"
+        "D\t1\t0\t1\nC\tS\nL\t11\t10\t0\t1\n.\n"
+        "D\t1\t0\t10\nD\t2\t0\t10\nD\t3\t0\t10\nD\t4\t0\t10\nC\tS\n"
+        "L\t2\t2000\t0\t1\nL\t0\t2000\t0\t2\nL\t0\t2000\t0\t3\nL\t0\t2000\t0\t4\n.\n"
+        "D\t1\t1000\t1\nD\t2\t60001\t1\nC\tA\t0\nP\t0\t1\nC\tA\t0\nP\t0\t2\n.\n"
+        ".\n"
+        " .\n..\n";
+    const int64_t of_season[MOLSADRIU_TOTALS] = {14, 3, 2, 2, 1, 1, 1, 1, 1, 1, 1, 3600, 3000, 100, 100, 1};
+    const int64_t none[MOLSADRIU_TOTALS] = {0}, left[MOLSADRIU_TOTALS] = {1, 0, 1};
+    const int64_t longest[MOLSADRIU_TOTALS] = {2, 0, 1, 1};
+    int64_t full[MOLSADRIU_TOTALS] = {MOLSADRIU_NETS, 0, 0, MOLSADRIU_NETS};
+    reported(l, season, sizeof season - 1, 0, of_season, 1);
+    reported(l, "", 0, 0, none, 1);
+    reported(l, ".", 1, 0, left, 1);
+    /* a net of 65,535 bytes is read, and one byte more is 2 */
+    static char text[2 * MOLSADRIU_NETS + 2];
+    size_t length = 0;
+    for (size_t net = MOLSADRIU_FILE; net <= MOLSADRIU_FILE + 1; net++) {
+        memset(text + length, 'X', net - 1);
+        memcpy(text + length + net - 1, "\n.\n", 3);
+        length += net + 2;
+    }
+    reported(l, text, length, 0, longest, 32749);
+    /* 100,000 empty nets, and then a byte, and a full stop line */
+    for (size_t n = 0; n <= MOLSADRIU_NETS; n++) memcpy(text + 2 * n, ".\n", 2);
+    reported(l, text, 2 * MOLSADRIU_NETS, 0, full, 2 * MOLSADRIU_NETS - 1);
+    reported(l, text, 2 * MOLSADRIU_NETS + 1, 30, full, 2 * MOLSADRIU_NETS);
+    reported(l, text, 2 * MOLSADRIU_NETS + 2, 30, full, 2 * MOLSADRIU_NETS);
+    /* the last that fits is one left open */
+    full[2] = 1;
+    full[3]--;
+    reported(l, text, 2 * MOLSADRIU_NETS - 1, 0, full, 2 * MOLSADRIU_NETS);
+}
+
+static void sums(void)
+{
+    const int64_t one[MOLSADRIU_TOTALS] = {3, 1, 2, 0, 0, 0, 0, 0, 0, 0, 0, 50, 40, 30, 5, 1};
+    const int64_t other[MOLSADRIU_TOTALS] = {2, 2, 0, 0, 0, 0, 0, 0, 0, 0, 0, 7, 7, 60, 20, 0};
+    const int64_t both[MOLSADRIU_TOTALS] = {5, 3, 2, 0, 0, 0, 0, 0, 0, 0, 0, 57, 40, 90, 20, 1};
+    const int64_t other_numbers[MOLSADRIU_TOTALS] = {-7, -7, -7, -7, -7, -7, -7, -7, -7, -7, -7, -7, -7, -7, -7, -7};
+    const int64_t most = MOLSADRIU_MOST_TOTAL, above[3] = {most + 1, INT64_MIN, -1};
+    const size_t right[3] = {16, 16, 16};
+    list l[3] = {lend(one, 16), lend(other, 16), lend(other_numbers, 16)};
+    wrong_lengths(add, l, 3, 0, 2);
+    for (size_t n = 0; n < MOLSADRIU_TOTALS; n++) {
+        int largest = n == 12 || n == 14;
+        /* either number, and what both make; an ordinal before the number of nets together */
+        for (size_t j = 0; j < 2; j++) {
+            for (size_t e = 0; e < 3; e++) {
+                l[j].at[n] = l[j].before[n] = above[e];
+                CHECK(is(add(l), 3, n + 1) && unchanged(l, 0, 3, right));
+            }
+            l[j].at[n] = l[j].before[n] = most;
+            l[1 - j].at[n] = l[1 - j].before[n] = 1;
+            if (!largest) CHECK(is(add(l), 3, n + 1) && unchanged(l, 0, 3, right));
+            l[1 - j].at[n] = l[1 - j].before[n] = largest ? most : 0;
+            if (n == 0) {
+                CHECK(is(add(l), 30, MOLSADRIU_NETS + 1) && unchanged(l, 0, 3, right));
+            } else {
+                CHECK(is(add(l), 0, 0) && l[2].at[n] == most && l[2].at[0] == 5 && unchanged(l, 0, 2, right));
+                memcpy(l[2].at, other_numbers, sizeof other_numbers);
+            }
+            l[0].at[n] = l[0].before[n] = one[n];
+            l[1].at[n] = l[1].before[n] = other[n];
+        }
+    }
+    /* the lower ordinal first */
+    l[0].at[9] = l[0].before[9] = -1;
+    l[1].at[4] = l[1].before[4] = -1;
+    CHECK(is(add(l), 3, 5) && unchanged(l, 0, 3, right));
+    l[0].at[9] = l[0].before[9] = 0;
+    l[1].at[4] = l[1].before[4] = 0;
+    /* both sides of 100,000 nets */
+    l[0].at[0] = l[0].before[0] = MOLSADRIU_NETS - 1;
+    CHECK(is(add(l), 30, MOLSADRIU_NETS + 1) && unchanged(l, 0, 3, right));
+    l[1].at[0] = l[1].before[0] = 1;
+    CHECK(is(add(l), 0, 0) && l[2].at[0] == MOLSADRIU_NETS && unchanged(l, 0, 2, right));
+    l[0].at[0] = l[0].before[0] = one[0];
+    l[1].at[0] = l[1].before[0] = other[0];
+    CHECK(is(add(l), 0, 0) && memcmp(l[2].at, both, sizeof both) == 0 && unchanged(l, 0, 2, right));
+    /* the two may be the same list: they are only read */
+    const list same[3] = {l[0], l[0], l[2]};
+    CHECK(is(add(same), 0, 0) && l[2].at[0] == 6 && l[2].at[11] == 100 && l[2].at[12] == 40 && unchanged(l, 0, 2, right));
+    give_back(l, 3);
+}
+
+static void seasons(void)
+{
+    const int64_t zeros[MOLSADRIU_TOTALS] = {0};
+    list l[2] = {lend(zeros, MOLSADRIU_TOTALS), lend(zeros, MOLSADRIU_PLACES)};
+    memset(held_before, '#', sizeof held_before);
+    held = buffer(MOLSADRIU_HELD);
+    held_length = MOLSADRIU_HELD;
+    stream_states(l);
+    nets_past(l);
+    archives(l);
+    sums();
+    free(held);
+    give_back(l, 2);
+}
+
 int main(void)
 {
     station();
@@ -605,6 +939,7 @@ int main(void)
     refused_lines();
     network();
     book();
+    seasons();
     printf("%u checks, %u failed\n", checks, failures);
     return failures != 0;
 }

@@ -126,6 +126,42 @@ static void station_book(void)
     answered = molsadriu_station_book(book, book_length, out, sizeof out, &length).number;
 }
 
+/* the fullest net twice, as an archive; and a stream of it, begun and at its end, with a net that is open */
+static uint8_t archive[2 * (sizeof file + 2)], held[MOLSADRIU_HELD];
+static size_t archive_length;
+static uint64_t totals[MOLSADRIU_TOTALS], place[MOLSADRIU_PLACES], sum[MOLSADRIU_TOTALS];
+
+static void report(void)
+{
+    HERE;
+    answered = molsadriu_report(archive, archive_length, totals, MOLSADRIU_TOTALS).number;
+}
+
+static void season_begin(void)
+{
+    HERE;
+    answered = molsadriu_season_begin(held, sizeof held, totals, MOLSADRIU_TOTALS, place, MOLSADRIU_PLACES).number;
+}
+
+static void season_next(void)
+{
+    HERE;
+    answered = molsadriu_season_next(archive, archive_length, held, sizeof held, totals, MOLSADRIU_TOTALS, place, MOLSADRIU_PLACES).number;
+}
+
+static void season_end(void)
+{
+    place[0] = 1;
+    HERE;
+    answered = molsadriu_season_end(held, sizeof held, totals, MOLSADRIU_TOTALS, place, MOLSADRIU_PLACES).number;
+}
+
+static void add_reports(void)
+{
+    HERE;
+    answered = molsadriu_add_reports(totals, MOLSADRIU_TOTALS, totals, MOLSADRIU_TOTALS, sum, MOLSADRIU_TOTALS).number;
+}
+
 /* ---- their input */
 static void fill(const char *name)
 {
@@ -157,6 +193,11 @@ static void fill(const char *name)
     if (in == NULL) stop("the network file cannot be opened");
     file_length = fread(file, 1, sizeof file, in);
     fclose(in);
+    for (int n = 0; n < 2; n++) {
+        memcpy(archive + archive_length, file, file_length);
+        memcpy(archive + archive_length + file_length, ".\n", 2);
+        archive_length += file_length + 2;
+    }
 }
 
 /* ---- the measurement */
@@ -190,6 +231,7 @@ static size_t painted(void (*call)(void), char *stack, char paint)
 }
 
 /* The limits: what the functions took before W-204, but 8 KiB for a table and 22 KiB for a file's three, where that request asks for 16 and 30.
+ * A season's (W-205): 22 KiB too where nets are adjusted, else what they took at first.
  * They are x86-64's; another back end lays its frames out in another way, and may take this much more. */
 #ifdef __x86_64__
 #define MORE 0
@@ -229,6 +271,11 @@ int main(int count, char **words)
     measure("molsadriu_list_file", list_file, 22 * 1024, stack);
     measure("molsadriu_line", line, 8, stack);
     measure("molsadriu_line_status", line_status, 8, stack);
+    measure("molsadriu_report", report, 22 * 1024, stack);
+    measure("molsadriu_season_begin", season_begin, 8, stack);
+    measure("molsadriu_season_next", season_next, 22 * 1024, stack);
+    measure("molsadriu_season_end", season_end, 88, stack);
+    measure("molsadriu_add_reports", add_reports, 88, stack);
     free(stack);
     if (above > 0) stop("above a limit");
     return 0;

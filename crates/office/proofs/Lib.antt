@@ -3,3 +3,4 @@ pub mod Lettered
 pub mod OwnBytes
 pub mod Unique
 pub mod Leaving
+pub mod Seasons

@@ -4,6 +4,8 @@
 --   errors-told          of the mean and the probable error of lent lists
 --   listed-told          of any file that has been listed, and the length that was lent
 --   book-told, file-told of a sighting book, and of a network file
+--   report-told          of the report of a season; begun-told, next-told, ended-told of one that comes in parts
+--   sum-told             of the sum of two reports
 use mathlib.Core.Path.{_≡_, refl, _∙_, ap, subst}
 use mathlib.Core.List.{List}
 use Prim.Native.Nat.{ℕ}
@@ -25,7 +27,9 @@ use Rattle.precision.specs.Promise.{TellsErrors}
 use Rattle.listing.specs.declared.Sheet.{Sheet}
 use Rattle.listing.specs.File.{AdjustsFile}
 use Rattle.book.specs.File.{MeansOf}
-use Rattle.office.specs.Promises.{Means, Table, DirectionErrors, ToldBy, SightingBook, File}
+use Rattle.totals.specs.Promise.{Adds}
+use Rattle.season.specs.Promise.{Reports, Begins, Feeds, Ends}
+use Rattle.office.specs.Promises.{Means, Table, DirectionErrors, ToldBy, SightingBook, File, SeasonReport, SeasonBegun, SeasonNext, SeasonEnded, ReportSum}
 
 module _ (v : Verdict) (r : Reply) (told : v ≡ verdictOf r) where
   pub means-told : (b : Book) (d p D P : List ℤ) → Answers b d p r D P → Means b d p v D P
@@ -39,6 +43,26 @@ module _ (v : Verdict) (r : Reply) (told : v ≡ verdictOf r) where
   pub errors-told : (us qs : List ℤ) (n : ℕ) (lent left : Errors) → TellsErrors us qs n lent r left → DirectionErrors us qs n lent v left
   errors-told us qs n lent left a =
       record { verdict = told ∙ ap verdictOf (a .answer); numbers = subst (λ (r : Reply). TellsErrors us qs n lent r left) (a .answer) a }
+
+  pub report-told : (archive lent left : List ℕ) → Reports archive lent r left → SeasonReport archive lent v left
+  report-told archive lent left a =
+      record { verdict = told ∙ ap verdictOf (a .answer); list = subst (λ (r : Reply). Reports archive lent r left) (a .answer) a }
+
+  pub begun-told : (held totals place t p : List ℕ) → Begins held totals place r t p → SeasonBegun held totals place v t p
+  begun-told held totals place t p a =
+      record { verdict = told ∙ ap verdictOf (a .answer); lists = subst (λ (r : Reply). Begins held totals place r t p) (a .answer) a }
+
+  pub next-told : (bytes held totals place h t p : List ℕ) → Feeds bytes held totals place r h t p → SeasonNext bytes held totals place v h t p
+  next-told bytes held totals place h t p a =
+      record { verdict = told ∙ ap verdictOf (a .answer); lists = subst (λ (r : Reply). Feeds bytes held totals place r h t p) (a .answer) a }
+
+  pub ended-told : (held totals place t p : List ℕ) → Ends held totals place r t p → SeasonEnded held totals place v t p
+  ended-told held totals place t p a =
+      record { verdict = told ∙ ap verdictOf (a .answer); lists = subst (λ (r : Reply). Ends held totals place r t p) (a .answer) a }
+
+  pub sum-told : (first second lent left : List ℕ) → Adds first second lent r left → ReportSum first second lent v left
+  sum-told first second lent left a =
+      record { verdict = told ∙ ap verdictOf (a .answer); list = subst (λ (r : Reply). Adds first second lent r left) (a .answer) a }
 
 module _ {v : Verdict} {listed : Listed} {before after : List ℕ} {n m : ℕ} (told : v ≡ verdictOf (listed .reply)) (left : m ≡ leaves (listed .reply) (listed .length) n) where
   listed-told : {rule : Reply} {listing : List ℕ} → ListedBy rule listing before listed after → ToldBy rule listing before n v after m

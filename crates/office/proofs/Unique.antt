@@ -2,6 +2,7 @@
 --   one-means, one-coefficients, one-misclosure, one-table, one-errors, one-book, one-file, one-length, one-status      of the function of that name
 --                                                (one-file: of both functions on a network file, by their sheets)
 --   one-told                                     of any file that has been listed
+--   one-season-report, one-season-begin, one-season-next, one-season-end, one-add-reports      of the functions on a season's archive
 --   (of `molsadriu_refused_line` and `molsadriu_list_file`: page's one-refused-line and listing's one-listing)
 use mathlib.Core.Path.{_≡_}
 use mathlib.Core.List.{List}
@@ -21,8 +22,10 @@ use Rattle.precision.specs.declared.Errors.{Errors}
 use Rattle.precision.proofs.Promising.{only-answer}
 use Rattle.text.specs.Lines.{lineAt, statusAt}
 use Rattle.listing.specs.declared.Sheet.{Sheet}
+use Rattle.totals.proofs.Promising.{one-sum}
+use Rattle.season.proofs.Unique.{one-report, one-begin, one-next, one-end}
 use Rattle.office.specs.declared.Heading.{Heading}
-use Rattle.office.specs.Promises.{Means, Coefficients, Misclosed, Table, DirectionErrors, ToldBy, SightingBook, File}
+use Rattle.office.specs.Promises.{Means, Coefficients, Misclosed, Table, DirectionErrors, ToldBy, SightingBook, File, SeasonReport, SeasonBegun, SeasonNext, SeasonEnded, ReportSum}
 use Rattle.office.specs.Statuses.{statusNumber}
 
 pub one-means : (b : Book) (d p : List ℤ) (v v′ : Verdict) (D D′ P P′ : List ℤ) → Means b d p v D P → Means b d p v′ D′ P′ → (v ≡ v′) × ((D ≡ D′) × (P ≡ P′))
@@ -54,3 +57,19 @@ one-book file before n v v′ after after′ m m′ x y = one-told _ _ before n 
 
 pub one-file : (sheet : Sheet) (file before : List ℕ) (n : ℕ) (v v′ : Verdict) (after after′ : List ℕ) (m m′ : ℕ) → File sheet file before n v after m → File sheet file before n v′ after′ m′ → (v ≡ v′) × ((after ≡ after′) × (m ≡ m′))
 one-file sheet file before n v v′ after after′ m m′ x y = one-told _ _ before n v v′ after after′ m m′ (x .told) (y .told)
+
+pub one-season-report : (archive lent : List ℕ) (v v′ : Verdict) (left left′ : List ℕ) → SeasonReport archive lent v left → SeasonReport archive lent v′ left′ → (v ≡ v′) × (left ≡ left′)
+one-season-report archive lent v v′ left left′ x y = (only (x .verdict) (y .verdict), one-report archive lent _ _ left left′ (x .list) (y .list) .1)
+
+module _ (held totals place : List ℕ) (v v′ : Verdict) where
+  pub one-season-begin : (t t′ p p′ : List ℕ) → SeasonBegun held totals place v t p → SeasonBegun held totals place v′ t′ p′ → (v ≡ v′) × ((t ≡ t′) × (p ≡ p′))
+  one-season-begin t t′ p p′ x y = (only (x .verdict) (y .verdict), one-begin held totals place _ _ t t′ p p′ (x .lists) (y .lists) .1)
+
+  pub one-season-next : (bytes h h′ t t′ p p′ : List ℕ) → SeasonNext bytes held totals place v h t p → SeasonNext bytes held totals place v′ h′ t′ p′ → (v ≡ v′) × ((h ≡ h′) × ((t ≡ t′) × (p ≡ p′)))
+  one-season-next bytes h h′ t t′ p p′ x y = (only (x .verdict) (y .verdict), one-next held totals place _ _ bytes h h′ t t′ p p′ (x .lists) (y .lists) .1)
+
+  pub one-season-end : (t t′ p p′ : List ℕ) → SeasonEnded held totals place v t p → SeasonEnded held totals place v′ t′ p′ → (v ≡ v′) × ((t ≡ t′) × (p ≡ p′))
+  one-season-end t t′ p p′ x y = (only (x .verdict) (y .verdict), one-end held totals place _ _ t t′ p p′ (x .lists) (y .lists) .1)
+
+pub one-add-reports : (first second lent : List ℕ) (v v′ : Verdict) (left left′ : List ℕ) → ReportSum first second lent v left → ReportSum first second lent v′ left′ → (v ≡ v′) × (left ≡ left′)
+one-add-reports first second lent v v′ left left′ x y = (only (x .verdict) (y .verdict), one-sum first second lent _ _ left left′ (x .list) (y .list) .1)

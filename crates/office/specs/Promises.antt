@@ -23,6 +23,9 @@ use Rattle.listing.specs.declared.Sheet.{Sheet}
 use Rattle.listing.specs.File.{fileListing, FileDemand3, FileWithinMinute, FileMeanError, adjustFileReply}
 use Rattle.book.specs.Lines.{bookOf}
 use Rattle.book.specs.File.{bookListing, meansReply}
+use Rattle.totals.specs.Promise.{sumReply, Adds}
+use Rattle.season.specs.Stream.{stateReply}
+use Rattle.season.specs.Promise.{reportReply, Reports, beginReply, Begins, Feeds, endReply, Ends}
 use Rattle.office.specs.declared.Heading.{Heading}
 use Rattle.office.specs.Terms.{coefficientsReplyUnder, coefficientsListUnder, misclosureUnder}
 
@@ -61,3 +64,25 @@ pub record File (sheet : Sheet) (file before : List ℕ) (lengthBefore : ℕ) (v
   pub demand3 : adjustFileReply sheet file (length before) ≡ Accepted → FileDemand3 file
   pub within-minute : adjustFileReply sheet file (length before) ≡ Accepted → FileWithinMinute file
   pub mean-error : adjustFileReply sheet file (length before) ≡ Accepted → FileMeanError file
+
+-- ---- of a season's archive: whole, and in parts. 30 alone, of these promises, comes with an answer: the totals of the nets before
+pub record SeasonReport (archive lent : List ℕ) (v : Verdict) (left : List ℕ) : Type 0 where
+  pub verdict : v ≡ verdictOf (reportReply archive (length lent))
+  pub list : Reports archive lent (reportReply archive (length lent)) left
+
+pub record SeasonBegun (held totals place : List ℕ) (v : Verdict) (totalsNow placeNow : List ℕ) : Type 0 where
+  pub verdict : v ≡ verdictOf (beginReply held totals place)
+  pub lists : Begins held totals place (beginReply held totals place) totalsNow placeNow
+
+pub record SeasonNext (bytes held totals place : List ℕ) (v : Verdict) (heldNow totalsNow placeNow : List ℕ) : Type 0 where
+  pub verdict : v ≡ verdictOf (stateReply held totals place)
+  pub lists : Feeds bytes held totals place (stateReply held totals place) heldNow totalsNow placeNow
+
+pub record SeasonEnded (held totals place : List ℕ) (v : Verdict) (totalsNow placeNow : List ℕ) : Type 0 where
+  pub verdict : v ≡ verdictOf (endReply held totals place)
+  pub lists : Ends held totals place (endReply held totals place) totalsNow placeNow
+
+-- ---- of two reports: here 30 leaves the list as it was, like any other refusal
+pub record ReportSum (first second lent : List ℕ) (v : Verdict) (left : List ℕ) : Type 0 where
+  pub verdict : v ≡ verdictOf (sumReply first second (length lent))
+  pub list : Adds first second lent (sumReply first second (length lent)) left

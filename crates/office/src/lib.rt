@@ -14,6 +14,7 @@ ghost use Rattle.page.specs.Page.{refusedLineIn};
 ghost use Rattle.listing.specs.declared.Sheet.the-variants.{Plain, WithErrors};
 ghost use Rattle.listing.specs.File.{listingIn};
 ghost use Rattle.office.specs.Promises.{Means, SightingBook, Coefficients, Misclosed, Table, DirectionErrors, File};
+ghost use Rattle.office.specs.Promises.{SeasonReport, SeasonBegun, SeasonNext, SeasonEnded, ReportSum};
 ghost use Rattle.office.specs.Terms.{headingOf, termsOf};
 ghost use Rattle.office.specs.Statuses.{statusNumber};
 use condition::Kind;
@@ -254,4 +255,64 @@ pub extern "C" fn molsadriu_line_status(file: &[u8], start: usize) -> u64
         LineStatus::NoneLeft => 1,
         LineStatus::LfMissing => 2,
     }
+}
+
+// The report of a season's archive, network files each closed by a full stop line, into a lent list of sixteen totals. A net past 100,000 is the one
+// refusal (30) that comes with an answer, the totals of those before it.
+#[no_mangle]
+pub extern "C" fn molsadriu_report(archive: &[u8], totals: &mut [u64]) -> Verdict
+    ensures { λ v. ⌜ SeasonReport (now (archive .entry)) (now (totals .entry)) v (now (totals .exit)) ⌝ }
+{
+    let reply = season::report(archive, totals);
+    reply::tell(reply)
+}
+
+// Begins a report whose archive comes in parts. Its state stands in three lent lists: the open net's bytes, the totals so far and the place.
+#[no_mangle]
+pub extern "C" fn molsadriu_season_begin(
+    held: &[u8],
+    totals: &mut [u64],
+    place: &mut [u64],
+) -> Verdict
+    ensures { λ v. ⌜ SeasonBegun (now (held .entry)) (now (totals .entry)) (now (place .entry)) v (now (totals .exit)) (now (place .exit)) ⌝ }
+{
+    let reply = season::stream::begin(held, totals, place);
+    reply::tell(reply)
+}
+
+// The next bytes of the archive, however many.
+#[no_mangle]
+pub extern "C" fn molsadriu_season_next(
+    bytes: &[u8],
+    held: &mut [u8],
+    totals: &mut [u64],
+    place: &mut [u64],
+) -> Verdict
+    ensures { λ v. ⌜ SeasonNext (now (bytes .entry)) (now (held .entry)) (now (totals .entry)) (now (place .entry)) v
+        (now (held .exit)) (now (totals .exit)) (now (place .exit)) ⌝ }
+{
+    let reply = season::stream::next(bytes, held, totals, place);
+    reply::tell(reply)
+}
+
+// Ends it: the totals are then the report, also under 30.
+#[no_mangle]
+pub extern "C" fn molsadriu_season_end(
+    held: &[u8],
+    totals: &mut [u64],
+    place: &mut [u64],
+) -> Verdict
+    ensures { λ v. ⌜ SeasonEnded (now (held .entry)) (now (totals .entry)) (now (place .entry)) v (now (totals .exit)) (now (place .exit)) ⌝ }
+{
+    let reply = season::stream::end(held, totals, place);
+    reply::tell(reply)
+}
+
+// The sum of two reports, into a third lent list, which every refusal leaves as it was.
+#[no_mangle]
+pub extern "C" fn molsadriu_add_reports(first: &[u64], second: &[u64], sum: &mut [u64]) -> Verdict
+    ensures { λ v. ⌜ ReportSum (now (first .entry)) (now (second .entry)) (now (sum .entry)) v (now (sum .exit)) ⌝ }
+{
+    let reply = totals::add_reports(first, second, sum);
+    reply::tell(reply)
 }

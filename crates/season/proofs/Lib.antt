@@ -8,3 +8,4 @@ pub mod Streaming
 pub mod Joining
 pub mod Adding
 pub mod Figures
+pub mod Unique
