@@ -1,8 +1,12 @@
 // Reads a file whole, has its listing made, of a network file by `listing` and of a sighting book by `book`, and writes that: what
-// `adjust`, `probable` and `means` do, and the programs that run the files kept as data.
+// `adjust`, `probable` and `means` do, and the programs that run the files kept as data. Files of any length are read in parts: archives
+// (`archive`), for `report`, and reports to be added up (`sums`), for `add_reports`.
 //
 // What cannot be done is said on standard error, a line for each file that opens with the program's name, and nothing else
 // is. A program has no exit status of its own, so the command that runs it goes by these lines.
+pub mod archive;
+pub mod sums;
+
 use libc::STDERR_FILENO;
 use libc::STDOUT_FILENO;
 use listing::Sheet;
@@ -16,11 +20,21 @@ ghost use Rattle.lister.specs.Listings.{listingFor};
 // One byte more than the longest file has, so that a longer one is seen by its length, however long it is.
 const ROOM: usize = 65536;
 
+// More reads than any input takes: a loop that reads to the end of an input has to end.
+const MOST_READS: u64 = 18_446_744_073_709_551_615;
+
 // What the files of a call are, all of them alike, and what is listed of them: nothing in a file says it.
 pub enum Files {
     Networks,
     NetworksWithErrors,
     Books,
+}
+
+// The same with the files that are read in parts, each by itself.
+pub enum Kind {
+    Whole(Files),
+    Archives,
+    Reports,
 }
 
 // How many bytes came, or that a read failed.
@@ -134,37 +148,67 @@ fn write_heading(name: &[u8]) {
     io::write_all(STDOUT_FILENO, b"\n");
 }
 
-// The file of that name, under a line with the name where it is headed. Answers whether to go on.
-fn list_named(program: &[u8], headed: bool, files: Files, name: &[u8]) -> bool {
-    if headed {
-        write_heading(name);
+// A file that is open, of any kind.
+fn print_open(fd: i32, kind: Kind) -> Outcome {
+    match kind {
+        Kind::Whole(files) => list_open(fd, files),
+        Kind::Archives => archive::report_open(fd),
+        Kind::Reports => sums::add_open(fd),
     }
+}
+
+// Opens the file of that name, or says that it cannot be opened and answers a negative number.
+fn open_named(program: &[u8], name: &[u8]) -> i32 {
     let fd = os::open_read(name);
     if fd < 0 {
         say(program, b"open ", name);
+    }
+    fd
+}
+
+// The file of that name, under a line with the name where it is headed. Answers whether to go on.
+fn print_named(program: &[u8], headed: bool, kind: Kind, name: &[u8]) -> bool {
+    if headed {
+        write_heading(name);
+    }
+    let fd = open_named(program, name);
+    if fd < 0 {
         return true;
     }
-    let outcome = list_open(fd, files);
+    let outcome = print_open(fd, kind);
     libc::close(fd);
     report(program, outcome, name)
 }
 
-// The file that argument i names. A name that the buffer cannot hold is longer than any file's: its first bytes fill the
-// buffer, and they do not open either.
-fn list_argument(program: &[u8], headed: bool, files: Files, i: usize) -> bool {
-    let mut name = io::buffer();
-    let n = os::arg(i, &mut name);
+// The name that is argument i, from the start of a lent buffer; how many bytes it has. A name that the buffer cannot hold is longer than any
+// file's: its first bytes fill the buffer, and they do not open either.
+fn name_of(i: usize, name: &mut [u8]) -> usize
+    ensures { λ r. ⌜ r ≤ length (now (name .exit)) ⌝ }
+{
+    let n = os::arg(i, name);
     if os::errno() == libc::ENAMETOOLONG {
-        return list_named(program, headed, files, &name);
+        return name.len();
     }
-    list_named(program, headed, files, &name[..n])
+    n
+}
+
+// The file that argument i names.
+fn print_argument(program: &[u8], headed: bool, kind: Kind, i: usize) -> bool {
+    let mut name = io::buffer();
+    let n = name_of(i, &mut name);
+    print_named(program, headed, kind, &name[..n])
 }
 
 // The files that the arguments name, in turn. Argument 0 is the program's own name.
-pub fn list_arguments(program: &[u8], headed: bool, files: Files) {
+pub fn print_arguments(program: &[u8], headed: bool, kind: Kind) {
     let count = os::arg_count();
     let mut i: usize = 1;
-    while i < count && list_argument(program, headed, files, i) {
+    while i < count && print_argument(program, headed, kind, i) {
         i += 1;
     }
+}
+
+// The same of files that are read whole.
+pub fn list_arguments(program: &[u8], headed: bool, files: Files) {
+    print_arguments(program, headed, Kind::Whole(files));
 }

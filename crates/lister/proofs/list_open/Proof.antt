@@ -1,17 +1,16 @@
 -- `lister::list_open` is safe: what it hands on is a part of its buffer. Assumes nothing.
-use mathlib.Core.Path.{sym, subst}
+use mathlib.Core.Path.{sym}
 use Prim.Native.Nat.{_≤_}
 use lib.ListN.{length}
 use lib.Seq.{length-take-le}
 use borrow.Author.Needs.{needs}
-use Rattle.lister.specs.declared.Input.{Input}
-use Rattle.lister.specs.Input.{Within}
+use Rattle.lister.proofs.Reading.{within}
 use Rattle.lister.proofs.list_open.Statement.{statement}
 use Rattle.lister.proofs.list_open.Tie as tie
 
 -- what came fits the buffer
 fits : (c : tie.After-n) → c .n .given .0 .0 ≤ length (c .before .before .before .read-whole .last .1 .0)
-fits c = subst (λ (came : Input). Within came (length (c .before .before .before .read-whole .last .1 .0))) (c .n .given .1) (c .before .before .before .read-whole .ensures)
+fits c = within (c .n .given .1) (c .before .before .before .read-whole .ensures)
 
 slice-aggregate-read-whole : tie.Need-slice-aggregate-read-whole
 slice-aggregate-read-whole c = search needs

@@ -1,10 +1,9 @@
 -- `lister::read_whole` meets its contract. The invariant: the buffer keeps its length, and what has come fits it. The measure is the room that is left,
 -- which falls, since the loop goes on only where a byte came. Assumes nothing.
 use Prim.Native.Nat.{_≤_, _-_}
-use mathlib.Core.Path.{_≡_, subst}
+use mathlib.Core.Path.{_≡_}
 use lib.ListN.{length}
-use Rattle.lister.specs.declared.Input.{Input}
-use Rattle.lister.specs.Input.{Within}
+use Rattle.lister.proofs.Reading.{within}
 use native.Mathlib.Omega.{arith}
 use borrow.Author.Needs.{needs}
 use Rattle.lister.proofs.read_whole.Statement.{statement}
@@ -22,9 +21,7 @@ at c = c .before .before .before .before .before .before .before .before .before
 
 -- what came fits the room that was left
 fits : (c : tie.Else1 Inv-loop μ-loop) → c .before .before .n .given .0 .0 ≤ length (at c .loop .buf) - at c .loop .done
-fits c =
-    let room = length (at c .loop .buf) - at c .loop .done in
-    subst (λ (came : Input). Within came room) (c .before .before .n .given .1) (c .before .before .before .before .before .before .read-after .ensures .0)
+fits c = within (c .before .before .n .given .1) (c .before .before .before .before .before .before .read-after .ensures .0)
 
 loop-holds : tie.Need-loop-holds Inv-loop μ-loop
 loop-holds c = search needs

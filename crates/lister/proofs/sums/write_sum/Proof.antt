@@ -1,10 +1,9 @@
--- `add_reports::write_answer` meets its contract. Assumes nothing.
-use lib.Seq.{length-take-le}
+-- `lister::sums::write_sum` is safe: the answer that it writes is a part of its buffer. Assumes nothing.
 use mathlib.Core.Path.{sym}
-use Prim.Native.Nat.{_-_}
+use lib.Seq.{length-take-le}
 use borrow.Author.Needs.{needs}
-use Rattle.add_reports.proofs.write_answer.Statement.{statement}
-use Rattle.add_reports.proofs.write_answer.Tie as tie
+use Rattle.lister.proofs.sums.write_sum.Statement.{statement}
+use Rattle.lister.proofs.sums.write_sum.Tie as tie
 
 slice-aggregate-end : tie.Need-slice-aggregate-end
 slice-aggregate-end c = search needs
@@ -24,8 +23,11 @@ write-all-requires c κs = search needs
 returns : tie.Need-returns
 returns c = search needs
 
-pub write-answer-spec : {M : Type 1} → statement M
-write-answer-spec =
+returns-2 : tie.Need-returns-2
+returns-2 c = search needs
+
+pub write-sum-spec : {M : Type 1} → statement M
+write-sum-spec =
     tie.close
     (tie.spec
     slice-aggregate-end
@@ -33,4 +35,5 @@ write-answer-spec =
     array-share-prefix-out
     slice-aggregate-write-all
     write-all-requires
-    returns)
+    returns
+    returns-2)
