@@ -33,7 +33,6 @@ use Rattle.season.specs.Season.{leftShares, sharesIn, sharesOf, seasonRe
 use Rattle.season.specs.Inner.{IsShare}
 use Rattle.season.proofs.Parting.{onto-none, onto-onto, parts-some, more-than-last}
 use Rattle.season.proofs.Sharing.{share-is, left-is}
-use Rattle.season.proofs.Leading.{shares-closed}
 use Rattle.season.proofs.Joining.{unbroken-more, line-stop, line-other}
 
 -- ---- an archive that ends with a full stop line: it is one, or one stands behind an LF

@@ -12,16 +12,16 @@
 --   never-refused                         bytes are never refused
 --   stream-report                         and at the end the reply and the report are those of all the bytes joined
 use mathlib.Core.Path.{_≡_, refl, sym, _∙_, ap, ap₂, subst}
-use mathlib.Core.Bool.{Bool, true, false, cond, _||_, _&&_, not}
+use mathlib.Core.Bool.{Bool, true, false, cond, _&&_}
 use mathlib.Core.List.{List, [], _∷_, _++_, append-assoc, append-nil}
-use Prim.Native.Nat.{ℕ, zero, suc, _+_, _-_, _*_, _≤_, _<_}
+use Prim.Native.Nat.{ℕ, zero, suc, _+_, _-_, _≤_, _<_}
 use native.Mathlib.Decide.{decLe}
 use native.Mathlib.Numerals.{add-one}
 use native.Mathlib.Omega.{arith}
-use borrow.Author.Tests.{eq-eqb, ne-eqb, lt-ltb, le-ltb, eqb-true, eqb-false, ltb-true, ltb-false}
+use borrow.Author.Tests.{eq-eqb, ne-eqb, lt-ltb, le-ltb, eqb-true, eqb-false}
 use lib.Dec.{eqb, ltb}
-use lib.ListN.{length, getD, set, take, drop, length-append}
-use lib.Seq.{take-append-le, take-length, take-at, drop-at, take-suc-set, take-take, append-snoc}
+use lib.ListN.{length, getD, take, drop, length-append}
+use lib.Seq.{take-at, drop-at, take-suc-set, take-take, append-snoc}
 use Rattle.exact.proofs.Searching.{not-both, either}
 use Rattle.reply.specs.declared.Refusal.the-variants.{Count, OutOfRange, Nets}
 use Rattle.reply.specs.declared.Reply.{Reply}
@@ -31,9 +31,9 @@ use Rattle.reply.proofs.Checking.{refuse-none, if-accepted}
 use Rattle.text.specs.Lines.{LF}
 use Rattle.text.specs.Parts.{bytesBefore}
 use Rattle.totals.specs.Totals.{reportOf}
-use Rattle.totals.specs.Promise.{mostNets, mostTotal}
-use Rattle.season.specs.Archive.{STOP, stops, onto, partsOf}
-use Rattle.season.specs.Share.{shareOf, leftShare, longShare}
+use Rattle.totals.specs.Promise.{mostNets}
+use Rattle.season.specs.Archive.{stops, onto, partsOf}
+use Rattle.season.specs.Share.{shareOf, longShare}
 use Rattle.season.specs.Season.{leftShares, sharesIn, sharesOf, seasonReply, seasonReport}
 use Rattle.season.specs.Stream.{Stream, stream, placeAt, countedIn, pastAfter, keptIn, keptBytes, lineAfter, openShare, closes, taken, fedByte, fed, endedTotals, endedPlace, placeOf, placeList, streamOf, lengthsAmiss, mostAt, totalAmiss, lineAmiss, totalsReply, placeReply, stateReply}
 use Rattle.season.specs.Promise.{beginReply, Begins, Feeds, pastReply, endReply, Ends}

@@ -8,10 +8,10 @@
 --   counted-fits, counted-past             a net counted, by whether 100,000 have been
 --   turn-fits, turn-past                   what is then known of the totals and the shares to come
 --   none-within, counted-within            totals are no more than their nets can have put to them
-use mathlib.Core.Path.{_≡_, refl, sym, _∙_, ap, ap₂, subst}
+use mathlib.Core.Path.{_≡_, refl, sym, _∙_, ap, subst}
 use mathlib.Core.Bool.{Bool, true, false}
 use mathlib.Core.List.{List, [], _∷_}
-use Prim.Native.Nat.{ℕ, suc, _+_, _-_, _*_, _≤_, _<_}
+use Prim.Native.Nat.{ℕ, suc, _+_, _-_, _≤_, _<_}
 use native.Mathlib.Decide.{decLt}
 use native.Mathlib.Omega.{arith}
 use borrow.Author.Tests.{lt-ltb, le-ltb, ltb-true, ltb-false}
@@ -21,12 +21,12 @@ use lib.Seq.{take-nil}
 use Rattle.reply.specs.declared.Refusal.the-variants.{Nets}
 use Rattle.reply.specs.declared.Reply.the-variants.{Accepted, Refused}
 use Rattle.totals.specs.Totals.{largestAt, total, sumOf, reportOf}
-use Rattle.totals.specs.Promise.{mostNets, mostTotal}
+use Rattle.totals.specs.Promise.{mostNets}
 use Rattle.totals.proofs.Totalling.{joined-sum, joined-most, sum-length, sum-at, sum-none, sum-comm, sum-more, report-at, report-length}
-use Rattle.season.specs.Archive.{ifLast, partsOf}
+use Rattle.season.specs.Archive.{partsOf}
 use Rattle.season.specs.Share.{shareOf}
 use Rattle.season.specs.Season.{leftShares, sharesIn, seasonReply, seasonReport}
-use Rattle.season.specs.Stream.{countedIn, pastAfter}
+use Rattle.season.specs.Stream.{countedIn}
 use Rattle.season.specs.Inner.{IsShare, Within}
 use Rattle.season.proofs.Parting.{parts-some, more-than-last}
 

@@ -5,9 +5,9 @@
 --   Passed, passed-state                  a state that the checks accept: its lengths, totals with room, and a place where a stream can stand
 --   refused-begins, begun                 `begin` keeps its promise, and so do `next` (refused-feeds, feeds) and `end` (refused-ends, ends)
 use mathlib.Core.Path.{_≡_, refl, sym, _∙_, ap}
-use mathlib.Core.Bool.{Bool, true, false, cond, _||_, not}
+use mathlib.Core.Bool.{Bool, true, false, cond, not}
 use mathlib.Core.List.{List, [], _∷_}
-use Prim.Native.Nat.{ℕ, zero, suc, _+_, _*_, _≤_, _<_}
+use Prim.Native.Nat.{ℕ, zero, suc, _+_, _≤_, _<_}
 use native.Mathlib.Omega.{arith}
 use borrow.Author.Tests.{eq-eqb, ne-eqb, eqb-true, ltb-false, not-false}
 use lib.Dec.{eqb, ltb}

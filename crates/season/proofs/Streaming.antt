@@ -4,7 +4,7 @@
 --   Sound, taken-sound, byte-sound     a state that bytes can be fed to, and so is the next
 --   fed-past, fed-more, fed-end        the bytes from a place on: none count any more, one more is taken, none is left
 --   fed-sound, fed-joined              a state that has been fed; bytes and others after them
-use mathlib.Core.Path.{_≡_, refl, sym, _∙_, ap, subst}
+use mathlib.Core.Path.{_≡_, refl, sym, _∙_, ap}
 use mathlib.Core.Bool.{Bool, true, false, cond, _&&_}
 use mathlib.Core.List.{List, [], _∷_, _++_}
 use Prim.Native.Nat.{ℕ, suc, _+_, _-_, _≤_, _<_}

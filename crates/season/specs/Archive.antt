@@ -3,7 +3,6 @@ use mathlib.Core.Bool.{Bool, cond}
 use mathlib.Core.List.{List, [], _∷_, _++_}
 use Prim.Native.Nat.{ℕ}
 use lib.Dec.{eqb}
-use lib.ListN.{length}
 use Rattle.text.specs.Fields.{letterOf}
 use Rattle.text.specs.Lines.{LF}
 use Rattle.text.specs.Parts.{parted}

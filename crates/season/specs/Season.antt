@@ -1,5 +1,5 @@
 -- The report of an archive: sums and largest over the list of its nets, up to 100,000 of them.
-use mathlib.Core.Bool.{Bool, cond}
+use mathlib.Core.Bool.{cond}
 use mathlib.Core.List.{List, [], _∷_}
 use Prim.Native.Nat.{ℕ, _+_}
 use lib.Dec.{eqb, ltb}

@@ -1,16 +1,13 @@
 -- An archive that comes in parts, in fixed memory: what the three lent lists hold, and what a byte does to them. That this gives the report of the
 -- archive, whatever the parts, is a theorem (proofs/Streaming.antt).
-use mathlib.Core.Path.{_≡_}
 use mathlib.Core.Bool.{Bool, cond, _||_, _&&_, not}
-use mathlib.Core.List.{List, [], _∷_, _++_}
-use Prim.Native.Nat.{ℕ, _+_, _-_, _≤_, _<_}
+use mathlib.Core.List.{List, [], _∷_}
+use Prim.Native.Nat.{ℕ, _+_, _-_}
 use lib.Dec.{eqb, ltb}
 use lib.ListN.{length, getD, set, take}
-use Rattle.exact.specs.Tabulate.{tabulate}
-use Rattle.reply.specs.declared.Refusal.the-variants.{Count, OutOfRange, Nets}
+use Rattle.reply.specs.declared.Refusal.the-variants.{Count, OutOfRange}
 use Rattle.reply.specs.declared.Reply.{Reply}
-use Rattle.reply.specs.declared.Reply.the-variants.{Accepted}
-use Rattle.reply.specs.Checks.{refuseIf, refuseFirst, _andThen_, leaves}
+use Rattle.reply.specs.Checks.{refuseIf, refuseFirst, _andThen_}
 use Rattle.text.specs.Lines.{LF}
 use Rattle.totals.specs.Totals.{sumOf}
 use Rattle.totals.specs.Promise.{mostNets, mostTotal}

@@ -4,7 +4,6 @@ ghost use Prim.Native.Nat.{_-_, _≤_};
 ghost use mathlib.Core.List.{[]};
 ghost use lib.Dec.{ltb};
 ghost use lib.ListN.{length, getD, take, drop};
-ghost use Rattle.reply.specs.Checks.{leaves};
 ghost use Rattle.totals.specs.Promise.{mostNets};
 ghost use Rattle.totals.specs.Totals.{reportOf};
 ghost use Rattle.season.specs.Archive.{stops};

@@ -1,8 +1,8 @@
 -- `season::report` meets its contract. Assumes nothing.
 use native.Mathlib.Omega.{arith}
+use borrow.Author.Needs.{needs}
 use denote.Ref.{now}
 use Rattle.season.proofs.Promising.{short-reports, long-reports}
-use borrow.Author.Needs.{needs}
 use Rattle.season.proofs.report.Statement.{statement}
 use Rattle.season.proofs.report.Tie as tie
 

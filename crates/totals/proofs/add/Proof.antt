@@ -1,13 +1,13 @@
 -- `totals::add` meets its contract: the places before i hold the sums. Assumes nothing.
-use native.Mathlib.Omega.{arith}
 use mathlib.Core.Path.{_≡_, _∙_, ap, subst}
-use native.Mathlib.Nat.{le-refl}
 use Prim.Native.Nat.{ℕ, _-_, _≤_}
+use native.Mathlib.Omega.{arith}
+use native.Mathlib.Nat.{le-refl}
+use borrow.Author.Needs.{needs}
 use denote.Ref.{now}
 use lib.ListN.{getD}
 use Rattle.exact.proofs.Filling.{Filled, filled-none, filled-more, filled-all}
 use Rattle.totals.specs.Totals.{joined, sumOf}
-use borrow.Author.Needs.{needs}
 use Rattle.totals.proofs.add.Statement.{statement}
 use Rattle.totals.proofs.add.Tie as tie
 

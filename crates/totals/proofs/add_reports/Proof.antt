@@ -3,6 +3,7 @@ use mathlib.Core.Path.{_≡_, sym, _∙_, ap}
 use mathlib.Core.List.{List}
 use Prim.Native.Nat.{ℕ}
 use native.Mathlib.Omega.{arith}
+use borrow.Author.Needs.{needs}
 use denote.Ref.{now}
 use lib.ListN.{length, getD}
 use Rattle.reply.specs.declared.Refusal.the-variants.{Count, Nets}
@@ -10,7 +11,6 @@ use Rattle.reply.specs.declared.Reply.the-variants.{Accepted}
 use Rattle.totals.specs.Totals.{sumOf}
 use Rattle.totals.specs.Promise.{sizesReply}
 use Rattle.totals.proofs.Promising.{by-first, by-second, by-room, by-sizes, past-nets, within-nets, small, refused-adds, accepted-adds}
-use borrow.Author.Needs.{needs}
 use Rattle.totals.proofs.add_reports.Statement.{statement}
 use Rattle.totals.proofs.add_reports.Tie as tie
 

@@ -1,9 +1,9 @@
 -- `totals::check` meets its contract: no place before i is at fault. Assumes nothing.
-use native.Mathlib.Omega.{arith}
 use mathlib.Core.Path.{_≡_, sym, _∙_, subst}
 use Prim.Native.Nat.{_+_, _-_, _≤_}
-use denote.Ref.{now}
+use native.Mathlib.Omega.{arith}
 use borrow.Author.Needs.{needs}
+use denote.Ref.{now}
 use Rattle.exact.proofs.Searching.{Failed, failed-none, failed-more}
 use Rattle.reply.specs.declared.Refusal.the-variants.{OutOfRange}
 use Rattle.reply.proofs.Checking.{refuse-at, refuse-none}

@@ -1,12 +1,12 @@
 -- `totals::clear` meets its contract: the places before i hold 0, the total of no nets. Assumes nothing.
-use native.Mathlib.Omega.{arith}
 use mathlib.Core.Path.{_≡_, refl, subst}
 use mathlib.Core.List.{[]}
+use Prim.Native.Nat.{ℕ, _-_, _≤_}
+use native.Mathlib.Omega.{arith}
+use borrow.Author.Needs.{needs}
+use denote.Ref.{now}
 use Rattle.exact.proofs.Filling.{Filled, filled-none, filled-more, filled-all}
 use Rattle.totals.specs.Totals.{total, reportOf}
-use Prim.Native.Nat.{ℕ, _-_, _≤_}
-use denote.Ref.{now}
-use borrow.Author.Needs.{needs}
 use Rattle.totals.proofs.clear.Statement.{statement}
 use Rattle.totals.proofs.clear.Tie as tie
 

@@ -1,10 +1,10 @@
 -- `totals::copy` meets its contract: the places before i are those of the other. Assumes nothing.
-use native.Mathlib.Omega.{arith}
 use mathlib.Core.Path.{_≡_, refl, sym, _∙_, subst}
 use Prim.Native.Nat.{ℕ, _-_, _≤_}
+use native.Mathlib.Omega.{arith}
+use borrow.Author.Needs.{needs}
 use denote.Ref.{now}
 use lib.ListN.{getD}
-use borrow.Author.Needs.{needs}
 use Rattle.exact.proofs.Filling.{Filled, filled-none, filled-more, filled-all, tabulate-is}
 use Rattle.totals.proofs.copy.Statement.{statement}
 use Rattle.totals.proofs.copy.Tie as tie

@@ -1,12 +1,12 @@
 -- `season::archive::count` meets its contract. Assumes nothing.
-use mathlib.Core.Path.{_≡_, sym, _∙_}
+use mathlib.Core.Path.{sym, _∙_}
 use native.Mathlib.Omega.{arith}
 use borrow.Author.Tests.{lt-ltb, le-ltb}
+use borrow.Author.Needs.{needs}
 use denote.Ref.{now}
 use lib.ListN.{getD}
 use Rattle.totals.specs.Promise.{mostNets}
 use Rattle.season.proofs.Leading.{counted-fits, counted-past}
-use borrow.Author.Needs.{needs}
 use Rattle.season.proofs.archive.count.Statement.{statement}
 use Rattle.season.proofs.archive.count.Tie as tie
 

@@ -1,23 +1,23 @@
-use native.Mathlib.Omega.{arith}
-use mathlib.Core.Path.{_≡_, refl, sym, _∙_, ap, subst}
+-- `season::archive::count_all` meets its contract: the totals so far and the nets still to come give the report of all. Assumes nothing.
+use mathlib.Core.Path.{_≡_, sym, _∙_, ap, subst}
 use mathlib.Core.List.{List, [], _∷_}
 use mathlib.Core.Bool.{Bool, cond}
+use Prim.Native.Nat.{ℕ, _+_, _-_, _≤_, _<_}
+use native.Mathlib.Omega.{arith}
 use borrow.Author.Tests.{eq-eqb, ne-eqb, not-true, not-false}
-use lib.ListN.{length-drop}
+use borrow.Author.Needs.{needs}
+use denote.Ref.{now}
+use lib.ListN.{length-drop, length, take, drop}
 use Rattle.totals.proofs.Totalling.{report-length}
 use Rattle.totals.specs.Totals.{reportOf}
 use Rattle.totals.specs.Promise.{mostTotal}
 use Rattle.season.specs.Share.{shareOf, leftShare}
 use Rattle.season.specs.Stream.{countedIn}
-use Prim.Native.Nat.{ℕ, _+_, _*_, _-_, _≤_, _<_}
-use denote.Ref.{now}
-use lib.ListN.{length, getD, set, take, drop, length-set}
-use borrow.Author.Needs.{needs}
 use Rattle.season.specs.Archive.{partsOf}
 use Rattle.season.specs.Season.{leftShares, sharesOf, sharesIn}
 use Rattle.season.specs.Inner.{IsShare, Roomy, NextStop}
 use Rattle.season.proofs.Sharing.{share-is, left-is}
-use Rattle.season.proofs.Leading.{shares-closed, shares-left, Leads, leads-none, leads-more, leads-past, leads-end, turn-fits, turn-past, none-within, counted-within}
+use Rattle.season.proofs.Leading.{shares-closed, shares-left, Leads, leads-none, leads-end, turn-fits, turn-past, none-within, counted-within}
 use Rattle.season.proofs.archive.count_all.Statement.{statement}
 use Rattle.season.proofs.archive.count_all.Tie as tie
 

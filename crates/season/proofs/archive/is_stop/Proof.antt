@@ -3,12 +3,12 @@ use mathlib.Core.Path.{_≡_, sym, _∙_, ap}
 use Prim.Native.Nat.{ℕ, _-_}
 use native.Mathlib.Nat.{add-zero}
 use native.Mathlib.Omega.{arith}
+use borrow.Author.Needs.{needs}
 use denote.Ref.{now}
 use lib.Dec.{eqb}
 use lib.ListN.{length, getD, take, drop, length-drop}
 use lib.Seq.{length-take-le, getD-take, getD-drop}
 use Rattle.season.proofs.Walking.{stop-byte, no-stop}
-use borrow.Author.Needs.{needs}
 use Rattle.season.proofs.archive.is_stop.Statement.{statement}
 use Rattle.season.proofs.archive.is_stop.Tie as tie
 

@@ -1,10 +1,10 @@
 -- `season::archive::next_stop` meets its contract: the lines passed so far belong to the first part. Assumes nothing.
-use native.Mathlib.Omega.{arith}
 use mathlib.Core.Path.{_≡_, sym, _∙_}
 use Prim.Native.Nat.{_+_, _-_}
+use native.Mathlib.Omega.{arith}
+use borrow.Author.Needs.{needs}
 use denote.Ref.{now}
 use lib.ListN.{length}
-use borrow.Author.Needs.{needs}
 use Rattle.text.specs.Lines.{LF}
 use Rattle.text.specs.Parts.{placeFrom}
 use Rattle.text.proofs.Parting.{place-after}

@@ -1,11 +1,11 @@
 -- `season::stream::begin` meets its contract. Assumes nothing.
 use mathlib.Core.Path.{_≡_, sym, _∙_}
 use mathlib.Core.Bool.{false}
+use borrow.Author.Needs.{needs}
 use denote.Ref.{now}
 use lib.ListN.{length}
 use Rattle.season.specs.Stream.{lengthsAmiss}
 use Rattle.season.proofs.Promising.{lengths-known, refused-begins, begun}
-use borrow.Author.Needs.{needs}
 use Rattle.season.proofs.stream.begin.Statement.{statement}
 use Rattle.season.proofs.stream.begin.Tie as tie
 

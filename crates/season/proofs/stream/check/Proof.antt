@@ -1,11 +1,11 @@
 -- `season::stream::check` meets its contract. Assumes nothing.
 use mathlib.Core.Path.{_≡_, sym, _∙_, ap}
 use mathlib.Core.Bool.{false}
+use borrow.Author.Needs.{needs}
 use denote.Ref.{now}
 use lib.ListN.{length}
 use Rattle.season.specs.Stream.{lengthsAmiss, placeReply}
 use Rattle.season.proofs.Promising.{by-lengths, lengths-known, by-totals, by-place}
-use borrow.Author.Needs.{needs}
 use Rattle.season.proofs.stream.check.Statement.{statement}
 use Rattle.season.proofs.stream.check.Tie as tie
 

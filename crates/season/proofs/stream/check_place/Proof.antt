@@ -2,8 +2,8 @@
 use mathlib.Core.Path.{sym, _∙_}
 use native.Mathlib.Omega.{arith}
 use borrow.Author.Tests.{lt-ltb, le-ltb}
-use Rattle.season.specs.Stream.{placeReply}
 use borrow.Author.Needs.{needs}
+use Rattle.season.specs.Stream.{placeReply}
 use Rattle.season.proofs.stream.check_place.Statement.{statement}
 use Rattle.season.proofs.stream.check_place.Tie as tie
 

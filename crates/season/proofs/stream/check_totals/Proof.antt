@@ -1,11 +1,11 @@
 -- `season::stream::check_totals` meets its contract: no total before i is at fault. Assumes nothing.
-use native.Mathlib.Omega.{arith}
 use mathlib.Core.Path.{_≡_, sym, subst}
 use Prim.Native.Nat.{_+_, _-_, _≤_}
-use denote.Ref.{now}
-use lib.ListN.{getD}
+use native.Mathlib.Omega.{arith}
 use borrow.Author.Needs.{needs}
 use borrow.Author.Tests.{lt-ltb, le-ltb}
+use denote.Ref.{now}
+use lib.ListN.{getD}
 use Rattle.exact.proofs.Searching.{Failed, failed-none, failed-more}
 use Rattle.reply.specs.declared.Refusal.the-variants.{OutOfRange}
 use Rattle.reply.proofs.Checking.{refuse-at, refuse-none}

@@ -3,11 +3,11 @@ use mathlib.Core.Path.{sym, _∙_, ap, subst}
 use mathlib.Core.Bool.{Bool, cond}
 use mathlib.Core.List.{List}
 use Prim.Native.Nat.{ℕ}
+use borrow.Author.Needs.{needs}
 use denote.Ref.{now}
 use Rattle.season.specs.Stream.{placeAt, countedIn, pastAfter}
 use Rattle.season.specs.Inner.{IsShare}
 use Rattle.season.proofs.Streaming.{open-is}
-use borrow.Author.Needs.{needs}
 use Rattle.season.proofs.stream.close.Statement.{statement}
 use Rattle.season.proofs.stream.close.Tie as tie
 

@@ -1,13 +1,13 @@
 -- `season::stream::end` meets its contract. Assumes nothing.
 use mathlib.Core.Path.{_≡_, sym, _∙_, ap}
 use borrow.Author.Tests.{eq-eqb, ne-eqb}
+use borrow.Author.Needs.{needs}
 use denote.Ref.{now}
 use Rattle.reply.specs.declared.Reply.the-variants.{Accepted}
 use Rattle.season.specs.Stream.{placeOf, placeList, endedTotals, endedPlace, stateReply}
 use Rattle.season.specs.Promise.{pastReply}
 use Rattle.season.specs.declared.stream.Place.{Place}
 use Rattle.season.proofs.Promising.{Passed, passed-state, refused-ends, ends}
-use borrow.Author.Needs.{needs}
 use Rattle.season.proofs.stream.end.Statement.{statement}
 use Rattle.season.proofs.stream.end.Tie as tie
 

@@ -1,10 +1,10 @@
 -- `season::stream::feed` meets its contract: the bytes left, fed to the state as it is, give what all bytes give. Assumes nothing.
-use native.Mathlib.Omega.{arith}
 use mathlib.Core.Path.{_≡_, refl, sym, _∙_, ap, subst}
 use Prim.Native.Nat.{_+_, _-_}
+use native.Mathlib.Omega.{arith}
+use borrow.Author.Needs.{needs}
 use denote.Ref.{now}
 use lib.ListN.{length, getD, drop}
-use borrow.Author.Needs.{needs}
 use Rattle.totals.specs.Promise.{mostTotal}
 use Rattle.season.specs.Stream.{Stream, stream, fed}
 use Rattle.season.proofs.Streaming.{Sound, taken-sound, fed-past, fed-more, fed-end}

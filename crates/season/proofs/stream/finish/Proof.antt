@@ -4,11 +4,11 @@ use mathlib.Core.Bool.{Bool, cond}
 use mathlib.Core.List.{List}
 use Prim.Native.Nat.{ℕ}
 use borrow.Author.Tests.{eq-eqb, ne-eqb}
+use borrow.Author.Needs.{needs}
 use denote.Ref.{now}
 use Rattle.season.specs.Stream.{placeAt, countedIn, pastAfter, endedTotals, endedPlace}
 use Rattle.season.specs.Inner.{IsShare}
 use Rattle.season.proofs.Sharing.{left-is}
-use borrow.Author.Needs.{needs}
 use Rattle.season.proofs.stream.finish.Statement.{statement}
 use Rattle.season.proofs.stream.finish.Tie as tie
 

@@ -1,8 +1,8 @@
 -- `season::stream::keep` meets its contract. Assumes nothing.
 use native.Mathlib.Omega.{arith}
 use borrow.Author.Tests.{lt-ltb, le-ltb}
-use Rattle.season.specs.Stream.{keptIn}
 use borrow.Author.Needs.{needs}
+use Rattle.season.specs.Stream.{keptIn}
 use Rattle.season.proofs.stream.keep.Statement.{statement}
 use Rattle.season.proofs.stream.keep.Tie as tie
 

@@ -1,8 +1,8 @@
 -- `season::stream::kept_bytes` meets its contract. Assumes nothing.
 use native.Mathlib.Omega.{arith}
 use borrow.Author.Tests.{lt-ltb, le-ltb}
-use Rattle.season.specs.Stream.{keptBytes}
 use borrow.Author.Needs.{needs}
+use Rattle.season.specs.Stream.{keptBytes}
 use Rattle.season.proofs.stream.kept_bytes.Statement.{statement}
 use Rattle.season.proofs.stream.kept_bytes.Tie as tie
 

@@ -1,5 +1,4 @@
 -- `season::stream::line_after` meets its contract. Assumes nothing.
-use native.Mathlib.Omega.{arith}
 use borrow.Author.Tests.{eq-eqb, ne-eqb}
 use Rattle.season.specs.Stream.{lineAfter}
 use Rattle.season.proofs.stream.line_after.Statement.{statement}

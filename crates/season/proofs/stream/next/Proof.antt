@@ -1,12 +1,12 @@
 -- `season::stream::next` meets its contract. Assumes nothing.
 use mathlib.Core.Path.{_≡_, sym, _∙_, ap, subst}
+use borrow.Author.Needs.{needs}
 use denote.Ref.{now}
 use Rattle.reply.specs.declared.Reply.the-variants.{Accepted}
 use Rattle.season.specs.Stream.{stream, fed, stateReply}
 use Rattle.season.specs.Inner.{Stands}
 use Rattle.season.specs.declared.stream.Place.{Place}
 use Rattle.season.proofs.Promising.{Passed, passed-state, refused-feeds, feeds}
-use borrow.Author.Needs.{needs}
 use Rattle.season.proofs.stream.next.Statement.{statement}
 use Rattle.season.proofs.stream.next.Tie as tie
 

@@ -3,10 +3,10 @@ use mathlib.Core.Path.{sym}
 use Prim.Native.Nat.{_-_}
 use native.Mathlib.Omega.{arith}
 use borrow.Author.Tests.{lt-ltb, le-ltb}
+use borrow.Author.Needs.{needs}
 use denote.Ref.{now}
 use lib.Seq.{length-take-le}
 use Rattle.season.specs.Stream.{openShare}
-use borrow.Author.Needs.{needs}
 use Rattle.season.proofs.stream.open_share.Statement.{statement}
 use Rattle.season.proofs.stream.open_share.Tie as tie
 

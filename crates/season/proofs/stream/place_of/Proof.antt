@@ -1,7 +1,7 @@
 -- `season::stream::place_of` meets its contract. Assumes nothing.
 use mathlib.Core.Path.{refl}
-use Rattle.season.specs.Stream.{placeOf}
 use borrow.Author.Needs.{needs}
+use Rattle.season.specs.Stream.{placeOf}
 use Rattle.season.proofs.stream.place_of.Statement.{statement}
 use Rattle.season.proofs.stream.place_of.Tie as tie
 

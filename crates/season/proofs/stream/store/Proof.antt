@@ -1,8 +1,8 @@
 -- `season::stream::store` meets its contract. Assumes nothing.
+use borrow.Author.Needs.{needs}
 use denote.Ref.{now}
 use Rattle.season.specs.Stream.{placeList}
 use Rattle.season.proofs.Promising.{three}
-use borrow.Author.Needs.{needs}
 use Rattle.season.proofs.stream.store.Statement.{statement}
 use Rattle.season.proofs.stream.store.Tie as tie
 

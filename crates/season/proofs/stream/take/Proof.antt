@@ -1,11 +1,11 @@
 -- `season::stream::take` meets its contract. Assumes nothing.
-use mathlib.Core.Path.{_≡_, sym, _∙_, ap, ap₂}
+use mathlib.Core.Path.{sym, _∙_, ap, ap₂}
 use mathlib.Core.List.{List}
 use Prim.Native.Nat.{ℕ}
+use borrow.Author.Needs.{needs}
 use denote.Ref.{now}
 use Rattle.season.specs.Stream.{stream, placeAt, keptIn}
 use Rattle.season.proofs.Streaming.{closes-by, taken-close, taken-kept}
-use borrow.Author.Needs.{needs}
 use Rattle.season.proofs.stream.take.Statement.{statement}
 use Rattle.season.proofs.stream.take.Tie as tie
 

@@ -3,12 +3,12 @@ use mathlib.Core.Path.{sym, _∙_, ap, ap₂}
 use mathlib.Core.List.{List}
 use Prim.Native.Nat.{ℕ, _+_}
 use native.Mathlib.Omega.{arith}
+use borrow.Author.Needs.{needs}
 use lib.ListN.{getD, set}
 use Rattle.totals.specs.Totals.{joined}
 use Rattle.totals.specs.Adding.{joinedAt, added}
 use Rattle.totals.proofs.Printing.{pair-within}
 use Rattle.totals.proofs.Entering.{fits, second-fits}
-use borrow.Author.Needs.{needs}
 use Rattle.totals.proofs.adding.added.Statement.{statement}
 use Rattle.totals.proofs.adding.added.Tie as tie
 

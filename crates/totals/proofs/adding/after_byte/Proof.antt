@@ -2,12 +2,12 @@
 use mathlib.Core.Path.{sym, _∙_}
 use mathlib.Core.Logic.{⊎-elim}
 use native.Mathlib.Omega.{arith}
+use borrow.Author.Needs.{needs}
 use denote.Ref.{now}
 use lib.ListN.{length}
 use lib.Seq.{length-take-le}
 use Rattle.totals.specs.Adding.{streamOf}
 use Rattle.totals.proofs.Streaming.{Held, held-more, held-full, byte-ended, byte-held}
-use borrow.Author.Needs.{needs}
 use Rattle.totals.proofs.adding.after_byte.Statement.{statement}
 use Rattle.totals.proofs.adding.after_byte.Tie as tie
 

@@ -1,8 +1,8 @@
 -- `totals::adding::after_line` meets its contract. Assumes nothing.
 use mathlib.Core.Path.{sym, _∙_, ap}
 use borrow.Author.Tests.{eq-eqb, ne-eqb}
-use Rattle.totals.specs.Adding.{entered, afterLine}
 use borrow.Author.Needs.{needs}
+use Rattle.totals.specs.Adding.{entered, afterLine}
 use Rattle.totals.proofs.adding.after_line.Statement.{statement}
 use Rattle.totals.proofs.adding.after_line.Tie as tie
 

@@ -2,9 +2,9 @@
 use mathlib.Core.Path.{sym, _∙_}
 use native.Mathlib.Omega.{arith}
 use borrow.Author.Tests.{eq-eqb, ne-eqb, lt-ltb, le-ltb}
+use borrow.Author.Needs.{needs}
 use Rattle.totals.specs.Adding.{countedAfter}
 use Rattle.totals.proofs.Promising.{small-at}
-use borrow.Author.Needs.{needs}
 use Rattle.totals.proofs.adding.counted_after.Statement.{statement}
 use Rattle.totals.proofs.adding.counted_after.Tie as tie
 

@@ -1,7 +1,7 @@
 -- `totals::adding::due_after` meets its contract. Assumes nothing.
 use borrow.Author.Tests.{lt-ltb, le-ltb}
-use Rattle.totals.specs.Adding.{dueAfter}
 use borrow.Author.Needs.{needs}
+use Rattle.totals.specs.Adding.{dueAfter}
 use Rattle.totals.proofs.adding.due_after.Statement.{statement}
 use Rattle.totals.proofs.adding.due_after.Tie as tie
 

@@ -2,6 +2,7 @@
 use mathlib.Core.Path.{sym, _∙_, ap}
 use mathlib.Core.Bool.{false}
 use native.Mathlib.Omega.{arith}
+use borrow.Author.Needs.{needs}
 use denote.Ref.{now}
 use lib.ListN.{length}
 use Rattle.text.proofs.Putting.{rewrote}
@@ -9,7 +10,6 @@ use Rattle.page.specs.Lines.{refusedLine}
 use Rattle.page.proofs.Composing.{refused-most}
 use Rattle.totals.proofs.Printing.{reported, nothing-wrote}
 use Rattle.totals.proofs.Streaming.{no-room, at-fault, ends-early, too-many, summed}
-use borrow.Author.Needs.{needs}
 use Rattle.totals.proofs.adding.end.Statement.{statement}
 use Rattle.totals.proofs.adding.end.Tie as tie
 

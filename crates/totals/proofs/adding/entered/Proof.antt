@@ -1,8 +1,8 @@
 -- `totals::adding::entered` meets its contract. Assumes nothing.
 use mathlib.Core.Path.{sym, _∙_}
+use borrow.Author.Needs.{needs}
 use Rattle.totals.specs.Adding.{wellEntered}
 use Rattle.totals.proofs.Entering.{not-passing, ill-entered, well-entered}
-use borrow.Author.Needs.{needs}
 use Rattle.totals.proofs.adding.entered.Statement.{statement}
 use Rattle.totals.proofs.adding.entered.Tie as tie
 

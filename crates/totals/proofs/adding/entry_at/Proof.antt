@@ -4,6 +4,7 @@ use mathlib.Core.Bool.{Bool, cond}
 use mathlib.Core.List.{List, [], _∷_, _++_}
 use Prim.Native.Nat.{ℕ, _+_, _≤_}
 use native.Mathlib.Omega.{arith}
+use borrow.Author.Needs.{needs}
 use denote.Ref.{now}
 use lib.ListN.{length, replicate, length-append}
 use lib.Seq.{length-take-le}
@@ -17,7 +18,6 @@ use Rattle.totals.specs.Text.{headOf}
 use Rattle.totals.specs.Adding.{entryOf}
 use Rattle.totals.proofs.Printing.{head-most}
 use Rattle.totals.proofs.Entering.{other-head, due-head}
-use borrow.Author.Needs.{needs}
 use Rattle.totals.proofs.adding.entry_at.Statement.{statement}
 use Rattle.totals.proofs.adding.entry_at.Tie as tie
 

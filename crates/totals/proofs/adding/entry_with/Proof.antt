@@ -1,11 +1,11 @@
 -- `totals::adding::entry_with` meets its contract. Assumes nothing.
 use mathlib.Core.Path.{refl, _∙_, ap, ap₂}
+use borrow.Author.Needs.{needs}
 use lib.IntN.{natAbs}
 use Rattle.exact.proofs.Bound.{read}
 use Rattle.exact.proofs.Order.{lt-true, lt-false}
 use Rattle.totals.specs.declared.adding.Entry.the-variants.{Numbers}
 use Rattle.totals.proofs.Entering.{entry-below, entry-second-below, entry-numbers}
-use borrow.Author.Needs.{needs}
 use Rattle.totals.proofs.adding.entry_with.Statement.{statement}
 use Rattle.totals.proofs.adding.entry_with.Tie as tie
 

@@ -1,7 +1,7 @@
 -- `totals::adding::fault_in` meets its contract. Assumes nothing.
 use mathlib.Core.Path.{sym, _∙_}
-use Rattle.totals.specs.Adding.{faultIn}
 use borrow.Author.Needs.{needs}
+use Rattle.totals.specs.Adding.{faultIn}
 use Rattle.totals.proofs.adding.fault_in.Statement.{statement}
 use Rattle.totals.proofs.adding.fault_in.Tie as tie
 

@@ -1,9 +1,9 @@
 -- `totals::adding::faulty` meets its contract. Assumes nothing.
 use mathlib.Core.Path.{ap}
 use Prim.Native.Nat.{ℕ}
+use borrow.Author.Needs.{needs}
 use Rattle.totals.specs.Adding.{faulty}
 use Rattle.totals.specs.declared.adding.Tally.{Tally}
-use borrow.Author.Needs.{needs}
 use Rattle.totals.proofs.adding.faulty.Statement.{statement}
 use Rattle.totals.proofs.adding.faulty.Tie as tie
 

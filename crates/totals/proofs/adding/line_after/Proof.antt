@@ -1,8 +1,8 @@
 -- `totals::adding::line_after` meets its contract. Assumes nothing.
 use borrow.Author.Tests.{lt-ltb, le-ltb}
+use borrow.Author.Needs.{needs}
 use Rattle.totals.specs.Promise.{mostTotal}
 use Rattle.totals.specs.Adding.{lineAfter}
-use borrow.Author.Needs.{needs}
 use Rattle.totals.proofs.adding.line_after.Statement.{statement}
 use Rattle.totals.proofs.adding.line_after.Tie as tie
 

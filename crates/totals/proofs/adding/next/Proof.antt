@@ -1,11 +1,11 @@
 -- `totals::adding::next` meets its contract: the bytes that are left lead on from the state so far. Assumes nothing.
 use mathlib.Core.Path.{_≡_, refl, sym, _∙_}
 use Prim.Native.Nat.{_-_, _≤_}
+use borrow.Author.Needs.{needs}
 use denote.Ref.{now}
 use lib.ListN.{length, drop}
 use Rattle.totals.specs.Adding.{afterBytes, streamOf}
 use Rattle.totals.proofs.Streaming.{bytes-more, bytes-done}
-use borrow.Author.Needs.{needs}
 use Rattle.totals.proofs.adding.next.Statement.{statement}
 use Rattle.totals.proofs.adding.next.Tie as tie
 

@@ -2,6 +2,7 @@
 use mathlib.Core.Path.{sym, _∙_, ap₂}
 use Prim.Native.Nat.{_≤_}
 use native.Mathlib.Omega.{arith}
+use borrow.Author.Needs.{needs}
 use denote.Ref.{now}
 use lib.IntN.{pos}
 use lib.ListN.{length, take, List·getD-eq-default}
@@ -10,7 +11,6 @@ use Rattle.exact.proofs.Bound.{read-at}
 use Rattle.text.proofs.Rowing.{row-told, no-row-told}
 use Rattle.totals.specs.Adding.{entryWith}
 use Rattle.totals.proofs.Entering.{no-numbers, some-numbers}
-use borrow.Author.Needs.{needs}
 use Rattle.totals.proofs.adding.numbers_from.Statement.{statement}
 use Rattle.totals.proofs.adding.numbers_from.Tie as tie
 

@@ -2,12 +2,12 @@
 use mathlib.Core.Path.{_≡_, sym, _∙_, ap}
 use Prim.Native.Nat.{ℕ, _+_}
 use native.Mathlib.Omega.{arith}
+use borrow.Author.Needs.{needs}
 use lib.ListN.{getD}
 use Rattle.totals.specs.Promise.{tooLarge}
 use Rattle.totals.specs.Text.{placeOf}
 use Rattle.totals.specs.Adding.{passes}
 use Rattle.totals.proofs.Printing.{pair-within}
-use borrow.Author.Needs.{needs}
 use Rattle.totals.proofs.adding.passes.Statement.{statement}
 use Rattle.totals.proofs.adding.passes.Tie as tie
 

@@ -2,9 +2,9 @@
 use Prim.Native.Nat.{_+_}
 use native.Mathlib.Omega.{arith}
 use borrow.Author.Tests.{eq-eqb, ne-eqb, lt-ltb}
+use borrow.Author.Needs.{needs}
 use Rattle.totals.specs.Promise.{mostNets}
 use Rattle.totals.specs.Adding.{pastAfter}
-use borrow.Author.Needs.{needs}
 use Rattle.totals.proofs.adding.past_after.Statement.{statement}
 use Rattle.totals.proofs.adding.past_after.Tie as tie
 

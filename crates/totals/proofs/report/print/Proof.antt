@@ -1,12 +1,12 @@
 -- `totals::report::print` meets its contract, by the totals and the buffer. Assumes nothing.
 use native.Mathlib.Omega.{arith}
+use borrow.Author.Needs.{needs}
 use denote.Ref.{now}
 use lib.ListN.{length}
 use Rattle.text.specs.Written.{Wrote}
 use Rattle.text.proofs.Putting.{then, rewrote, wrote-length}
 use Rattle.totals.specs.Text.{reportText}
 use Rattle.totals.proofs.Printing.{fourteen-most, report-most, no-totals, no-room, reported, nothing-wrote}
-use borrow.Author.Needs.{needs}
 use Rattle.totals.proofs.report.print.Statement.{statement}
 use Rattle.totals.proofs.report.print.Tie as tie
 

@@ -3,12 +3,12 @@ use mathlib.Core.Path.{sym, _∙_, ap}
 use mathlib.Core.List.{_++_}
 use Prim.Native.Nat.{ℕ, _+_}
 use native.Mathlib.Omega.{arith}
+use borrow.Author.Needs.{needs}
 use denote.Ref.{now}
 use lib.ListN.{getD}
 use Rattle.text.specs.Written.{countField, lineEnd}
 use Rattle.text.proofs.Putting.{then, rewrote, wrote-length, count-most}
 use Rattle.totals.proofs.Printing.{pair-within, ending-pair, ending-one}
-use borrow.Author.Needs.{needs}
 use Rattle.totals.proofs.report.put_ending.Statement.{statement}
 use Rattle.totals.proofs.report.put_ending.Tie as tie
 

@@ -1,7 +1,7 @@
 -- `totals::report::put_head` meets its contract, by the line. Assumes nothing.
+use borrow.Author.Needs.{needs}
 use Rattle.text.proofs.Putting.{rewrote, then}
 use Rattle.totals.proofs.Printing.{head-nets, head-accepted, head-angles, head-sides, head-count, head-shared}
-use borrow.Author.Needs.{needs}
 use Rattle.totals.proofs.report.put_head.Statement.{statement}
 use Rattle.totals.proofs.report.put_head.Tie as tie
 

@@ -1,8 +1,8 @@
 -- `totals::report::put_last` meets its contract. Assumes nothing.
+use borrow.Author.Needs.{needs}
 use denote.Ref.{now}
 use Rattle.text.proofs.Putting.{rewrote}
 use Rattle.totals.proofs.Printing.{last-past, last-none, nothing-wrote}
-use borrow.Author.Needs.{needs}
 use Rattle.totals.proofs.report.put_last.Statement.{statement}
 use Rattle.totals.proofs.report.put_last.Tie as tie
 

@@ -3,13 +3,13 @@ use mathlib.Core.Path.{ap}
 use mathlib.Core.List.{_++_}
 use Prim.Native.Nat.{ℕ}
 use native.Mathlib.Omega.{arith}
+use borrow.Author.Needs.{needs}
 use denote.Ref.{now}
 use lib.ListN.{getD}
 use Rattle.text.specs.Written.{countField}
 use Rattle.totals.specs.Text.{headOf, endingOf, lineOf}
 use Rattle.text.proofs.Putting.{then, rewrote, Come, come-within, count-on}
 use Rattle.totals.proofs.Printing.{head-most}
-use borrow.Author.Needs.{needs}
 use Rattle.totals.proofs.report.put_line.Statement.{statement}
 use Rattle.totals.proofs.report.put_line.Tie as tie
 

@@ -2,12 +2,12 @@
 use mathlib.Core.Path.{subst}
 use Prim.Native.Nat.{ℕ, _-_, _≤_}
 use native.Mathlib.Omega.{arith}
+use borrow.Author.Needs.{needs}
 use denote.Ref.{now}
 use Rattle.text.specs.Written.{inOrder, Wrote}
 use Rattle.totals.specs.Text.{lineOf}
 use Rattle.text.proofs.Putting.{wrote-length, lines-none, lines-on, lines-room}
 use Rattle.totals.proofs.Printing.{line-most}
-use borrow.Author.Needs.{needs}
 use Rattle.totals.proofs.report.put_lines.Statement.{statement}
 use Rattle.totals.proofs.report.put_lines.Tie as tie
 
