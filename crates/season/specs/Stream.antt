@@ -1,5 +1,5 @@
 -- An archive that comes in parts, in fixed memory: what the three lent lists hold, and what a byte does to them. That this gives the report of the
--- archive, whatever the parts, is a theorem (proofs/Streaming.antt).
+-- archive, whatever the parts, is a theorem (proofs/Joining.antt).
 use mathlib.Core.Bool.{Bool, cond, _||_, _&&_, not}
 use mathlib.Core.List.{List, [], _∷_}
 use Prim.Native.Nat.{ℕ, _+_, _-_}
