@@ -9,9 +9,9 @@
  *
  * WHO OWNS WHAT. Everything stays the caller's. Nothing is kept after the call, nothing is allocated, and there is no state between
  * calls, so that calls from several threads at once are sound as long as nothing lent for an answer is shared. What comes in through
- * a pointer to const is only read. A list lent for an answer is written whole where the input is accepted, a buffer in its first bytes;
- * where the verdict refuses, all that was lent stays as it was. One refusal alone comes with an answer: 30, from molsadriu_report and
- * molsadriu_season_end. docs/COSTS.md says how much stack a call takes.
+ * a pointer to const is only read. A list lent for an answer is written whole where the input is accepted, a buffer in its first bytes, and
+ * the lists of a season report in parts as far as its state changes; where the verdict refuses, all that was lent stays as it was. One
+ * refusal alone comes with an answer: 30, from molsadriu_report and molsadriu_season_end. docs/COSTS.md says how much stack a call takes.
  *
  * WHAT CANNOT BE SEEN, and is up to the caller: that a list has as many numbers as its length says, where that length agrees with the
  * others (a null pointer with a length above 0 has not), that a pointer to one number, `w`, `length`, `mean` or `probable`, is not null,

@@ -1,6 +1,6 @@
 -- Reports of archives, put together and looked through: what an office does with them. Assumes nothing.
 --   Closed                            an archive that ends with a full stop line
---   sealed                            the parts of such an archive, and of another after it
+--   Sealed, sealed                    the parts of such an archive, and of another after it
 --   shares-joined                     its shares, and then those of the other
 --   joined-report                     where both hold at most 100,000 nets together, the report of the two joined is the two reports added
 --   All, shares-all                   every net of an archive has one share
@@ -254,7 +254,7 @@ module _ (archive : List ℕ) where
   pub nets-reported : getD (seasonReport (sharesOf archive)) 0 0 ≡ length reported
   nets-reported = report-total 0 (omega arith) ∙ nets-counted reported all-reported
 
-  -- "the counts add up to the number of nets": ACCEPTED and COUNT 1 to 9 stand at the places 1 to 10
+  -- the counts add up to the number of nets: ACCEPTED and COUNT 1 to 9 stand at the places 1 to 10
   pub counts-add-up : sumTo 10 (λ k. getD (seasonReport (sharesOf archive)) (suc k) 0) ≡ getD (seasonReport (sharesOf archive)) 0 0
   counts-add-up =
       sum-ext 10 (λ k. getD (seasonReport (sharesOf archive)) (suc k) 0) (λ k. total (suc k) reported) (λ k l. report-total (suc k) (omega arith))

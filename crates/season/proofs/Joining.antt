@@ -438,7 +438,7 @@ pub never-refused : {held totals place archive bytes held' totals' place' : List
     → Feeds bytes held totals place reply held' totals' place' → reply ≡ Accepted
 never-refused r f = f .answer ∙ ran-accepted (ran r)
 
--- "whatever parts the bytes arrive in, the report is the rule's of all of them joined"
+-- whatever parts the bytes come in, the report is the rule's of all of them joined
 pub stream-report : {held totals place archive totals' place' : List ℕ} {reply : Reply} → Runs held totals place archive → Ends held totals place reply totals' place'
     → (reply ≡ seasonReply (sharesOf archive)) × (totals' ≡ seasonReport (sharesOf archive))
 unfolding endReply

@@ -1,5 +1,6 @@
 -- Laws of the parts of an archive, as a walk from line to line finds them. Assumes nothing.
 --   onto-onto, onto-none, onto-length        bytes in front of the first part
+--   more-than-last                           a line that others follow is not the last
 --   parts-some                               an archive has a part: its nets, and what is left, be it nothing
 --   parts-left                               bytes without an LF are left
 --   parts-line                               bytes up to an LF: a full stop line closes a part, any other line belongs to the first part

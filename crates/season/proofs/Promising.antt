@@ -1,7 +1,8 @@
 -- The promises of the operations on an archive, from what their steps have said. Assumes nothing.
 --   three                                 three numbers, one after another, into a list of three
 --   long-reports, short-reports           `report` keeps its promise: with sixteen totals, and with another number of them
---   by-lengths, by-totals, by-place       the reply to a state, where the checks before have accepted; lengths-known
+--   by-lengths, by-totals, by-place       the reply to a state, where the checks before have accepted
+--   amiss, lengths-known                  whether the lengths of a state are amiss, and what they are where not
 --   Passed, passed-state                  a state that the checks accept: its lengths, totals with room, and a place where a stream can stand
 --   refused-begins, begun                 `begin` keeps its promise, and so do `next` (refused-feeds, feeds) and `end` (refused-ends, ends)
 use mathlib.Core.Path.{_≡_, refl, sym, _∙_, ap}

@@ -46,7 +46,7 @@ minus NoDigits = Malformed
 unfoldable pub numeralWithin : (most : ℕ) (text : List ℕ) → Number
 numeralWithin most text = cond (eqb (getD text 0 0) 45) (minus (unsignedOf most (drop 1 text))) (plus (unsignedOf most text))
 
--- a number of a network file or a field book
+-- a number of a network file or a sighting book
 abbrev pub numeral : List ℕ → Number
 numeral text = numeralWithin 11 text
 

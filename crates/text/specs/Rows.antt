@@ -1,4 +1,4 @@
--- The numbers of a line, one to a field, and those behind its letter: each of at most so many digits, 11 in a network file or a field book.
+-- The numbers of a line, one to a field, and those behind its letter: each of at most so many digits, 11 in a network file or a sighting book.
 use mathlib.Core.Bool.{cond}
 use mathlib.Core.List.{List, [], _∷_}
 use mathlib.Core.Option.{Option, none, some}
@@ -43,7 +43,6 @@ unfoldable pub rowValues : Option (List ℤ) → List ℤ → List ℤ
 rowValues (some zs) other = zs
 rowValues none other = other
 
--- ---- what inner functions hand each other
 -- the numbers of the line at a start; none, where no LF follows
 unfoldable pub rowWithin : (most : ℕ) (file : List ℕ) (start count : ℕ) → Option (List ℤ)
 rowWithin most file start count = cond (ltb (placeFrom LF file start) (length file)) (numbersWithin most count (fieldsOf (lineAt file start))) none
@@ -51,6 +50,7 @@ rowWithin most file start count = cond (ltb (placeFrom LF file start) (length fi
 abbrev pub rowAt : (file : List ℕ) (start count : ℕ) → Option (List ℤ)
 rowAt file start count = rowWithin 11 file start count
 
+-- ---- what inner functions hand each other
 unfoldable pub letteredWithin : (most : ℕ) (file : List ℕ) (start letter count : ℕ) → Option (List ℤ)
 letteredWithin most file start letter count = cond (ltb (placeFrom LF file start) (length file)) (behindWithin most letter count (lineAt file start)) none
 

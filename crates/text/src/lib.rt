@@ -11,7 +11,7 @@ pub const TAB: u8 = 9;
 
 pub const LF: u8 = 10;
 
-// The most digits of a number in a network file or a field book.
+// The most digits of a number in a network file or a sighting book.
 pub const MOST_DIGITS: usize = 11;
 
 // The longest file of lines.

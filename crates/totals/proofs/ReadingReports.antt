@@ -6,9 +6,11 @@
 --                               NETS, at most 100,000 nets together, and no total past 18 digits
 --   Reading, reading-next       what is known once k lines of a report have been read, and one line more
 --   AtStart, Added              a tally at the start of a report; a report has been added, and the next one is due
+--   linesOn, afterReport        the line counted some lines on; the tally after a printed report
 --   report-read, report-added   from any tally at the start of a report, the lines of a printed report add it, and nothing is left over
 --   report-on                   and what stands behind it is read from there
 --   Report, Reports, textOf     sixteen totals whose counts add up; several of them, and their texts one after another
+--   Room, Summed                there is room for several reports; they have been added
 --   reports-read                several printed reports, read one after another
 --   all-sums-back               the theorem: any number of printed reports one after another have the text of their sum for answer
 --   prints-back, sums-back      one report, and two

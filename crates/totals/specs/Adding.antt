@@ -1,4 +1,5 @@
--- The sum of reports that stand one after another in one text, by a fold over its lines: "the lines are due in their order".
+-- The sum of reports that stand one after another in one text, by a fold over its lines, which are due in their order. The request leaves its refusals open; docs/DECISIONS.md
+-- ("Reports as text") has what was decided.
 --   entryAt         the numbers of a line that is the one due, as a report has it
 --   afterLine       what is known once a line has been read
 --   afterLines      once all lines of a text have been read, and what stands behind the last LF
@@ -56,11 +57,11 @@ netsAfter due nets x = cond (eqb due 0) x nets
 unfoldable pub countedAfter : (due counted x : ℕ) → ℕ
 countedAfter due counted x = cond (eqb due 0) 0 (cond (ltb due 11) (cond (tooLarge 1 counted x) (mostTotal + 1) (counted + x)) counted)
 
--- "ACCEPTED and the nine counts must add up to NETS", which the last COUNT line shows
+-- ACCEPTED and the nine counts must add up to NETS, which the last COUNT line shows
 unfoldable pub miscounted : (due nets counted : ℕ) → Bool
 miscounted due nets counted = eqb due 10 && not (eqb nets counted)
 
--- "the reports hold more than 100,000 nets together"
+-- the reports hold more than 100,000 nets together
 unfoldable pub pastAfter : (due : ℕ) (past : Bool) (nets x : ℕ) → Bool
 pastAfter due past nets x = past || (eqb due 0 && ltb mostNets (nets + x))
 
@@ -79,7 +80,7 @@ addedFirst sum due x = set sum (placeOf due) (joinedAt sum (placeOf due) x)
 unfoldable pub added : (sum : List ℕ) (due x y : ℕ) → List ℕ
 added sum due x y = cond (pairOn due) (set (addedFirst sum due x) (placeOf due + 1) (joinedAt sum (placeOf due + 1) y)) (addedFirst sum due x)
 
--- "once the nets are past 100,000 nothing more is added up"
+-- once the nets are past 100,000 nothing more is added up
 unfoldable pub sumAfter : (past : Bool) (sum : List ℕ) (due x y : ℕ) → List ℕ
 sumAfter past sum due x y = cond past sum (added sum due x y)
 

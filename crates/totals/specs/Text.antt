@@ -1,4 +1,4 @@
--- The text of a season report, byte for byte: "NETS, ACCEPTED, nine lines COUNT, A, S, SHARED", fields parted by tabs, lines ended by LF, and where a net
+-- The text of a season report, byte for byte: NETS, ACCEPTED, nine lines COUNT, A, S, SHARED, fields parted by tabs, lines ended by LF, and where a net
 -- past 100,000 came a last line REFUSED. The lines are numbered from 0, and the totals stand at their places (Totals.antt).
 use mathlib.Core.Bool.{Bool, cond, _||_}
 use mathlib.Core.List.{List, [], _∷_, _++_}

@@ -10,7 +10,7 @@ use text::LF;
 use text::writer;
 
 // How many lines every report has.
-pub const LINES: usize = 14;
+const LINES: usize = 14;
 
 // Bytes that hold any report: 72 for each of its lines, and the last one.
 pub const REPORT: usize = 1_060;
