@@ -1,7 +1,7 @@
 -- "Numbers of the refusals": the rules' table, one line for each case.
 use Prim.Native.Nat.{ℕ, _+_, _*_}
 use Rattle.reply.specs.declared.Refusal.{Refusal}
-use Rattle.reply.specs.declared.Refusal.the-variants.{Malformed, Count, OutOfRange, Coefficient, Misclosure, WeakRow, Correlate, Remainder, Correction, Sightings, Field, Faces, Initial, FacesApart, Spread, Nets}
+use Rattle.reply.specs.declared.Refusal.the-variants.{Malformed, Count, OutOfRange, Coefficient, Misclosure, WeakRow, Correlate, Remainder, Correction, Sightings, Field, Faces, Initial, FacesApart, Spread, Nets, Sheet}
 
 abbrev pub numberOf : Refusal → ℕ
 numberOf (Malformed line) = 1
@@ -20,6 +20,7 @@ numberOf (Initial position) = 24
 numberOf (FacesApart position object) = 25
 numberOf (Spread position object) = 26
 numberOf (Nets net) = 30
+numberOf (Sheet line) = 31
 
 abbrev pub placeOf : Refusal → ℕ
 placeOf (Malformed line) = line
@@ -38,3 +39,4 @@ placeOf (Initial position) = 100 * position + 1
 placeOf (FacesApart position object) = 100 * position + object
 placeOf (Spread position object) = 100 * position + object
 placeOf (Nets net) = net
+placeOf (Sheet line) = line

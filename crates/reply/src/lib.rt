@@ -38,6 +38,8 @@ pub enum Refusal {
     Spread { position: u8, object: u8 },
     // A net past those that one report holds: its ordinal.
     Nets(u64),
+    // A line of another office's listing is not the one due: its line.
+    Sheet(u64),
 }
 
 // What an operation answers that leaves its results in lent lists.
@@ -89,6 +91,7 @@ pub fn number(r: Refusal) -> u64
             object: _,
         } => 26,
         Refusal::Nets(_) => 30,
+        Refusal::Sheet(_) => 31,
     }
 }
 
@@ -113,6 +116,7 @@ pub fn place(r: Refusal) -> u64
         Refusal::FacesApart { position, object } => 100 * (position as u64) + object as u64,
         Refusal::Spread { position, object } => 100 * (position as u64) + object as u64,
         Refusal::Nets(net) => net,
+        Refusal::Sheet(line) => line,
     }
 }
 
