@@ -22,11 +22,11 @@ use Rattle.reply.specs.declared.Refusal.the-variants.{Malformed}
 use Rattle.reply.specs.declared.Reply.the-variants.{Accepted, Refused}
 use Rattle.reply.proofs.Checking.{refuse-at, refuse-none}
 use Rattle.text.specs.Parts.{placeFrom}
-use Rattle.text.specs.Lines.{LF, lineAt, linesOf, bytesOf, unended}
-use Rattle.text.specs.Rows.{letteredWithin, behindAt, rowValues}
+use Rattle.text.specs.Lines.{LF, lineAt, linesOf, linesIn, lineNo, bytesOf, unended}
+use Rattle.text.specs.Rows.{letteredWithin, behindAt, rowValues, missing}
 use Rattle.text.proofs.Parting.{place-after}
 use Rattle.text.proofs.Splitting.{line-next, lines-whole, lines-rest, lines-end}
-use Rattle.book.specs.Lines.{letter-S, sightingOf, linesIn, lineNo, fieldNo, column, missing, malformed, linesReply}
+use Rattle.book.specs.Lines.{letter-S, sightingOf, fieldNo, column, malformed, linesReply}
 
 module _ (file : List ℕ) where
   -- n lines have been read, and the next one starts at `start`

@@ -11,14 +11,14 @@ use Rattle.station.specs.Sightings.{lengthsFit, outOfRange}
 use Rattle.station.specs.Replies.{replyOf}
 use Rattle.station.proofs.StationFigures.{pairOfObjects, figure-9 as station-9}
 use Rattle.text.specs.Parts.{onFirst, parted}
-use Rattle.text.specs.Lines.{linesOf, bytesOf, unended}
+use Rattle.text.specs.Lines.{linesOf, lineNo, bytesOf, unended}
 use Rattle.text.specs.Fields.{fieldsOf, fieldAt, letterOf}
 use Rattle.text.specs.Numbers.{readDigits, unsignedOf, plus, minus, numeralWithin}
 use Rattle.text.specs.Decimal.{digits, digitsOf, written}
 use Rattle.text.specs.Rows.{before, numbersWithin, behindWithin, rowValues}
 use Rattle.text.specs.Written.{inOrder}
 use Rattle.page.specs.Page.{printed}
-use Rattle.book.specs.Lines.{sightingOf, lineNo, fieldNo, malformed, bookOf, linesReply, bookReply}
+use Rattle.book.specs.Lines.{sightingOf, fieldNo, malformed, bookOf, linesReply, bookReply}
 use Rattle.book.specs.Listing.{objectsSeen, objectLine, meansLines, stationListing}
 use Rattle.book.specs.File.{listingOf}
 

@@ -24,6 +24,7 @@ use Rattle.reply.specs.declared.Reply.the-variants.{Accepted, Refused}
 use Rattle.reply.specs.Checks.{refuseIf, _andThen_, leaves}
 use Rattle.reply.specs.Verdicts.{verdictOf}
 use Rattle.reply.proofs.Checking.{both-accepted, if-accepted}
+use Rattle.text.specs.Lines.{linesIn}
 use Rattle.text.specs.Written.{Wrote}
 use Rattle.text.proofs.Putting.{one-wrote}
 use Rattle.page.specs.declared.Listed.{Listed}
@@ -36,7 +37,7 @@ use Rattle.station.specs.Pairs.{JoinedRightly}
 use Rattle.station.specs.Replies.{replyOf, Answers}
 use Rattle.station.proofs.Deciding.{reply-lengths}
 use Rattle.station.proofs.Joining.{joined-rightly}
-use Rattle.book.specs.Lines.{linesIn, fieldNo, bookOf, linesReply, bookReply}
+use Rattle.book.specs.Lines.{fieldNo, bookOf, linesReply, bookReply}
 use Rattle.book.specs.Listing.{meansLines, stationListing}
 use Rattle.book.specs.File.{bookListing, meansReply, MeansOf, listingIn}
 use Rattle.book.specs.Inner.{Entered}

@@ -20,8 +20,8 @@ use Rattle.reply.specs.declared.Refusal.the-variants.{Malformed, Field}
 use Rattle.reply.specs.declared.Reply.the-variants.{Accepted}
 use Rattle.reply.specs.Checks.{refuseIf, refuseFirst}
 use Rattle.reply.proofs.Checking.{never, both-accepted, none-refused, refuse-none}
-use Rattle.text.specs.Lines.{linesOf, bytesOf, unended}
-use Rattle.text.specs.Rows.{rowValues}
+use Rattle.text.specs.Lines.{linesOf, linesIn, lineNo, bytesOf, unended}
+use Rattle.text.specs.Rows.{rowValues, missing}
 use Rattle.text.proofs.Splitting.{bytes-most}
 use Rattle.station.specs.Means.{directions, pairCounts}
 use Rattle.station.specs.Rearrangement.{Rearranged}
@@ -29,7 +29,7 @@ use Rattle.station.specs.Replies.{replyOf}
 use Rattle.station.proofs.Answering.{answers-kept}
 use Rattle.station.proofs.Rearranging.{sum-rearranged, order-free, counts-rearranged, readings-rearranged}
 use Rattle.page.specs.Page.{printed}
-use Rattle.book.specs.Lines.{sightingOf, linesIn, lineNo, fieldNo, column, missing, malformed, bookOf, linesReply, bookReply}
+use Rattle.book.specs.Lines.{sightingOf, fieldNo, column, malformed, bookOf, linesReply, bookReply}
 use Rattle.book.specs.Listing.{meansLines, stationListing}
 use Rattle.book.specs.File.{bookListing, listingOf}
 use Rattle.book.specs.Order.{Reordered}

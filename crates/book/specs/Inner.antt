@@ -6,7 +6,8 @@ use lib.IntN.{ℤ}
 use lib.ListN.{take}
 use Rattle.reply.specs.declared.Refusal.the-variants.{Malformed}
 use Rattle.reply.specs.declared.Reply.the-variants.{Accepted, Refused}
-use Rattle.book.specs.Lines.{linesIn, column, linesReply}
+use Rattle.text.specs.Lines.{linesIn}
+use Rattle.book.specs.Lines.{column, linesReply}
 use Rattle.book.specs.declared.entries.Entries.{Entries}
 use Rattle.book.specs.declared.entries.Entries.the-variants.{Sightings, Broken}
 

@@ -1,7 +1,7 @@
 -- The sighting book: what its lines say, and the reply to it. "`S`, position, object, face, reading, parted by tabs, numbers written as in the network file."
-use mathlib.Core.Bool.{Bool, true, false}
+use mathlib.Core.Bool.{Bool}
 use mathlib.Core.List.{List, []}
-use mathlib.Core.Option.{Option, none, some}
+use mathlib.Core.Option.{Option}
 use Prim.Native.Nat.{ℕ, _+_}
 use lib.Dec.{ltb}
 use lib.IntN.{ℤ, pos}
@@ -12,8 +12,8 @@ use Rattle.reply.specs.declared.Reply.{Reply}
 use Rattle.reply.specs.Checks.{refuseIf, refuseFirst, _andThen_}
 use Rattle.station.specs.Sightings.{Book, book}
 use Rattle.station.specs.Replies.{replyOf}
-use Rattle.text.specs.Lines.{linesOf, unended}
-use Rattle.text.specs.Rows.{behindLetter, rowValues}
+use Rattle.text.specs.Lines.{unended, linesIn, lineNo}
+use Rattle.text.specs.Rows.{behindLetter, rowValues, missing}
 
 abbrev pub letter-S : ℕ
 letter-S = 83
@@ -21,13 +21,6 @@ letter-S = 83
 -- the position, object, face and reading of a line; none, where it is malformed or unknown
 unfoldable pub sightingOf : List ℕ → Option (List ℤ)
 sightingOf line = behindLetter letter-S 4 line
-
--- how many lines a book has, and its line h, counted from 0
-abbrev pub linesIn : List ℕ → ℕ
-linesIn file = length (linesOf file)
-
-unfoldable pub lineNo : List ℕ → ℕ → List ℕ
-lineNo file h = getD (linesOf file) h []
 
 -- field k of the sighting of line h, counted from 0: 0 the position, 1 the object, 2 the face, 3 the reading
 unfoldable pub fieldNo : (k : ℕ) (file : List ℕ) (h : ℕ) → ℤ
@@ -41,10 +34,6 @@ unfoldable pub bookOf : List ℕ → Book
 bookOf file = book (column 0 file) (column 1 file) (column 2 file) (column 3 file)
 
 -- ---- the reply: "length, then 1 by line, then the library's own checks in their order"
-abbrev pub missing : Option (List ℤ) → Bool
-missing (some fields) = false
-missing none = true
-
 unfoldable pub malformed : (file : List ℕ) (h : ℕ) → Bool
 malformed file h = missing (sightingOf (lineNo file h))
 

@@ -3,8 +3,7 @@ use mathlib.Core.Path.{_≡_}
 use mathlib.Core.Bool.{false}
 use mathlib.Core.List.{List}
 use Prim.Native.Nat.{ℕ, _<_}
-use Rattle.text.specs.Lines.{unended}
-use Rattle.book.specs.Lines.{linesIn, lineNo}
+use Rattle.text.specs.Lines.{linesIn, lineNo, unended}
 
 -- line h of file′ is line `from h` of the file, and `to` leads back: each line of the file stands in file′ once
 pub record Reordered (file file′ : List ℕ) : Type 0 where

@@ -1,8 +1,9 @@
--- The lines of a file, "each ended by LF": the line at a start, what the companion says of that start, the list of all lines, and what stands behind them.
+-- The lines of a file, "each ended by LF": the line at a start, what the companion says of that start, the list of all lines, each by its number, and
+-- what stands behind them.
 use mathlib.Core.Bool.{Bool, cond}
 use mathlib.Core.List.{List, [], _∷_}
 use Prim.Native.Nat.{ℕ, _+_}
-use lib.ListN.{length, take, drop}
+use lib.ListN.{length, getD, take, drop}
 use lib.Dec.{ltb}
 use Rattle.text.specs.Parts.{bytesBefore, placeFrom, parted}
 use Rattle.text.specs.declared.line.LineStatus.{LineStatus}
@@ -22,6 +23,13 @@ statusAt file start = cond (ltb start (length file)) (cond (ltb (placeFrom LF fi
 -- all lines of a file that have their LF, in order, each without it; bytes after the last LF are no line
 unfoldable pub linesOf : List ℕ → List (List ℕ)
 linesOf file = parted LF [] file
+
+-- how many they are, and line h, counted from 0; one that the file has not is empty
+abbrev pub linesIn : List ℕ → ℕ
+linesIn file = length (linesOf file)
+
+unfoldable pub lineNo : List ℕ → ℕ → List ℕ
+lineNo file h = getD (linesOf file) h []
 
 -- how many bytes these lines have, each with its LF
 unfoldable pub bytesOf : List (List ℕ) → ℕ

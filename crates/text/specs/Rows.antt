@@ -1,5 +1,5 @@
 -- The numbers of a line, one to a field, and those behind its letter: each of at most so many digits, 11 in a network file or a sighting book.
-use mathlib.Core.Bool.{cond}
+use mathlib.Core.Bool.{Bool, true, false, cond}
 use mathlib.Core.List.{List, [], _∷_}
 use mathlib.Core.Option.{Option, none, some}
 use Prim.Native.Nat.{ℕ, zero, suc, _+_}
@@ -42,6 +42,10 @@ behindLetter letter count line = behindWithin 11 letter count line
 unfoldable pub rowValues : Option (List ℤ) → List ℤ → List ℤ
 rowValues (some zs) other = zs
 rowValues none other = other
+
+abbrev pub missing : Option (List ℤ) → Bool
+missing (some zs) = false
+missing none = true
 
 -- the numbers of the line at a start; none, where no LF follows
 unfoldable pub rowWithin : (most : ℕ) (file : List ℕ) (start count : ℕ) → Option (List ℤ)

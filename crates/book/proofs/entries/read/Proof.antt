@@ -9,11 +9,11 @@ use denote.Ref.{now}
 use lib.IntN.{ℤ, pos}
 use lib.ListN.{length, getD, set, take}
 use Rattle.text.specs.Parts.{placeFrom}
-use Rattle.text.specs.Lines.{LF}
+use Rattle.text.specs.Lines.{LF, lineNo}
 use Rattle.text.specs.Rows.{behindAt}
 use Rattle.text.proofs.Parting.{place-after}
 use Rattle.text.proofs.Lettering.{behind-told, no-behind-told}
-use Rattle.book.specs.Lines.{letter-S, sightingOf, lineNo}
+use Rattle.book.specs.Lines.{letter-S, sightingOf}
 use Rattle.book.proofs.Entering.{Begun, begun-none, no-sighting, sighting, all-begun, Column, column-none, column-more, column-all}
 use Rattle.book.proofs.entries.read.Statement.{statement}
 use Rattle.book.proofs.entries.read.Tie as tie
