@@ -1,7 +1,8 @@
 -- The refusals of the solution, from what the code has found. Assumes nothing.
 --   V-size, V-ext                    the corrections of correlates within 10^8, and of equal correlates
 --   same-first, each-within          of numbers tested against a limit in their order: equal ones have the same first beyond it; where none is refused, each is within it
---   closing-is, rounding-is          the remainders of a list that holds the corrections are R, and its numbers rounded are u
+--   closing-is, rounding-is          of any correlates: the remainders of a list that holds their corrections are R, and its numbers rounded are u
+--   first-open, first-past           and the first beyond its limit is the same
 --   weak-refused, large-refused, open-refused, past-refused      6, 7, 8 and 9 at their places; first-weak: 6 by the tests of the rows
 --   none-weak, none-too-large, none-open, none-past              where nothing is found, the check accepts
 --   all-accepted                     where all four accept, so does the solution
@@ -50,7 +51,7 @@ unfolding V-of
 V-ext t k k' e i = ap (λ (z : ℤ). t .q i *ℤ z) (sum-ext (t .n) (λ j. t .a j i *ℤ k j) (λ j. t .a j i *ℤ k' j) (λ j l. ap (λ (z : ℤ). t .a j i *ℤ z) (e j l)))
 
 -- ---- numbers tested against a limit, in their order
-abbrev beyond : ℕ → (ℕ → ℤ) → ℕ → Bool
+abbrev pub beyond : ℕ → (ℕ → ℤ) → ℕ → Bool
 beyond most f i = ltb most (natAbs (f i))
 
 same-first : (n most : ℕ) (f g : ℕ → ℤ) → ((i : ℕ) → i < n → f i ≡ g i) → first n (beyond most f) ≡ first n (beyond most g)
@@ -93,42 +94,44 @@ module _ (t : Table) where
             let i : t .n - suc (t .n - suc j) ≡ j = omega arith in
             subst (λ (h : ℕ). natAbs (K t h) ≤ 100000000) i (ltb-false 100000000 (natAbs (K t (t .n - suc (t .n - suc j)))) (first-before (t .n) large (t .n - suc j) (omega arith)))
 
-  -- ---- 8
-  module _ (vs : List ℤ) (v : (i : ℕ) → i < t .m → at vs i ≡ V-of t (K t) i) where
-    pub closing-is : (j : ℕ) → closing t (at vs) j ≡ R-of t (K t) j
+  -- ---- of any correlates, by a list that holds their corrections
+  module _ (k : ℕ → ℤ) (vs : List ℤ) (v : (i : ℕ) → i < t .m → at vs i ≡ V-of t k i) where
+    pub closing-is : (j : ℕ) → closing t (at vs) j ≡ R-of t k j
     closing-is j =
         ap (λ (z : ℤ). z +ℤ pos 10000000 *ℤ t .w j)
-        (sum-ext (t .m) (λ i. t .a j i *ℤ at vs i) (λ i. t .a j i *ℤ V-of t (K t) i) (λ i l. ap (λ (z : ℤ). t .a j i *ℤ z) (v i l)))
-        ∙ sym (remainder-forms t (K t) j)
+        (sum-ext (t .m) (λ i. t .a j i *ℤ at vs i) (λ i. t .a j i *ℤ V-of t k i) (λ i l. ap (λ (z : ℤ). t .a j i *ℤ z) (v i l)))
+        ∙ sym (remainder-forms t k j)
 
-    module _ (close : ℕ) (e : close ≡ first (t .n) (beyond 50000000 (closing t (at vs)))) where
-      first-open : close ≡ first (t .n) (beyond 50000000 (R-of t (K t)))
-      first-open = e ∙ same-first (t .n) 50000000 (closing t (at vs)) (R-of t (K t)) (λ j l. closing-is j)
+    pub first-open : (close : ℕ) → close ≡ first (t .n) (beyond 50000000 (closing t (at vs))) → close ≡ first (t .n) (beyond 50000000 (R-of t k))
+    first-open close e = e ∙ same-first (t .n) 50000000 (closing t (at vs)) (R-of t k) (λ j l. closing-is j)
 
-      pub open-refused : rowsReply t ≡ Accepted → correlatesReply t ≡ Accepted → close < t .n → Refused (Remainder (close + 1)) ≡ solutionReply t
-      unfolding solutionReply remaindersReply
-      open-refused a b l = rw (a, b, refuse-first (t .n) (beyond 50000000 (R-of t (K t))) (λ j. Remainder (j + 1)) close first-open l)
-
-      pub none-open : t .n ≤ close → remaindersReply t (K t) ≡ Accepted
-      unfolding remaindersReply
-      none-open l = accept-first (t .n) (beyond 50000000 (R-of t (K t))) (λ j. Remainder (j + 1)) (omega (arith, first-open))
-
-    -- ---- 9
-    pub rounding-is : (i : ℕ) → i < t .m → rounding (at vs) i ≡ u-of t (K t) i
+    pub rounding-is : (i : ℕ) → i < t .m → rounding (at vs) i ≡ u-of t k i
     unfolding u-of
     rounding-is i l = ap (λ (z : ℤ). nearest z (pos 100000)) (v i l)
 
-    module _ (within : ℕ) (e : within ≡ first (t .m) (beyond 60000 (rounding (at vs)))) where
-      first-past : within ≡ first (t .m) (beyond 60000 (u-of t (K t)))
-      first-past = e ∙ same-first (t .m) 60000 (rounding (at vs)) (u-of t (K t)) rounding-is
+    pub first-past : (within : ℕ) → within ≡ first (t .m) (beyond 60000 (rounding (at vs))) → within ≡ first (t .m) (beyond 60000 (u-of t k))
+    first-past within e = e ∙ same-first (t .m) 60000 (rounding (at vs)) (u-of t k) rounding-is
 
+  module _ (vs : List ℤ) (v : (i : ℕ) → i < t .m → at vs i ≡ V-of t (K t) i) where
+    -- ---- 8
+    module _ (close : ℕ) (e : close ≡ first (t .n) (beyond 50000000 (closing t (at vs)))) where
+      pub open-refused : rowsReply t ≡ Accepted → correlatesReply t ≡ Accepted → close < t .n → Refused (Remainder (close + 1)) ≡ solutionReply t
+      unfolding solutionReply remaindersReply
+      open-refused a b l = rw (a, b, refuse-first (t .n) (beyond 50000000 (R-of t (K t))) (λ j. Remainder (j + 1)) close (first-open (K t) vs v close e) l)
+
+      pub none-open : t .n ≤ close → remaindersReply t (K t) ≡ Accepted
+      unfolding remaindersReply
+      none-open l = accept-first (t .n) (beyond 50000000 (R-of t (K t))) (λ j. Remainder (j + 1)) (omega (arith, first-open (K t) vs v close e))
+
+    -- ---- 9
+    module _ (within : ℕ) (e : within ≡ first (t .m) (beyond 60000 (rounding (at vs)))) where
       pub past-refused : rowsReply t ≡ Accepted → correlatesReply t ≡ Accepted → remaindersReply t (K t) ≡ Accepted → within < t .m → Refused (Correction (within + 1)) ≡ solutionReply t
       unfolding solutionReply correctionsReply
-      past-refused a b c l = rw (a, b, c, refuse-first (t .m) (beyond 60000 (u-of t (K t))) (λ i. Correction (i + 1)) within first-past l)
+      past-refused a b c l = rw (a, b, c, refuse-first (t .m) (beyond 60000 (u-of t (K t))) (λ i. Correction (i + 1)) within (first-past (K t) vs v within e) l)
 
       pub none-past : t .m ≤ within → correctionsReply t (K t) ≡ Accepted
       unfolding correctionsReply
-      none-past l = accept-first (t .m) (beyond 60000 (u-of t (K t))) (λ i. Correction (i + 1)) (omega (arith, first-past))
+      none-past l = accept-first (t .m) (beyond 60000 (u-of t (K t))) (λ i. Correction (i + 1)) (omega (arith, first-past (K t) vs v within e))
 
   pub all-accepted : rowsReply t ≡ Accepted → correlatesReply t ≡ Accepted → remaindersReply t (K t) ≡ Accepted → correctionsReply t (K t) ≡ Accepted → Accepted ≡ solutionReply t
   unfolding solutionReply

@@ -214,8 +214,8 @@ returns-5 c =
       λ f. record {
         k = k-is (small b);
         v = v-is b;
-        u = λ i h. p .print-corrections .ensures .1 i (omega arith) ∙ rounding-is t (v b) (v-is b) i h;
-        r = λ j h. r .remainders .ensures .1 j (omega arith) ∙ closing-is t (v b) (v-is b) j;
+        u = λ i h. p .print-corrections .ensures .1 i (omega arith) ∙ rounding-is t (K t) (v b) (v-is b) i h;
+        r = λ j h. r .remainders .ensures .1 j (omega arith) ∙ closing-is t (K t) (v b) (v-is b) j;
         u-most = corrections-small t (K t) none;
       },
     )
