@@ -39,10 +39,14 @@ fn first_unlike(x: &[i64], from: usize, a: &[i64], b: &[i64], count: usize) -> u
     let mut i = 0;
     while i < count {
         let here = from + 4 * i;
-        if x[here] != a[i] {
+        let first = x[here];
+        let second = x[here + 1];
+        let one = a[i];
+        let other = b[i];
+        if first != one {
             return i;
         }
-        if x[here + 1] != b[i] {
+        if second != other {
             return i;
         }
         i += 1;
