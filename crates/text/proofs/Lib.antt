@@ -4,6 +4,7 @@ pub mod Numerals
 pub mod Spanning
 pub mod Rowing
 pub mod Lettering
+pub mod Stepping
 pub mod Writing
 pub mod ReadingBack
 pub mod Putting
