@@ -7,5 +7,6 @@ pub mod Lettering
 pub mod Stepping
 pub mod Writing
 pub mod ReadingBack
+pub mod WritingBack
 pub mod Putting
 pub mod Unique
