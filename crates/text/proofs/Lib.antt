@@ -6,6 +6,7 @@ pub mod Sparing
 pub mod Rowing
 pub mod Lettering
 pub mod Stepping
+pub mod Stacking
 pub mod Writing
 pub mod ReadingBack
 pub mod WritingBack

@@ -2,17 +2,17 @@
 --   Free, free-cons, free-both              a text without a byte: its first byte and the others; two such texts
 --   free-high                               a text of bytes from 45 on has no lower one
 --   before-free, part-first                 a search goes on behind such a text; it is the first part of a text
---   before-cut, free-cut                    the search in the first bytes of a text; what stands before a byte is without it
+--   before-cut, free-cut, line-free         the search in the first bytes of a text; what stands before a byte is without it, so a line without an LF
 --   found-place, found-within, found-line   a text without an LF, and an LF: where the LF is, that it is within the file, the line
 --   row-written, behind-written             the numbers of that line, and those behind its letter
 use mathlib.Core.Path.{_≡_, refl, sym, _∙_, ap}
 use mathlib.Core.Bool.{Bool, true, false, cond}
 use mathlib.Core.List.{List, [], _∷_, _++_, append-nil}
 use Prim.Native.Nat.{ℕ, zero, suc, _+_, _<_, _≤_, min}
-use native.Mathlib.Nat.{add-zero}
+use native.Mathlib.Nat.{add-zero, le-refl}
 use native.Mathlib.Omega.{arith}
 use borrow.Author.Tests.{eq-eqb, lt-ltb}
-use lib.Dec.{eqb}
+use lib.Dec.{eqb, ltb}
 use lib.ListN.{length, take, drop, length-append, length-drop, length-take}
 use lib.Seq.{take-append-seam}
 use Rattle.text.specs.Parts.{bytesBefore, placeFrom, onFirst, parted}
@@ -65,6 +65,15 @@ before-cut byte (suc n) (b ∷ text) = cut-step (eqb b byte) n (bytesBefore byte
 
 pub free-cut : (byte n : ℕ) (text : List ℕ) → n ≤ bytesBefore byte text → Free byte (take n text)
 free-cut byte n text l = omega (arith, before-cut byte n text, length-take n text, before-le byte text)
+
+line-by : (s : List ℕ) (b : Bool) → Free LF (cond b (take (bytesBefore LF s) s) [])
+unfolding bytesBefore
+line-by s true = free-cut LF (bytesBefore LF s) s (le-refl (bytesBefore LF s))
+line-by s false = refl
+
+pub line-free : (file : List ℕ) (start : ℕ) → Free LF (lineAt file start)
+unfolding lineAt
+line-free file start = line-by (drop start file) (ltb (placeFrom LF file start) (length file))
 
 -- ---- a text without an LF stands in a file, and an LF behind it
 module _ (file : List ℕ) (at : ℕ) (line rest : List ℕ) (d : drop at file ≡ line ++ (LF ∷ rest)) (e : Free LF line) where

@@ -1,23 +1,30 @@
 -- A walk through a file from line to line. Assumes nothing.
 --   line-split, line-cut                         what is left of a file is the line at its start, an LF, and what is left then
 --   bytes-append, bytes-next                     the bytes of lines and others behind them, and of one line more
+--   no-line                                      a line that the file has not is empty
 --   Reached, reached-none                        n lines lie before a start; none before the first byte
 --   line-here, one-more, reached-more            the line at the start has its LF: it is line n, and the next start
 --   none-left, line-missing, bytes-reached       it has none: all lines lie before the start
-use mathlib.Core.Path.{_≡_, refl, sym, _∙_, ap}
+--   end-within                                   where a line is left, it has its LF
+--   reached-at, reached-all                      every line's start, and the end of the last one
+--   lines-free, whole-text                       no line has an LF; a file without an unended line is its lines in their order, each with its LF
+use mathlib.Core.Path.{_≡_, refl, sym, _∙_, ap, subst}
+use mathlib.Core.Bool.{false}
 use mathlib.Core.List.{List, [], _∷_, _++_}
-use Prim.Native.Nat.{ℕ, suc, _+_, _-_, _<_, _≤_}
+use Prim.Native.Nat.{ℕ, zero, suc, _+_, _-_, _<_, _≤_}
 use native.Mathlib.Numerals.{add-one}
-use native.Mathlib.Nat.{add-zero}
+use native.Mathlib.Nat.{add-zero, le-refl}
+use native.Mathlib.Decide.{decLt}
 use native.Mathlib.Omega.{arith}
-use borrow.Author.Tests.{lt-ltb}
+use borrow.Author.Tests.{lt-ltb, ltb-false}
 use lib.ListN.{length, getD, take, drop, length-drop, List·getD-eq-default}
-use lib.Seq.{getD-drop, drop-drop, take-suc, take-add, take-append-add}
+use lib.Seq.{getD-drop, drop-drop, take-suc, take-add, take-append-add, take-all, take-length}
 use Rattle.text.specs.Parts.{bytesBefore, placeFrom}
-use Rattle.text.specs.Lines.{LF, lineAt, linesOf, linesIn, lineNo, bytesOf}
+use Rattle.text.specs.Lines.{LF, lineAt, linesOf, linesIn, lineNo, bytesOf, unended}
 use Rattle.text.specs.Written.{lineEnd, inOrder}
 use Rattle.text.proofs.Parting.{place-after}
 use Rattle.text.proofs.Splitting.{line-next, lines-whole, lines-rest}
+use Rattle.text.proofs.Sparing.{Free, line-free}
 use Rattle.text.proofs.Rowing.{split-at-byte}
 
 -- ---- the line at a start
@@ -53,6 +60,11 @@ bytes-next lines n l =
     ∙ ap bytesOf (take-suc lines n [] l)
     ∙ bytes-append (take n lines) (line ∷ [])
     ∙ omega arith
+
+-- a line that the file has not is empty
+pub no-line : (file : List ℕ) (h : ℕ) → linesIn file ≤ h → lineNo file h ≡ []
+unfolding lineNo
+no-line file h l = List·getD-eq-default (linesOf file) [] l
 
 -- ---- the walk
 module _ (file : List ℕ) where
@@ -116,9 +128,38 @@ module _ (file : List ℕ) where
       none-left = omega (arith, b .inside, length-drop n (linesOf file), ap length (b .lines ∙ lines-rest file start l))
 
       pub line-missing : lineNo file n ≡ []
-      unfolding lineNo
-      line-missing = List·getD-eq-default (linesOf file) [] (omega (arith, none-left))
+      line-missing = no-line file n (omega (arith, none-left))
 
       pub bytes-reached : bytesOf (linesOf file) ≡ start
       unfolding bytesOf
       bytes-reached = omega (arith, b .rest, ap bytesOf (lines-rest file start l))
+
+    pub end-within : n < linesIn file → end < length file
+    end-within m = by-end (decLt end (length file))
+      where
+        by-end : Dec (end < length file) → end < length file
+        by-end (yes l) = l
+        by-end (no l) = absurd (omega (arith, m, none-left (omega arith)))
+
+  -- ---- every line
+  pub reached-at : (n : ℕ) → n ≤ linesIn file → Reached (bytesOf (take n (linesOf file))) n
+  unfolding bytesOf
+  reached-at zero l = reached-none
+  reached-at (suc n) l =
+      let b = reached-at n (omega arith) in let on = reached-more b (end-within b l) in
+      rw (← add-one n) (subst (λ (start : ℕ). Reached start (n + 1)) (on .bytes) on)
+
+  pub reached-all : Reached (bytesOf (linesOf file)) (linesIn file)
+  reached-all = rw take-length at (reached-at (linesIn file) (le-refl (linesIn file)))
+
+  pub lines-free : (h : ℕ) → Free LF (lineNo file h)
+  unfolding bytesBefore
+  lines-free h = by-count (decLt h (linesIn file))
+    where
+      by-count : Dec (h < linesIn file) → Free LF (lineNo file h)
+      by-count (yes l) = let b = reached-at h (omega arith) in rw (line-here b (end-within b l)) (line-free file (bytesOf (take h (linesOf file))))
+      by-count (no l) = rw (no-line file h (omega arith))
+
+  pub whole-text : unended file ≡ false → file ≡ inOrder (linesIn file) (λ h. lineNo file h ++ lineEnd)
+  unfolding unended
+  whole-text e = sym (take-all (bytesOf (linesOf file)) file (ltb-false (bytesOf (linesOf file)) (length file) e)) ∙ reached-all .text
