@@ -1,4 +1,5 @@
 -- Lines in their order, each with its LF, as a text: its lines are they. Assumes nothing.
+--   stacked                              such a text
 --   tabulate-more, order-ext             one element more at the end of a list; equal lines in their order are the same text
 --   stacked-long, bytes-stacked          such a text has at least a byte to a line, and as many bytes as its lines have
 --   lines-first, lines-stacked           the lines of a text that begins with a line, or with lines in their order
@@ -27,19 +28,23 @@ unfolding tabulate
 tabulate-more zero g = refl
 tabulate-more (suc n) g = ap (λ (rest : List _). g 0 ∷ rest) (tabulate-more n (λ i. g (suc i)))
 
+-- n lines in their order, each with its LF
+abbrev pub stacked : ℕ → (ℕ → List ℕ) → List ℕ
+stacked n l = inOrder n (λ h. l h ++ lineEnd)
+
 pub order-ext : (n : ℕ) (f g : ℕ → List ℕ) → ((h : ℕ) → h < n → f h ≡ g h) → inOrder n f ≡ inOrder n g
 unfolding inOrder
 order-ext zero f g e = refl
 order-ext (suc n) f g e = rw (order-ext n f g (λ h l. e h (omega arith)), e n (omega arith))
 
 -- ---- how many bytes they have
-pub stacked-long : (n : ℕ) (l : ℕ → List ℕ) → n ≤ length (inOrder n (λ h. l h ++ lineEnd))
+pub stacked-long : (n : ℕ) (l : ℕ → List ℕ) → n ≤ length (stacked n l)
 unfolding inOrder
 stacked-long zero l = omega arith
 stacked-long (suc n) l =
-    omega (arith, length-append (inOrder n (λ h. l h ++ lineEnd)) (l n ++ lineEnd), length-append (l n) lineEnd, stacked-long n l)
+    omega (arith, length-append (stacked n l) (l n ++ lineEnd), length-append (l n) lineEnd, stacked-long n l)
 
-pub bytes-stacked : (n : ℕ) (l : ℕ → List ℕ) → bytesOf (tabulate n l) ≡ length (inOrder n (λ h. l h ++ lineEnd))
+pub bytes-stacked : (n : ℕ) (l : ℕ → List ℕ) → bytesOf (tabulate n l) ≡ length (stacked n l)
 unfolding inOrder bytesOf tabulate
 bytes-stacked zero l = refl
 bytes-stacked (suc n) l =
@@ -48,7 +53,7 @@ bytes-stacked (suc n) l =
       arith,
       bytes-append (tabulate n l) (l n ∷ []),
       bytes-stacked n l,
-      length-append (inOrder n (λ h. l h ++ lineEnd)) (l n ++ lineEnd),
+      length-append (stacked n l) (l n ++ lineEnd),
       length-append (l n) lineEnd,
     )
 
@@ -58,11 +63,11 @@ unfolding linesOf
 lines-first line rest e = rw (append-assoc line lineEnd rest) (part-first LF [] line rest e)
 
 pub lines-stacked : (n : ℕ) (l : ℕ → List ℕ) (rest : List ℕ) → ((h : ℕ) → h < n → Free LF (l h))
-    → linesOf (inOrder n (λ h. l h ++ lineEnd) ++ rest) ≡ tabulate n l ++ linesOf rest
+    → linesOf (stacked n l ++ rest) ≡ tabulate n l ++ linesOf rest
 unfolding inOrder tabulate
 lines-stacked zero l rest e = refl
 lines-stacked (suc n) l rest e =
-    let before = inOrder n (λ h. l h ++ lineEnd) in let line = l n ++ lineEnd in
+    let before = stacked n l in let line = l n ++ lineEnd in
     ap linesOf (append-assoc before line rest)
     ∙ lines-stacked n l (line ++ rest) (λ h m. e h (omega arith))
     ∙ ap (λ (lines : List (List ℕ)). tabulate n l ++ lines) (lines-first (l n) rest (e n (omega arith)))
@@ -70,44 +75,41 @@ lines-stacked (suc n) l rest e =
     ∙ ap (λ (lines : List (List ℕ)). lines ++ linesOf rest) (sym (tabulate-more n l))
 
 module _ (n : ℕ) (l : ℕ → List ℕ) (e : (h : ℕ) → h < n → Free LF (l h)) where
-  abbrev text : List ℕ
-  text = inOrder n (λ h. l h ++ lineEnd)
-
-  pub line-before : (rest : List ℕ) (h : ℕ) → h < n → lineNo (text ++ rest) h ≡ l h
+  pub line-before : (rest : List ℕ) (h : ℕ) → h < n → lineNo (stacked n l ++ rest) h ≡ l h
   unfolding lineNo
   line-before rest h m =
       ap (λ (lines : List (List ℕ)). getD lines h []) (lines-stacked n l rest e)
       ∙ List·getD-append (tabulate n l) (linesOf rest) [] h (omega (arith, tabulate-length n l))
       ∙ tabulate-at n l h [] m
 
-  pub reached-stacked : (rest : List ℕ) → Reached (text ++ rest) (length text) n
+  pub reached-stacked : (rest : List ℕ) → Reached (stacked n l ++ rest) (length (stacked n l)) n
   reached-stacked rest =
       let lines = lines-stacked n l rest e in let long = tabulate-length n l in
       record {
-        within = omega (arith, length-append text rest);
+        within = omega (arith, length-append (stacked n l) rest);
         few = stacked-long n l;
         inside = omega (arith, ap length lines, length-append (tabulate n l) (linesOf rest), long);
-        lines = ap (drop n) lines ∙ drop-at (tabulate n l) (linesOf rest) n long ∙ sym (ap linesOf (drop-append-seam text rest));
-        rest = omega (arith, ap bytesOf lines, bytes-append (tabulate n l) (linesOf rest), bytes-stacked n l, ap (λ (s : List ℕ). bytesOf (linesOf s)) (drop-append-seam text rest));
+        lines = ap (drop n) lines ∙ drop-at (tabulate n l) (linesOf rest) n long ∙ sym (ap linesOf (drop-append-seam (stacked n l) rest));
+        rest = omega (arith, ap bytesOf lines, bytes-append (tabulate n l) (linesOf rest), bytes-stacked n l, ap (λ (s : List ℕ). bytesOf (linesOf s)) (drop-append-seam (stacked n l) rest));
         bytes = sym (ap bytesOf (ap (take n) lines ∙ take-at (tabulate n l) (linesOf rest) n long) ∙ bytes-stacked n l);
-        text = take-append-seam text rest ∙ order-ext n (λ h. l h ++ lineEnd) (λ h. lineNo (text ++ rest) h ++ lineEnd) (λ h m. ap (λ (s : List ℕ). s ++ lineEnd) (sym (line-before rest h m)));
+        text = take-append-seam (stacked n l) rest ∙ order-ext n (λ h. l h ++ lineEnd) (λ h. lineNo (stacked n l ++ rest) h ++ lineEnd) (λ h m. ap (λ (s : List ℕ). s ++ lineEnd) (sym (line-before rest h m)));
       }
 
   -- ---- with nothing behind them
-  pub stacked-lines : linesOf text ≡ tabulate n l
+  pub stacked-lines : linesOf (stacked n l) ≡ tabulate n l
   unfolding linesOf parted
-  stacked-lines = ap linesOf (sym (append-nil text)) ∙ lines-stacked n l [] e ∙ append-nil (tabulate n l)
+  stacked-lines = ap linesOf (sym (append-nil (stacked n l))) ∙ lines-stacked n l [] e ∙ append-nil (tabulate n l)
 
-  pub stacked-count : linesIn text ≡ n
+  pub stacked-count : linesIn (stacked n l) ≡ n
   stacked-count = ap length stacked-lines ∙ tabulate-length n l
 
-  pub stacked-no : (h : ℕ) → h < n → lineNo text h ≡ l h
+  pub stacked-no : (h : ℕ) → h < n → lineNo (stacked n l) h ≡ l h
   unfolding lineNo
   stacked-no h m = ap (λ (lines : List (List ℕ)). getD lines h []) stacked-lines ∙ tabulate-at n l h [] m
 
-  pub stacked-bytes : bytesOf (linesOf text) ≡ length text
+  pub stacked-bytes : bytesOf (linesOf (stacked n l)) ≡ length (stacked n l)
   stacked-bytes = ap bytesOf stacked-lines ∙ bytes-stacked n l
 
-  pub stacked-ended : unended text ≡ false
+  pub stacked-ended : unended (stacked n l) ≡ false
   unfolding unended
-  stacked-ended = le-ltb (bytesOf (linesOf text)) (length text) (omega (arith, stacked-bytes))
+  stacked-ended = le-ltb (bytesOf (linesOf (stacked n l))) (length (stacked n l)) (omega (arith, stacked-bytes))
