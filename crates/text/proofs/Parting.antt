@@ -5,10 +5,10 @@
 --   parts-dropped, parts-last              the parts of a text without the byte: none, or the text itself
 --   begins-all, begins-short               a text begins with no word's end; and with no word that goes on behind it
 --   begins-more, begins-other              one byte more of the word, by what stands there in the text
---   begins-length                          a word is no longer than a text that begins with it
+--   begins-length, begins-word             a word is no longer than a text that begins with it; a word and a byte, and what stands behind them
 use mathlib.Core.Path.{_≡_, refl, sym}
 use mathlib.Core.Bool.{Bool, true, false, cond}
-use mathlib.Core.List.{List, [], _∷_}
+use mathlib.Core.List.{List, [], _∷_, _++_}
 use Prim.Native.Nat.{ℕ, suc, _+_, _<_, _≤_}
 use native.Mathlib.Numerals.{add-one}
 use native.Mathlib.Nat.{add-zero, add-assoc}
@@ -123,3 +123,8 @@ unfolding begins
 begins-length [] text e = omega arith
 begins-length (w ∷ word) [] e = not-both (sym e)
 begins-length (w ∷ word) (b ∷ text) e = length-step (eqb b w) (begins word text) (length word) (length text) (begins-length word text) e
+
+pub begins-word : (word : List ℕ) (c : ℕ) (rest : List ℕ) → begins (word ++ (c ∷ [])) (word ++ (c ∷ rest)) ≡ true
+unfolding begins
+begins-word [] c rest = rw (eq-eqb c c refl)
+begins-word (w ∷ word) c rest = rw (eq-eqb w w refl, begins-word word c rest)
