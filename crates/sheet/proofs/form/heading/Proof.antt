@@ -1,32 +1,32 @@
+-- `form::heading` meets its contract. Assumes nothing.
+use mathlib.Core.Path.{_≡_, refl, sym, _∙_}
+use mathlib.Core.Bool.{true, false}
+use native.Mathlib.Omega.{arith}
 use borrow.Author.Needs.{needs}
+use denote.Ref.{now}
+use Rattle.text.specs.Rows.{rowEnd, rowValues, endOf}
+use Rattle.text.proofs.Parting.{begins-length}
+use Rattle.sheet.specs.Form.{adjHead}
+use Rattle.sheet.proofs.Forming.{heading-row, no-heading}
 use Rattle.sheet.proofs.form.heading.Statement.{statement}
 use Rattle.sheet.proofs.form.heading.Tie as tie
-use Rattle.sheet.proofs.form.heading.Reads as reads
-use Rattle.sheet.proofs.form.heading.Lts as lts
-use Rattle.text.proofs.find.begins.Reads as begins-reads
-use Rattle.text.proofs.row.read.Reads as read-reads
 
--- src/form.rt:33:31
 slice-aggregate-begins : tie.Need-slice-aggregate-begins
 slice-aggregate-begins c = search needs
 
--- src/form.rt:33:9
 begins-requires : tie.Need-begins-requires
 begins-requires c κs = search needs
 
--- src/form.rt:34:9
 returns : tie.Need-returns
-returns c = ?
+unfolding endOf rowValues
+returns c = let listing = now (c .before .before .before .before .args .listing) in rw (no-heading listing (sym (c .before .before .begins .ensures) ∙ c .if1 .taken)) (refl, refl)
 
--- src/form.rt:36:5
 read-requires : tie.Need-read-requires
 read-requires c κs = ?
 
--- src/form.rt:28:1
 same-length : tie.Need-same-length
 same-length c = search needs
 
--- src/form.rt:28:1
 returns-2 : tie.Need-returns-2
 returns-2 c = ?
 
