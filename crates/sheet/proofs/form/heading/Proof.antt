@@ -17,20 +17,27 @@ slice-aggregate-begins c = search needs
 begins-requires : tie.Need-begins-requires
 begins-requires c κs = search needs
 
-returns : tie.Need-returns
-unfolding endOf rowValues
-returns c = let listing = now (c .before .before .before .before .args .listing) in rw (no-heading listing (sym (c .before .before .begins .ensures) ∙ c .if1 .taken)) (refl, refl)
-
 read-requires : tie.Need-read-requires
-read-requires c κs = ?
+read-requires c κs =
+    let e = c .before in let s = e .before .before .before .before in
+    (omega arith, omega (arith, begins-length adjHead (now (s .args .listing)) (sym (e .before .begins .ensures) ∙ e .if1 .taken)), omega arith, omega (arith, s .pre))
 
 same-length : tie.Need-same-length
 same-length c = search needs
 
+returns : tie.Need-returns
+unfolding rowEnd
+returns c =
+    let r = c .before in let e = r .before .before in let s = e .before .before .before .before in
+    rw (heading-row (now (s .args .listing)) (sym (e .before .begins .ensures) ∙ e .if1 .taken)) (r .read .ensures .0, r .read .ensures .1 .0)
+
 returns-2 : tie.Need-returns-2
-returns-2 c = ?
+unfolding endOf rowValues
+returns-2 c =
+    let s = c .before .before .before .before in
+    rw (no-heading (now (s .args .listing)) (sym (c .before .begins .ensures) ∙ c .if1 .left)) (refl, refl)
 
 pub heading-spec : {M : Type 1} → statement M
 heading-spec =
     tie.close
-    (tie.spec slice-aggregate-begins begins-requires returns read-requires same-length returns-2)
+    (tie.spec slice-aggregate-begins begins-requires read-requires same-length returns returns-2)

@@ -1,102 +1,93 @@
+-- `form::lines` meets its contract: the lines read so far are those due, and their numbers stand in their places. Assumes nothing.
+use mathlib.Core.Path.{_≡_, refl, sym, _∙_, ap, subst}
+use mathlib.Core.List.{List}
+use mathlib.Core.Option.{some}
+use Prim.Native.Nat.{ℕ, _+_, _*_, _-_, _≤_, _<_}
+use native.Mathlib.Omega.{arith}
+use borrow.Author.Needs.{needs}
+use denote.Ref.{now}
+use lib.IntN.{ℤ, pos}
+use lib.ListN.{length, getD, take, drop}
+use Rattle.text.specs.Parts.{placeFrom}
+use Rattle.text.specs.Lines.{LF}
+use Rattle.text.proofs.Rowing.{told-some, told-none}
+use Rattle.sheet.specs.Form.{fieldsDue}
+use Rattle.sheet.specs.Inner.{dueFrom, Headed}
+use Rattle.sheet.proofs.Forming.{Begun, begun-none, begun-more, broken, goes-on, all-read}
 use Rattle.sheet.proofs.form.lines.Statement.{statement}
 use Rattle.sheet.proofs.form.lines.Tie as tie
-use Rattle.sheet.proofs.form.lines.Reads as reads
-use Rattle.sheet.proofs.form.lines.Lts as lts
-use Rattle.sheet.proofs.form.due_line.Reads as due-line-reads
 
 abbrev Inv-loop : tie.InvT-loop
-Inv-loop listing start m n x₀ next₀ i₀ x next i = ?
+Inv-loop listing start m n x₀ next₀ i₀ x next i = (i ≤ m + n) × ((h : Headed listing start m n) → Begun h next i x)
 
 abbrev μ-loop : tie.MeasureT-loop
-μ-loop listing start m n x₀ next₀ i₀ x next i = ?
+μ-loop listing start m n x₀ next₀ i₀ x next i = m + n - i
 
--- src/form.rt:84:5
 loop-holds : tie.Need-loop-holds Inv-loop μ-loop
-loop-holds c = ?
+loop-holds c = (omega arith, λ h. begun-none h (now (c .before .args .x)) (c .before .pre .1))
 
--- src/form.rt:84:15
 add-loop : tie.Need-add-loop Inv-loop μ-loop
-add-loop c = ?
+add-loop c = search needs
 
--- src/form.rt:85:18
 mul-at : tie.Need-mul-at Inv-loop μ-loop
-mul-at c = ?
+mul-at c = search needs
 
--- src/form.rt:86:49
 mul-due-line : tie.Need-mul-due-line Inv-loop μ-loop
-mul-due-line c = ?
+mul-due-line c = search needs
 
--- src/form.rt:86:49
 sub-due-line : tie.Need-sub-due-line Inv-loop μ-loop
-sub-due-line c = ?
+sub-due-line c = search needs
 
--- src/form.rt:86:49
 part-due-line-start : tie.Need-part-due-line-start Inv-loop μ-loop
-part-due-line-start c = ?
+part-due-line-start c = search needs
 
--- src/form.rt:86:49
 part-due-line-end : tie.Need-part-due-line-end Inv-loop μ-loop
-part-due-line-end c = ?
+part-due-line-end c = search needs
 
--- src/form.rt:86:13
 due-line-requires : tie.Need-due-line-requires Inv-loop μ-loop
-due-line-requires c κs = ?
+due-line-requires c κs = search needs
 
--- src/form.rt:87:26
 enum-known-end : tie.Need-enum-known-end Inv-loop μ-loop
-enum-known-end c = ?
+enum-known-end c = search needs
 
--- src/form.rt:88:37
 enum-told : tie.Need-enum-told Inv-loop μ-loop
-enum-told c = ?
+enum-told c = search needs
 
--- src/form.rt:88:37
 add-t17 : tie.Need-add-t17 Inv-loop μ-loop
-add-t17 c = ?
+add-t17 c = search needs
 
--- src/form.rt:88:13
 same-length : tie.Need-same-length Inv-loop μ-loop
-same-length c = ?
+same-length c = search needs
 
--- src/form.rt:88:13
 returns : tie.Need-returns Inv-loop μ-loop
-returns c = ?
+returns c = search needs
 
--- src/form.rt:91:9
 add-i : tie.Need-add-i Inv-loop μ-loop
-add-i c = ?
+add-i c = search needs
 
--- src/form.rt:84:5
 loop-less : tie.Need-loop-less Inv-loop μ-loop
-loop-less c = ?
+loop-less c = search needs
 
--- src/form.rt:84:5
 loop-again : tie.Need-loop-again Inv-loop μ-loop
-loop-again c = ?
+loop-again c = search needs
 
--- src/form.rt:94:33
 add-t21 : tie.Need-add-t21 Inv-loop μ-loop
-add-t21 c = ?
+add-t21 c = search needs
 
--- src/form.rt:94:33
 add-t22 : tie.Need-add-t22 Inv-loop μ-loop
-add-t22 c = ?
+add-t22 c = search needs
 
--- src/form.rt:94:9
 same-length-2 : tie.Need-same-length-2 Inv-loop μ-loop
-same-length-2 c = ?
+same-length-2 c = search needs
 
--- src/form.rt:94:9
 returns-2 : tie.Need-returns-2 Inv-loop μ-loop
-returns-2 c = ?
+returns-2 c = search needs
 
--- src/form.rt:77:1
 same-length-3 : tie.Need-same-length-3 Inv-loop μ-loop
-same-length-3 c = ?
+same-length-3 c = search needs
 
--- src/form.rt:77:1
 returns-3 : tie.Need-returns-3 Inv-loop μ-loop
-returns-3 c = ?
+returns-3 c = search needs
 
 pub lines-spec : {M : Type 1} → statement M
 lines-spec =
