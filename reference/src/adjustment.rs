@@ -196,8 +196,8 @@ impl Net {
         }
     }
 
-    /// All that follows from correlates within their limit, whoever found them. Nothing of it
-    /// is tested.
+    /// All that follows from correlates, whoever found them: of a size for which R and Q are
+    /// answers, 10^8 and somewhat more. Nothing of it is tested.
     pub(crate) fn given_by(&self, k: &[i64]) -> Adjustment {
         self.from_normals(&self.normals(), wide(k))
     }
@@ -254,7 +254,7 @@ impl Net {
     }
 
     /// N(j,k): inverse weights multiply.
-    fn normals(&self) -> Vec<Vec<i128>> {
+    pub(crate) fn normals(&self) -> Vec<Vec<i128>> {
         let entry = |row: &[i128], other: &[i128]| -> i128 {
             let products = row.iter().zip(other).zip(&self.q);
             products.map(|((a, b), q)| q * a * b).sum()
