@@ -189,7 +189,7 @@ impl Net {
         let normals = self.normals();
         let rows =
             reduce(&normals, &self.w).map_err(|(row, _)| Refusal::new(WEAK_ROW, place(row + 1)))?;
-        let found = self.from_normals(&normals, correlates(&rows)?);
+        let found = self.with_normals(&normals, correlates(&rows)?);
         match found.r.iter().position(|&r| !remainder_allowed(r)) {
             None => Ok(found),
             Some(index) => Err(Refusal::new(REMAINDER, place(index + 1))),
@@ -199,10 +199,10 @@ impl Net {
     /// All that follows from correlates, whoever found them: of a size for which R and Q are
     /// answers, 10^8 and somewhat more. Nothing of it is tested.
     pub(crate) fn given_by(&self, k: &[i64]) -> Adjustment {
-        self.from_normals(&self.normals(), wide(k))
+        self.with_normals(&self.normals(), wide(k))
     }
 
-    fn from_normals(&self, normals: &[Vec<i128>], k: Vec<i128>) -> Adjustment {
+    fn with_normals(&self, normals: &[Vec<i128>], k: Vec<i128>) -> Adjustment {
         // R stands on the unrounded V; only u and Q see the rounding.
         let v = self.corrections(&k);
         let u: Vec<i128> = v.iter().map(|&v| nearest(v, 100_000)).collect();
