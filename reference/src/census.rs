@@ -332,9 +332,9 @@ fn count_sheet(rng: &mut Rng, census: &mut Census) {
     if let Some(fault) = sheet::fault(&net, &listing) {
         *census.sheet_faults.entry(fault).or_default() += 1;
         let limits = [Fault::Correlate, Fault::RemainderSize, Fault::Minute];
-        let past = limits.into_iter().zip(sizes.largest_are(1));
-        let past: Vec<bool> = past.map(|(limit, past)| past && fault == limit).collect();
-        add(&mut census.sheets_past_limits, [past[0], past[1], past[2]]);
+        let past = sizes.largest_are(1);
+        let past = [0, 1, 2].map(|index| past[index] && fault == limits[index]);
+        add(&mut census.sheets_past_limits, past);
     }
 }
 
@@ -366,11 +366,11 @@ impl SheetSizes {
 
     /// Whether the largest K, R and u stand so far past their limits.
     fn largest_are(&self, past: u64) -> [bool; 3] {
-        let largest = |list: &[u64]| list.iter().max().copied();
+        let is_largest = |list: &[u64], size: u64| list.iter().max() == Some(&size);
         [
-            largest(&self.k) == Some(100_000_000 + past),
-            largest(&self.r) == Some(50_000_000 + past),
-            largest(&self.u) == Some(60_000 + past),
+            is_largest(&self.k, 100_000_000 + past),
+            is_largest(&self.r, 50_000_000 + past),
+            is_largest(&self.u, 60_000 + past),
         ]
     }
 }
