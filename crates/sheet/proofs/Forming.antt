@@ -1,11 +1,12 @@
 -- Laws of a listing's lines, read one after another. Assumes nothing.
 --   heading-row, no-heading                the counts of a listing that begins with the word of its ADJ line, or does not
+--   none-refused, first-refused, second-refused, directions-number, conditions-number, headed   without counts, with counts out of range or in it
 --   heading-told, heading-within           and what is known of one that has counts; word-place, heading-reached: its first line
 --   line-none, line-other, line-same       the line of a letter, by what the reader of its numbers answers and by its own number
 --   due-v, due-k                           which line is due at a place
 --   letter-some, fields-most, none-due, numbered-some   its letter, how many numbers it has; an empty line is none; a numbered line has its numbers
 --   due-here, due-within                   the line at a start is the listing's line there
---   Begun, begun-none, begun-more          i lines behind the ADJ line have been read, each the one due, and their numbers stand in their places
+--   Begun, begun-none, begun-more, begun-put   i lines behind the ADJ line have been read, each the one due, and their numbers stand in their places
 --   broken, goes-on, all-read              the next line is not the one due; bytes behind the last; nothing behind it
 use mathlib.Core.Path.{_≡_, refl, sym, _∙_, ap, subst}
 use mathlib.Core.Bool.{Bool, true, false, cond}
@@ -17,14 +18,20 @@ use native.Mathlib.Decide.{decLt}
 use native.Mathlib.Omega.{arith}
 use borrow.Author.Tests.{lt-ltb, le-ltb, ltb-true, ltb-false, ne-eqb}
 use lib.Dec.{ltb}
-use lib.IntN.{ℤ, pos}
+use lib.IntN.{ℤ, pos, natAbs}
+use lib.Signed.{_≤ℤ_, ltZ}
 use lib.ListN.{length, getD, take, drop}
-use lib.Seq.{getD-drop, getD-take}
+use lib.Seq.{getD-drop, getD-take, drop-at, take-append-le, length-take-le}
+use borrow.Rule.Slice.PartMut.{midOf, postOf, putMid, same-len-mid, take-put}
 use Rattle.exact.specs.Same.{same}
-use Rattle.exact.proofs.Searching.{Failed, failed-none, failed-more, not-both}
+use Rattle.exact.specs.Outside.{outside}
+use Rattle.exact.proofs.Linear.{unknowns, orders, one-sided}
+use Rattle.exact.proofs.Order.{lt-false, lt-le, from-one}
+use Rattle.exact.proofs.Searching.{Failed, failed-none, failed-more, neither, either}
 use Rattle.reply.specs.declared.Refusal.the-variants.{Sheet}
 use Rattle.reply.specs.declared.Reply.the-variants.{Accepted, Refused}
 use Rattle.reply.proofs.Checking.{refuse-at, refuse-none}
+use Rattle.condition.specs.Sound.{Number}
 use Rattle.text.specs.Parts.{bytesBefore, placeFrom, parted, begins}
 use Rattle.text.specs.Lines.{LF, lineAt, lineNo, linesOf, bytesOf}
 use Rattle.text.specs.Fields.{fieldsOf, fieldAt, letterOf}
@@ -77,6 +84,62 @@ module _ (listing : List ℕ) where
   heading-reached e l =
       let same = word-place e in
       subst (λ (p : ℕ). Reached listing (p + 1) 1) same (reached-more listing (reached-none listing) (omega (arith, same, l)))
+
+-- a count that is in range
+counted : (most : ℕ) (z : ℤ) → outside (pos 1) (pos most) z ≡ false → Number most z
+counted most z e =
+    let h = neither (ltZ z (pos 1)) (ltZ (pos most) z) e in
+    record { low = low z (lt-false (h .0) refl refl); high = high z (lt-false (h .0) refl refl) (lt-false (h .1) refl refl) }
+  where
+    low : (z : ℤ) → pos 1 ≤ℤ z → pos 0 ≤ℤ z
+    low z a = lt-le (from-one z a)
+
+    high : (z : ℤ) → pos 1 ≤ℤ z → z ≤ℤ pos most → natAbs z ≤ most
+    high z a b = let v = unknowns (z ∷ []) in omega (arith, orders, one-sided)
+
+module _ (listing : List ℕ) where
+  pub heading-refused : headingAmiss (headingOf listing) ≡ true → formReply listing ≡ Refused (Sheet 1)
+  unfolding formReply
+  heading-refused e = rw e
+
+  pub none-refused : headingOf listing ≡ none → formReply listing ≡ Refused (Sheet 1)
+  unfolding headingAmiss
+  none-refused e = heading-refused (ap headingAmiss e)
+
+  module _ (zs : List ℤ) (e : headingOf listing ≡ some zs) where
+    abbrev m : ℤ
+    m = getD zs 0 (pos 0)
+
+    abbrev n : ℤ
+    n = getD zs 1 (pos 0)
+
+    pub first-refused : outside (pos 1) (pos 64) m ≡ true → formReply listing ≡ Refused (Sheet 1)
+    unfolding headingAmiss
+    first-refused f = heading-refused (ap headingAmiss e ∙ rw f)
+
+    pub second-refused : outside (pos 1) (pos 24) n ≡ true → formReply listing ≡ Refused (Sheet 1)
+    unfolding headingAmiss
+    second-refused f = heading-refused (ap headingAmiss e ∙ either (outside (pos 1) (pos 64) m) (outside (pos 1) (pos 24) n) f)
+
+    module _ (f : outside (pos 1) (pos 64) m ≡ false) (g : outside (pos 1) (pos 24) n ≡ false) where
+      pub directions-number : Number 64 m
+      directions-number = counted 64 m f
+
+      pub conditions-number : Number 24 n
+      conditions-number = counted 24 n g
+
+      pub headed : (start : ℕ) → start ≡ placeFrom LF listing 4 + 1 → Headed listing start (natAbs m) (natAbs n)
+      unfolding headingAmiss countNo rowValues
+      headed start at = record {
+        sound = ap headingAmiss e ∙ rw (f, g);
+        m-is = rw e;
+        n-is = rw e;
+        m-most = directions-number .high;
+        n-most = conditions-number .high;
+        start-is = at;
+        within = heading-within listing zs e;
+        begun = heading-told listing zs e .0;
+      }
 
 -- ---- a line, by its letter, its numbers and the first of them
 module _ (number next : ℕ) (o : Option (List ℤ)) (xs : List ℤ) where
@@ -203,6 +266,17 @@ module _ {listing : List ℕ} {first m n : ℕ} (h : Headed listing first m n) w
         entered = entered-more;
         long = long;
       }
+
+    -- the same, where the numbers have been read into a part of the list
+    pub begun-put : (zs ys : List ℤ) (at k : ℕ) → at ≡ 4 * i → at ≤ length x → length ys ≡ length (midOf at k x) → dueFrom listing next m i ≡ some zs
+        → take (fieldsDue m i) ys ≡ zs → fieldsDue m i ≤ length ys → Begun (placeFrom LF listing next + 1) (i + 1) (putMid at k x ys)
+    begun-put zs ys at k a l same e here f =
+        begun-more zs e (putMid at k x ys) (same-len-mid at k x ys same ∙ b .long)
+        (λ j g. let h : j < at = omega arith in sym (getD-take at (putMid at k x ys) j (pos 0) h) ∙ ap (λ (z : List ℤ). getD z j (pos 0)) (take-put at k x ys l) ∙ getD-take at x j (pos 0) h)
+        (ap (λ (p : ℕ). take (fieldsDue m i) (drop p (putMid at k x ys))) (sym a)
+        ∙ ap (take (fieldsDue m i)) (drop-at (take at x) (ys ++ postOf at k x) at (length-take-le at x l))
+        ∙ take-append-le (fieldsDue m i) ys (postOf at k x) f
+        ∙ here)
 
     module _ (all : i ≡ m + n) where
       sound-all : Failed (malformed listing) (m + n)
