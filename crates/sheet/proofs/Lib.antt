@@ -1,3 +1,4 @@
 pub mod Forming
 pub mod Judging
 pub mod Wording
+pub mod Sheets
