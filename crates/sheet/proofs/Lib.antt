@@ -1,4 +1,5 @@
 pub mod Forming
 pub mod Judging
 pub mod Wording
+pub mod Clipping
 pub mod Sheets

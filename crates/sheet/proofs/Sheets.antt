@@ -6,8 +6,9 @@
 --   any-correlates, yes-bytes          the listing of any such correlates gets yes, and no other sheet does
 --   own-listing                        so the adjusting program's listings of accepted nets get yes
 --   same-bytes                         two sheets that get yes for one net and have the same K are equal byte for byte
+--   first-bytes                        the first 7,298 bytes of a listing decide
 --   one-opinion                        two opinions that keep the promise are equal
-use mathlib.Core.Path.{_≡_, sym, _∙_, ap, ap₂, subst}
+use mathlib.Core.Path.{_≡_, refl, sym, _∙_, ap, ap₂, subst}
 use mathlib.Core.Bool.{Bool}
 use mathlib.Core.List.{List}
 use Prim.Native.Nat.{ℕ, suc, _-_, _≤_, _<_}
@@ -15,6 +16,8 @@ use native.Mathlib.Omega.{arith}
 use borrow.Author.Tests.{ltb-false}
 use lib.Dec.{ltb}
 use lib.IntN.{ℤ, pos, natAbs, _+ℤ_, _*ℤ_}
+use lib.ListN.{take}
+use lib.Seq.{take-all}
 use Rattle.exact.specs.Sum.{sum}
 use Rattle.exact.specs.Nearest.{nearest}
 use Rattle.exact.specs.Circle.{C, modulo}
@@ -23,8 +26,10 @@ use Rattle.exact.proofs.Bound.{abs-add}
 use Rattle.exact.proofs.Circles.{modulo-size}
 use Rattle.exact.proofs.Filling.{tabulate-length, tabulate-at, tabulate-ext}
 use Rattle.exact.proofs.Sum.{sum-ext}
+use Rattle.reply.specs.declared.Refusal.{Refusal}
 use Rattle.reply.specs.declared.Refusal.the-variants.{Correlate}
-use Rattle.reply.specs.declared.Reply.the-variants.{Accepted}
+use Rattle.reply.specs.declared.Reply.{Reply}
+use Rattle.reply.specs.declared.Reply.the-variants.{Accepted, Refused}
 use Rattle.reply.specs.Checks.{_andThen_}
 use Rattle.reply.proofs.Checking.{both-accepted, none-refused}
 use Rattle.doolittle.specs.Table.{Table, at}
@@ -46,11 +51,12 @@ use Rattle.listing.proofs.Following.{file-replies}
 use Rattle.listing.proofs.Tabling.{misclosures-length}
 use Rattle.sheet.specs.declared.Opinion.{Opinion}
 use Rattle.sheet.specs.declared.Opinion.the-variants.{Yes}
-use Rattle.sheet.specs.Form.{conditionsIn, ownU, ownAdjusted, ownK, ownR, ownQ}
-use Rattle.sheet.specs.Check.{opinionOf}
+use Rattle.sheet.specs.Form.{conditionsIn, formReply, ownU, ownAdjusted, ownK, ownR, ownQ}
+use Rattle.sheet.specs.Check.{checkReply, opinionIf, opinionOf}
 use Rattle.sheet.specs.Promise.{Checks}
 use Rattle.sheet.proofs.Judging.{net-passed, Says, yes-says, says-yes}
 use Rattle.sheet.proofs.Wording.{own-text, Worded, text-worded}
+use Rattle.sheet.proofs.Clipping.{form-cut, formed-short}
 
 -- ---- what follows from equal correlates of the n conditions
 module _ (t : Table) (k k' : ℕ → ℤ) (e : (j : ℕ) → j < t .n → k j ≡ k' j) where
@@ -229,6 +235,19 @@ module _ (net : List ℕ) where
       yes-bytes listing e
       ∙ ap answersListing (answers-ext t (ownK listing) (ownK other) (λ j l. same j (omega (arith, n))) direction)
       ∙ sym (yes-bytes other e')
+
+  -- ---- the first bytes of a listing
+  pub first-bytes : (listing : List ℕ) (size : ℕ) → 7298 ≤ size → opinionOf net (take size listing) ≡ opinionOf net listing
+  unfolding opinionOf checkReply
+  first-bytes listing size far = by-form (formReply listing) refl
+    where
+      refused : (r : Reply) (why : Refusal) (o o' : Opinion) → opinionIf (r andThen Refused why) o ≡ opinionIf (r andThen Refused why) o'
+      refused Accepted why o o' = refl
+      refused (Refused other) why o o' = refl
+
+      by-form : (r : Reply) → formReply listing ≡ r → opinionOf net (take size listing) ≡ opinionOf net listing
+      by-form Accepted e = ap (opinionOf net) (take-all size listing (omega (arith, formed-short listing e)))
+      by-form (Refused why) e = rw (form-cut listing size far, e) (refused (tableReply net) why _ _)
 
   -- ---- and there is only one
   pub one-opinion : (listing : List ℕ) (opinion opinion' : Opinion) → Checks net listing opinion → Checks net listing opinion' → opinion ≡ opinion'

@@ -3,7 +3,8 @@
 --   wording, text-is                          the text of every line; the lines in their order are a listing
 --   counts-row, heading-line                  an ADJ line that is read as its counts is their text
 --   lettered, row-numbered, row-there         a line that is the one due is the text of its numbers, the first of them the one due; the listing has it
---   Formed, formed-as                         what is known of a listing that is well formed
+--   Counted, counted                          what is known of a listing whose ADJ line is well formed
+--   Formed, formed-as, row-found              and of one that is well formed; a line that is not malformed has its numbers
 --   own-text                                  it is its own numbers, as they are written
 --   Short, Worded, text-worded                numbers of at most 18 digits, as they are written, are a listing that is well formed, and they are its own
 use mathlib.Core.Path.{_≡_, refl, sym, _∙_, ap, ap₂, subst}
@@ -191,24 +192,50 @@ module _ (listing : List ℕ) where
         by-count (yes l) = l
         by-count (no l) = let f = no-row (omega arith) in let z : _≡_ {A = ℕ} 0 1 = cc in absurd (omega arith)
 
--- ---- a listing that is well formed
-pub record Formed (listing : List ℕ) : Type 0 where
+-- ---- a listing whose ADJ line is well formed
+pub record Counted (listing : List ℕ) : Type 0 where
   pub heading : headingOf listing ≡ some (pos (directionsIn listing) ∷ pos (conditionsIn listing) ∷ [])
   pub m-least : 1 ≤ directionsIn listing
   pub m-most : directionsIn listing ≤ 64
   pub n-least : 1 ≤ conditionsIn listing
   pub n-most : conditionsIn listing ≤ 24
-  pub rows : (i : ℕ) → i < directionsIn listing + conditionsIn listing → rowNo listing i ≡ some (rowValues (rowNo listing i) [])
-  pub whole : length listing ≤ bytesOf (take (directionsIn listing + conditionsIn listing + 1) (linesOf listing))
-
-row-is : (o : Option (List ℤ)) → missing o ≡ false → o ≡ some (rowValues o [])
-unfolding rowValues
-row-is (some zs) e = refl
-row-is none e = not-both e
 
 count-is : (listing : List ℕ) (zs : List ℤ) → headingOf listing ≡ some zs → (k : ℕ) → countNo k listing ≡ natAbs (getD zs k (pos 0))
 unfolding countNo rowValues
 count-is listing zs h k = rw h
+
+pub counted : (listing : List ℕ) → headingAmiss (headingOf listing) ≡ false → Counted listing
+unfolding headingAmiss
+counted listing e = by-heading (headingOf listing) refl e
+  where
+    by-heading : (o : Option (List ℤ)) → headingOf listing ≡ o → headingAmiss o ≡ false → Counted listing
+    by-heading none h f = not-both f
+    by-heading (some zs) h f =
+        let b = neither (outside (pos 1) (pos 64) (getD zs 0 (pos 0))) (outside (pos 1) (pos 24) (getD zs 1 (pos 0))) f in
+        let m-in = in-range 64 (getD zs 0 (pos 0)) (b .0) in let n-in = in-range 24 (getD zs 1 (pos 0)) (b .1) in
+        let m-is = count-is listing zs h 0 in let n-is = count-is listing zs h 1 in
+        record {
+          heading = h ∙ ap some (two-of zs (counts-row listing zs h .many) ∙ ap₂ (λ (x y : ℤ). x ∷ y ∷ []) (m-in .0 ∙ ap pos (sym m-is)) (n-in .0 ∙ ap pos (sym n-is)));
+          m-least = omega (arith, m-is, m-in .1);
+          m-most = omega (arith, m-is, m-in .2);
+          n-least = omega (arith, n-is, n-in .1);
+          n-most = omega (arith, n-is, n-in .2);
+        }
+
+-- ---- a listing that is well formed
+pub record Formed (listing : List ℕ) : Type 0 where
+  pub counts : Counted listing
+  pub sound : Failed (malformed listing) (directionsIn listing + conditionsIn listing)
+  pub whole : length listing ≤ bytesOf (take (directionsIn listing + conditionsIn listing + 1) (linesOf listing))
+
+-- a line that is not malformed has its numbers
+pub row-found : (listing : List ℕ) (i : ℕ) → malformed listing i ≡ false → rowNo listing i ≡ some (rowValues (rowNo listing i) [])
+unfolding malformed rowValues
+row-found listing i e = by-row (rowNo listing i) e
+  where
+    by-row : (o : Option (List ℤ)) → missing o ≡ false → o ≡ some (rowValues o [])
+    by-row (some zs) f = refl
+    by-row none f = not-both f
 
 module _ (listing : List ℕ) (e : formReply listing ≡ Accepted) where
   abbrev m : ℕ
@@ -217,33 +244,20 @@ module _ (listing : List ℕ) (e : formReply listing ≡ Accepted) where
   abbrev n : ℕ
   n = conditionsIn listing
 
-  sound : (headingAmiss (headingOf listing) ≡ false) × Failed (malformed listing) (m + n) × (goesOn listing (m + n + 1) ≡ false)
-  unfolding formReply
-  sound =
+  pub formed-as : Formed listing
+  unfolding formReply goesOn
+  formed-as =
       let heading = headingAmiss (headingOf listing) in let more = goesOn listing (m + n + 1) in
       let rows = refuseFirst (m + n) (malformed listing) (λ i. Sheet (i + 2)) in let end = refuseIf more (Sheet (m + n + 2)) in
       let first = both-accepted (refuseIf heading (Sheet 1)) (rows andThen end) e in let last = both-accepted rows end (first .1) in
-      (if-accepted heading (Sheet 1) (first .0), none-refused (m + n) (malformed listing) (λ i. Sheet (i + 2)) (last .0), if-accepted more (Sheet (m + n + 2)) (last .1))
-
-  formed-by : (o : Option (List ℤ)) → headingOf listing ≡ o → headingAmiss o ≡ false → Formed listing
-  unfolding headingAmiss malformed goesOn
-  formed-by none h f = not-both f
-  formed-by (some zs) h f =
-      let b = neither (outside (pos 1) (pos 64) (getD zs 0 (pos 0))) (outside (pos 1) (pos 24) (getD zs 1 (pos 0))) f in
-      let m-in = in-range 64 (getD zs 0 (pos 0)) (b .0) in let n-in = in-range 24 (getD zs 1 (pos 0)) (b .1) in
-      let m-is = count-is listing zs h 0 in let n-is = count-is listing zs h 1 in
       record {
-        heading = h ∙ ap some (two-of zs (counts-row listing zs h .many) ∙ ap₂ (λ (x y : ℤ). x ∷ y ∷ []) (m-in .0 ∙ ap pos (sym m-is)) (n-in .0 ∙ ap pos (sym n-is)));
-        m-least = omega (arith, m-is, m-in .1);
-        m-most = omega (arith, m-is, m-in .2);
-        n-least = omega (arith, n-is, n-in .1);
-        n-most = omega (arith, n-is, n-in .2);
-        rows = λ i l. row-is (rowNo listing i) (sound .1 i l);
-        whole = ltb-false (bytesOf (take (m + n + 1) (linesOf listing))) (length listing) (sound .2);
+        counts = counted listing (if-accepted heading (Sheet 1) (first .0));
+        sound = none-refused (m + n) (malformed listing) (λ i. Sheet (i + 2)) (last .0);
+        whole = ltb-false (bytesOf (take (m + n + 1) (linesOf listing))) (length listing) (if-accepted more (Sheet (m + n + 2)) (last .1));
       }
 
-  pub formed-as : Formed listing
-  formed-as = formed-by (headingOf listing) refl (sound .0)
+  own-numbers : (i : ℕ) → i < m + n → rowNo listing i ≡ some (rowValues (rowNo listing i) [])
+  own-numbers i l = row-found listing i (formed-as .sound i l)
 
   -- ---- every line is its own numbers
   abbrev own : ℕ → List ℕ
@@ -255,9 +269,9 @@ module _ (listing : List ℕ) (e : formReply listing ≡ Accepted) where
   own-v : (i : ℕ) → i < m → rowValues (rowNo listing i) [] ≡ own-entries i
   unfolding fieldNo fieldsDue numberDue
   own-v i l =
-      let row = formed-as .rows i (omega (arith, l)) in let zs = rowValues (rowNo listing i) [] in
-      let many : length zs ≡ 3 = lettered listing i zs row .many ∙ rw (lt-ltb i m l) in
-      let first : getD zs 0 (pos 0) ≡ pos (i + 1) = row-numbered listing i zs row ∙ rw (lt-ltb i m l) in
+      let e = own-numbers i (omega (arith, l)) in let zs = rowValues (rowNo listing i) [] in
+      let many : length zs ≡ 3 = lettered listing i zs e .many ∙ rw (lt-ltb i m l) in
+      let first : getD zs 0 (pos 0) ≡ pos (i + 1) = row-numbered listing i zs e ∙ rw (lt-ltb i m l) in
       three-of zs many
       ∙ ap (λ (z : ℤ). z ∷ getD zs 1 (pos 0) ∷ getD zs 2 (pos 0) ∷ []) first
       ∙ sym (v-entries m n (ownU listing) (ownAdjusted listing) (ownK listing) (ownR listing) (ownQ listing) i l)
@@ -265,10 +279,10 @@ module _ (listing : List ℕ) (e : formReply listing ≡ Accepted) where
   own-k : (j : ℕ) → j < n → rowValues (rowNo listing (m + j)) [] ≡ own-entries (m + j)
   unfolding fieldNo fieldsDue numberDue
   own-k j l =
-      let row = formed-as .rows (m + j) (omega (arith, l)) in let zs = rowValues (rowNo listing (m + j)) [] in
-      let many : length zs ≡ 4 = lettered listing (m + j) zs row .many ∙ rw (le-ltb (m + j) m (omega arith)) in
+      let e = own-numbers (m + j) (omega (arith, l)) in let zs = rowValues (rowNo listing (m + j)) [] in
+      let many : length zs ≡ 4 = lettered listing (m + j) zs e .many ∙ rw (le-ltb (m + j) m (omega arith)) in
       let back : m + j - m ≡ j = omega arith in
-      let first : getD zs 0 (pos 0) ≡ pos (j + 1) = row-numbered listing (m + j) zs row ∙ rw (le-ltb (m + j) m (omega arith), back) in
+      let first : getD zs 0 (pos 0) ≡ pos (j + 1) = row-numbered listing (m + j) zs e ∙ rw (le-ltb (m + j) m (omega arith), back) in
       four-of zs many
       ∙ ap (λ (z : ℤ). z ∷ getD zs 1 (pos 0) ∷ getD zs 2 (pos 0) ∷ getD zs 3 (pos 0) ∷ []) first
       ∙ sym (k-entries m n (ownU listing) (ownAdjusted listing) (ownK listing) (ownR listing) (ownQ listing) j)
@@ -285,16 +299,16 @@ module _ (listing : List ℕ) (e : formReply listing ≡ Accepted) where
 
   own-line : (h : ℕ) → h < m + n + 1 → lineNo listing h ≡ own h
   unfolding wording
-  own-line zero l = heading-line listing (pos m ∷ pos n ∷ []) (formed-as .heading)
+  own-line zero l = heading-line listing (pos m ∷ pos n ∷ []) (formed-as .counts .heading)
   own-line (suc i) l =
       ap (lineNo listing) (sym (add-one i))
-      ∙ lettered listing i (rowValues (rowNo listing i) []) (formed-as .rows i (omega arith)) .text
+      ∙ lettered listing i (rowValues (rowNo listing i) []) (own-numbers i (omega arith)) .text
       ∙ ap (λ (zs : List ℤ). letterDue m i ∷ signedFields zs) (own-row i (omega arith))
 
   last-there : m + n + 1 ≤ linesIn listing
   last-there =
-      let f = formed-as in let last = m + n - 1 in
-      omega (arith, f .m-least, row-there listing last (rowValues (rowNo listing last) []) (f .rows last (omega (arith, f .m-least))))
+      let some = formed-as .counts .m-least in let last = m + n - 1 in
+      omega (arith, some, row-there listing last (rowValues (rowNo listing last) []) (own-numbers last (omega (arith, some))))
 
   pub own-text : listing ≡ acceptedListing m n (tabulate m (ownU listing)) (tabulate m (ownAdjusted listing)) (tabulate n (ownK listing)) (tabulate n (ownR listing)) (tabulate n (ownQ listing))
   own-text =
