@@ -3,3 +3,4 @@ pub mod Judging
 pub mod Wording
 pub mod Clipping
 pub mod Sheets
+pub mod Figures
