@@ -66,7 +66,7 @@ digit =
     75 ∷ 9 ∷ 50 ∷ 9 ∷ 49 ∷ 48 ∷ 48 ∷ 48 ∷ 48 ∷ 48 ∷ 48 ∷ 9 ∷ 48 ∷ 9 ∷ 48 ∷ 10 ∷
     []
 
--- K(1) is 100,000,001, from which no u on the V lines follows
+-- K(1) is 100,000,001, from which the u of direction 1 does not follow either
 -- ADJ 3 2|V 1 -2000 215998000|V 2 -1000 216002000|V 3 1000 215998000|K 1 100000001 0 0|K 2 1000000 0 0|
 abbrev pub large : List ℕ
 large =
