@@ -1,3 +1,7 @@
 pub mod Forming
-pub mod Judging
 pub mod Comparing
+pub mod Judging
+pub mod Wording
+pub mod Clipping
+pub mod Sheets
+pub mod Figures
