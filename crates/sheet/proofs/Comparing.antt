@@ -1,6 +1,6 @@
 -- The line of the first test that fails, by what the code has found. Assumes nothing.
 --   first-either                           the first number at which one of two tests holds, where the first of the second is known; first-most, first-found: it is n at most
---   counts-line, size-line, v-line, k-line, no-line      the line, by the first of each kind of test
+--   other-directions, other-conditions, size-line, v-line, k-line, no-line      the line, by the first of each kind of test
 --   correlates-are, sizes-are              the correlates of the K lines, and the first that is too large
 --   pairs-differ, v-differs, k-differs     the first line of those with two numbers at which a test fails; of the V lines, and of the K lines
 --   corrected-by                           corrections by correlates that agree
@@ -60,11 +60,11 @@ module _ (t : Table) (direction : ℕ → ℤ) (listing : List ℕ) where
   abbrev n : ℕ
   n = t .n
 
-  other-directions : (directionsIn listing ≡ m → ⊥) → disagreement t direction listing ≡ 1
+  pub other-directions : (directionsIn listing ≡ m → ⊥) → disagreement t direction listing ≡ 1
   unfolding disagreement countsDiffer
   other-directions e = rw (ne-eqb (directionsIn listing) m e)
 
-  other-conditions : (conditionsIn listing ≡ n → ⊥) → disagreement t direction listing ≡ 1
+  pub other-conditions : (conditionsIn listing ≡ n → ⊥) → disagreement t direction listing ≡ 1
   unfolding disagreement countsDiffer
   other-conditions e = rw (either (not (eqb (directionsIn listing) m)) (not (eqb (conditionsIn listing) n)) (rw (ne-eqb (conditionsIn listing) n e)))
 

@@ -86,9 +86,10 @@ slice-aggregate-adjust-directions c = sym (length-take-le _ _ (adjusted-room (c 
 
 adjust-directions-requires : tie.Need-adjust-directions-requires
 adjust-directions-requires c κs =
-    let p = c .before .before .before in let s = start p in let e = length-take-le (within p) (now (s .args .adjusted)) (adjusted-room p) in
-    ((omega (arith, e, few p, s .pre .1 .0 .0), omega (arith, e, few p, u-long p, s .pre .0 .m-most, s .pre .1 .1 .0 .2)),
-    ((λ i l. s .pre .1 .0 .1 i (omega (arith, e, few p))), λ i l. u-small p i (omega (arith, e))))
+    let p = c .before .before .before in let s = start p in let e = length-take-le (within p) (now (s .args .adjusted)) (adjusted-room p) in (
+      (omega (arith, e, few p, s .pre .1 .0 .0), omega (arith, e, few p, u-long p, s .pre .0 .m-most, s .pre .1 .1 .0 .2)),
+      ((λ i l. s .pre .1 .0 .1 i (omega (arith, e, few p))), λ i l. u-small p i (omega (arith, e))),
+    )
 
 -- the adjusted directions, and what stands behind them
 module _ (c : tie.After-adjust-directions) where
@@ -127,9 +128,9 @@ returns c =
       (λ listing f same. v-differs f (t p) direction refl refl (u p) (turned a ++ rest a) (within p) (c .first-unlike .result) (past p (ownK listing) same) (few p)
           (u-is p (ownK listing) same)
           (λ i l. List·getD-append (turned a) (rest a) (pos 0) i (omega (arith, l, turned-long a))
-              ∙ ap (λ (xs : List ℤ). at xs i) (a .adjust-directions .ensures)
-              ∙ tabulate-at _ _ i (pos 0) (omega (arith, l, length-take-le (within p) (now (s .args .adjusted)) (adjusted-room p)))
-              ∙ turned-by p (ownK listing) same i l)
+          ∙ ap (λ (xs : List ℤ). at xs i) (a .adjust-directions .ensures)
+          ∙ tabulate-at _ _ i (pos 0) (omega (arith, l, length-take-le (within p) (now (s .args .adjusted)) (adjusted-room p)))
+          ∙ turned-by p (ownK listing) same i l)
           (c .first-unlike .ensures)),
       λ l. let all : t p .m ≤ within p = omega (arith, l, first-found _ (c .first-unlike .ensures)) in let k = at (now (s .args .k)) in
           record { v-is = v-is p k (λ j h. refl); u-is = λ i h. u-is p k (λ j h. refl) i (omega (arith, h, all)); u-most = λ i h. u-most p k (λ j h. refl) i (omega (arith, h, all)) },
