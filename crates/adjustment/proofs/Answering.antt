@@ -34,7 +34,7 @@ module _ {t : Table} {ks vs us rs : List ℤ} (s : Solved t ks vs us rs) where
 
   pub adjusted-list : (ds : List ℤ) → tabulate (t .m) (λ i. modulo (getD ds i (pos 0) +ℤ getD us i (pos 0)) C) ≡ tabulate (t .m) (adjusted-of t (K t) (at ds))
   adjusted-list ds =
-      tabulate-ext (t .m) (λ i. modulo (getD ds i (pos 0) +ℤ getD us i (pos 0)) C) (adjusted-of t (K t) (at ds)) (turned-is t (K t) us (s .u) (at ds))
+      tabulate-ext (t .m) (λ i. modulo (getD ds i (pos 0) +ℤ getD us i (pos 0)) C) (adjusted-of t (K t) (at ds)) (λ i l. turned-is t (K t) (at ds) us i (s .u i l))
 
   pub misses-list : tabulate (t .n) (λ j. pos 100000 *ℤ seen t j (at us) +ℤ pos 10000000 *ℤ t .w j) ≡ tabulate (t .n) (Q-of t (K t))
   misses-list =

@@ -1,5 +1,5 @@
 -- The refusals of the solution, from what the code has found. Assumes nothing.
---   V-size, V-ext                    the corrections of correlates within 10^8, and of equal correlates
+--   V-size, V-ext                    the corrections of correlates within 10^8, and of equal correlates; u-ext, adjusted-ext, R-ext, Q-ext: so all that follows
 --   same-first, each-within          of numbers tested against a limit in their order: equal ones have the same first beyond it; where none is refused, each is within it
 --   closing-is, rounding-is          of any correlates: the remainders of a list that holds their corrections are R, and its numbers rounded are u
 --   first-open, first-past           and the first beyond its limit is the same
@@ -30,7 +30,7 @@ use Rattle.reply.specs.declared.Reply.the-variants.{Accepted, Refused}
 use Rattle.reply.specs.Checks.{refuseFirst}
 use Rattle.reply.proofs.Checking.{refuse-first, accept-first, none-refused}
 use Rattle.doolittle.specs.Table.{Table, at, tableOf}
-use Rattle.doolittle.specs.Solution.{weak, K}
+use Rattle.doolittle.specs.Solution.{N, weak, K}
 use Rattle.adjustment.specs.Corrections.{V-of, R-of, u-of, adjusted-of, Q-of}
 use Rattle.adjustment.specs.Refusals.{rowsReply, correlatesReply, remaindersReply, correctionsReply, solutionReply}
 use Rattle.adjustment.specs.Demand.{seen}
@@ -52,6 +52,28 @@ V-size qs cs ws s k h i l =
 pub V-ext : (t : Table) (k k' : ℕ → ℤ) → ((j : ℕ) → j < t .n → k j ≡ k' j) → (i : ℕ) → V-of t k i ≡ V-of t k' i
 unfolding V-of
 V-ext t k k' e i = ap (λ (z : ℤ). t .q i *ℤ z) (sum-ext (t .n) (λ j. t .a j i *ℤ k j) (λ j. t .a j i *ℤ k' j) (λ j l. ap (λ (z : ℤ). t .a j i *ℤ z) (e j l)))
+
+-- and so does all that follows from it
+module _ (t : Table) (k k' : ℕ → ℤ) (e : (j : ℕ) → j < t .n → k j ≡ k' j) where
+  pub u-ext : (i : ℕ) → u-of t k i ≡ u-of t k' i
+  unfolding u-of
+  u-ext i = ap (λ (z : ℤ). nearest z (pos 100000)) (V-ext t k k' e i)
+
+  pub adjusted-ext : (direction : ℕ → ℤ) (i : ℕ) → adjusted-of t k direction i ≡ adjusted-of t k' direction i
+  unfolding adjusted-of
+  adjusted-ext direction i = ap (λ (z : ℤ). modulo (direction i +ℤ z) C) (u-ext i)
+
+  pub R-ext : (j : ℕ) → R-of t k j ≡ R-of t k' j
+  unfolding R-of
+  R-ext j =
+      ap (λ (z : ℤ). z +ℤ pos 10000000 *ℤ t .w j)
+      (sum-ext (t .n) (λ h. N t j h *ℤ k h) (λ h. N t j h *ℤ k' h) (λ h l. ap (λ (z : ℤ). N t j h *ℤ z) (e h l)))
+
+  pub Q-ext : (j : ℕ) → Q-of t k j ≡ Q-of t k' j
+  unfolding Q-of
+  Q-ext j =
+      ap (λ (z : ℤ). pos 100000 *ℤ z +ℤ pos 10000000 *ℤ t .w j)
+      (sum-ext (t .m) (λ i. t .a j i *ℤ u-of t k i) (λ i. t .a j i *ℤ u-of t k' i) (λ i l. ap (λ (z : ℤ). t .a j i *ℤ z) (u-ext i)))
 
 -- ---- numbers tested against a limit, in their order
 abbrev pub beyond : ℕ → (ℕ → ℤ) → ℕ → Bool
@@ -116,11 +138,11 @@ module _ (t : Table) where
     first-past within e = e ∙ same-first (t .m) 60000 (rounding (at vs)) (u-of t k) rounding-is
 
   -- ---- and by a list that holds what is printed of them
-  module _ (k : ℕ → ℤ) (us : List ℤ) (u : (i : ℕ) → i < t .m → at us i ≡ u-of t k i) where
-    pub turned-is : (direction : ℕ → ℤ) (i : ℕ) → i < t .m → modulo (direction i +ℤ at us i) C ≡ adjusted-of t k direction i
-    unfolding adjusted-of
-    turned-is direction i l = ap (λ (z : ℤ). modulo (direction i +ℤ z) C) (u i l)
+  pub turned-is : (k direction : ℕ → ℤ) (us : List ℤ) (i : ℕ) → at us i ≡ u-of t k i → modulo (direction i +ℤ at us i) C ≡ adjusted-of t k direction i
+  unfolding adjusted-of
+  turned-is k direction us i e = ap (λ (z : ℤ). modulo (direction i +ℤ z) C) e
 
+  module _ (k : ℕ → ℤ) (us : List ℤ) (u : (i : ℕ) → i < t .m → at us i ≡ u-of t k i) where
     pub missed-is : (j : ℕ) → pos 100000 *ℤ seen t j (at us) +ℤ pos 10000000 *ℤ t .w j ≡ Q-of t k j
     unfolding Q-of
     missed-is j =

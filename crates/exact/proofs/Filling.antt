@@ -1,10 +1,10 @@
 -- A list whose elements are replaced in their order, one a turn, from some place on. Assumes nothing.
---   tabulate-length, tabulate-at, tabulate-ext, tabulate-is       a list by its elements
+--   tabulate-length, tabulate-at, tabulate-ext, tabulate-is       a list by its elements; tabulate-more: one more at its end
 --   Filled                             from place `from` to place i the elements are those of g; the others are as they were
 --   filled-none, filled-more           before the first turn, and after one more
 --   filled-all                         after the last, from place 0
 use mathlib.Core.Path.{_≡_, refl, sym, _∙_, ap, subst}
-use mathlib.Core.List.{List, _∷_}
+use mathlib.Core.List.{List, [], _∷_, _++_}
 use Prim.Native.Nat.{ℕ, zero, suc, _+_, _<_, _≤_, zero-le}
 use native.Mathlib.Decide.{decLt}
 use native.Mathlib.Nat.{le-refl}
@@ -29,6 +29,11 @@ module _ {A : Type 0} where
   unfolding tabulate
   tabulate-ext zero g h e = refl
   tabulate-ext (suc n) g h e = λ t. e 0 (omega arith) t ∷ tabulate-ext n (λ i. g (suc i)) (λ i. h (suc i)) (λ i l. e (suc i) (omega arith)) t
+
+  pub tabulate-more : (n : ℕ) (g : ℕ → A) → tabulate (suc n) g ≡ tabulate n g ++ (g n ∷ [])
+  unfolding tabulate
+  tabulate-more zero g = refl
+  tabulate-more (suc n) g = ap (λ (rest : List A). g 0 ∷ rest) (tabulate-more n (λ i. g (suc i)))
 
 module _ {A : Type 0} (d : A) where
   pub tabulate-is : (n : ℕ) (g : ℕ → A) (xs : List A) → length xs ≡ n → ((i : ℕ) → i < n → getD xs i d ≡ g i) → xs ≡ tabulate n g

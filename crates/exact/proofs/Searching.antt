@@ -3,7 +3,9 @@
 --   first-none          n where all fail; some-at, some-none the same of `some-below`
 --   first-before        whatever lies before it fails; all-failed: where none passes, all fail
 --   first-least         no number that passes the test is below it
---   first-ext           of tests that agree below n
+--   first-ext           of tests that agree below n; first-until: of tests that agree as long as all have failed
+--   first-most, first-found      it is n at most
+--   first-either        of one test or another, where the first of the other is known
 --   from-failed, from-test, from-ext, from-none      a search that begins at j: whatever lies before j fails, from j on the test decides
 --   Failed, failed-none, failed-more       the loop's invariant: all below i fail
 --   not-both            a test does not both hold and fail
@@ -104,3 +106,50 @@ from-ext n j p r e = first-ext n (λ k. leb j k && p k) (λ k. leb j k && r k) (
 -- where none passes, none from j on does
 pub from-none : (n j : ℕ) (p : ℕ → Bool) → some-below n (λ k. leb j k && p k) ≡ false → (k : ℕ) → j ≤ k → k < n → p k ≡ false
 from-none n j p e k h l = sym (from-test j k p h) ∙ all-failed n (λ k. leb j k && p k) e k l
+
+-- ---- tests that agree as long as all have failed
+pub first-until : (n : ℕ) (p r : ℕ → Bool) → ((i : ℕ) → i < n → Failed p i → p i ≡ r i) → first n p ≡ first n r
+unfolding first
+first-until zero p r e = refl
+first-until (suc n) p r e = by-first (p 0) (r 0) refl (e 0 (omega arith) (λ h l. absurd (omega arith))) (first-until n (λ i. p (suc i)) (λ i. r (suc i)))
+  where
+    failed : (i : ℕ) → p 0 ≡ false → Failed (λ h. p (suc h)) i → Failed p (suc i)
+    failed i t f zero l = t
+    failed i t f (suc h) l = f h (omega arith)
+
+    by-first : (x y : Bool) → p 0 ≡ x → x ≡ y
+        → (((i : ℕ) → i < n → Failed (λ h. p (suc h)) i → p (suc i) ≡ r (suc i)) → first n (λ i. p (suc i)) ≡ first n (λ i. r (suc i)))
+        → cond x 0 (suc (first n (λ i. p (suc i)))) ≡ cond y 0 (suc (first n (λ i. r (suc i))))
+    by-first x y t same rec = rw (← same) (by-test x t)
+      where
+        by-test : (x : Bool) → p 0 ≡ x → cond x 0 (suc (first n (λ i. p (suc i)))) ≡ cond x 0 (suc (first n (λ i. r (suc i))))
+        by-test true t = refl
+        by-test false t = ap suc (rec (λ i l f. e (suc i) (omega arith) (failed i t f)))
+
+-- ---- one of two tests
+pub first-either : (n : ℕ) (p q : ℕ → Bool) → first n (λ i. p i || q i) ≡ first (first n q) p
+unfolding first
+first-either zero p q = refl
+first-either (suc n) p q = by-tests (p 0) refl (q 0) (first-either n (λ i. p (suc i)) (λ i. q (suc i)))
+  where
+    by-first : (a : Bool) → p 0 ≡ a → first n (λ i. p (suc i) || q (suc i)) ≡ first (first n (λ i. q (suc i))) (λ i. p (suc i))
+        → cond (a || false) 0 (suc (first n (λ i. p (suc i) || q (suc i)))) ≡ first (suc (first n (λ i. q (suc i)))) p
+    by-first true e rec = rw e
+    by-first false e rec = rw e (ap suc rec)
+
+    by-tests : (a : Bool) → p 0 ≡ a → (b : Bool) → first n (λ i. p (suc i) || q (suc i)) ≡ first (first n (λ i. q (suc i))) (λ i. p (suc i))
+        → cond (a || b) 0 (suc (first n (λ i. p (suc i) || q (suc i)))) ≡ first (cond b 0 (suc (first n (λ i. q (suc i))))) p
+    by-tests a e true rec = rw (either a true refl)
+    by-tests a e false rec = by-first a e rec
+
+pub first-most : (n : ℕ) (p : ℕ → Bool) → first n p ≤ n
+unfolding first
+first-most zero p = omega arith
+first-most (suc n) p = by-test (p 0) (first-most n (λ i. p (suc i)))
+  where
+    by-test : (b : Bool) → first n (λ i. p (suc i)) ≤ n → cond b 0 (suc (first n (λ i. p (suc i)))) ≤ suc n
+    by-test true rec = omega arith
+    by-test false rec = omega arith
+
+pub first-found : {n stop : ℕ} (p : ℕ → Bool) → stop ≡ first n p → stop ≤ n
+first-found {n} {stop} p e = omega (arith, e, first-most n p)

@@ -1,6 +1,4 @@
 -- The first bytes of a listing: from 7,298 on they are all that its form rests on. Assumes nothing.
---   begins-cut                   the word that a text's first bytes begin with
---   first-until                  the first of n tests, of tests that agree up to it
 --   line-most, start-most        a line that is the one due has at most 82 bytes with its LF; where the line behind so many lines starts
 --   heading-cut, row-cut, form-cut      the ADJ line, the lines behind it, and the reply
 --   formed-short                 a listing that is well formed has at most 7,260 bytes
@@ -12,11 +10,10 @@ use Prim.Native.Nat.{ℕ, zero, suc, _+_, _*_, _<_, _≤_}
 use native.Mathlib.Decide.{decLt}
 use native.Mathlib.Omega.{arith}
 use borrow.Author.Tests.{lt-ltb, le-ltb}
-use lib.Dec.{ltb, eqb}
+use lib.Dec.{ltb}
 use lib.IntN.{ℤ, pos, natAbs}
 use lib.ListN.{length, getD, take, length-take}
-use Rattle.exact.specs.First.{first}
-use Rattle.exact.proofs.Searching.{Failed}
+use Rattle.exact.proofs.Searching.{Failed, first-until}
 use Rattle.reply.specs.declared.Refusal.the-variants.{Sheet}
 use Rattle.reply.specs.declared.Reply.{Reply}
 use Rattle.reply.specs.declared.Reply.the-variants.{Accepted, Refused}
@@ -25,7 +22,7 @@ use Rattle.reply.proofs.Checking.{none-refused}
 use Rattle.text.specs.Parts.{placeFrom, begins}
 use Rattle.text.specs.Lines.{LF, linesOf, linesIn, lineNo, bytesOf}
 use Rattle.text.specs.Rows.{rowWithin, rowValues, missing}
-use Rattle.text.proofs.Parting.{begins-length}
+use Rattle.text.proofs.Parting.{begins-length, begins-cut}
 use Rattle.text.proofs.Splitting.{line-next}
 use Rattle.text.proofs.Stepping.{bytes-next, reached-at}
 use Rattle.text.proofs.Lining.{row-within, row-line}
@@ -33,33 +30,6 @@ use Rattle.text.proofs.Cutting.{cut-here, cut-line, cut-past, cut-reached, cut-
 use Rattle.sheet.specs.Form.{adjHead, headingOf, headingAmiss, countNo, directionsIn, conditionsIn, dueAt, rowNo, malformed, goesOn, formReply}
 use Rattle.sheet.proofs.Forming.{heading-told, heading-within, heading-reached, fields-most, none-due}
 use Rattle.sheet.proofs.Wording.{counts-row, lettered, row-there, counted, formed-as, row-found}
-
--- ---- the word that a text begins with
-begins-cut : (word text : List ℕ) (n : ℕ) → length word ≤ n → begins word (take n text) ≡ begins word text
-unfolding begins
-begins-cut [] text n l = refl
-begins-cut (w ∷ word) text zero l = absurd (omega arith)
-begins-cut (w ∷ word) [] (suc n) l = refl
-begins-cut (w ∷ word) (b ∷ text) (suc n) l = ap (λ (x : Bool). cond (eqb b w) x false) (begins-cut word text n (omega arith))
-
--- ---- tests that agree as long as all have failed
-first-until : (n : ℕ) (p r : ℕ → Bool) → ((i : ℕ) → i < n → Failed p i → p i ≡ r i) → first n p ≡ first n r
-unfolding first
-first-until zero p r e = refl
-first-until (suc n) p r e = by-first (p 0) (r 0) refl (e 0 (omega arith) (λ h l. absurd (omega arith))) (first-until n (λ i. p (suc i)) (λ i. r (suc i)))
-  where
-    failed : (i : ℕ) → p 0 ≡ false → Failed (λ h. p (suc h)) i → Failed p (suc i)
-    failed i t f zero l = t
-    failed i t f (suc h) l = f h (omega arith)
-
-    by-first : (x y : Bool) → p 0 ≡ x → x ≡ y
-        → (((i : ℕ) → i < n → Failed (λ h. p (suc h)) i → p (suc i) ≡ r (suc i)) → first n (λ i. p (suc i)) ≡ first n (λ i. r (suc i)))
-        → cond x 0 (suc (first n (λ i. p (suc i)))) ≡ cond y 0 (suc (first n (λ i. r (suc i))))
-    by-first x y t same rec = rw (← same) (by-test x t)
-      where
-        by-test : (x : Bool) → p 0 ≡ x → cond x 0 (suc (first n (λ i. p (suc i)))) ≡ cond x 0 (suc (first n (λ i. r (suc i))))
-        by-test true t = refl
-        by-test false t = ap suc (rec (λ i l f. e (suc i) (omega arith) (failed i t f)))
 
 -- ---- a place within the cut is behind the end of both or of none
 within-cut : (listing : List ℕ) (size p : ℕ) → p < size → ltb p (length (take size listing)) ≡ ltb p (length listing)

@@ -1,56 +1,26 @@
 -- The line of the first test that fails, by what the code has found. Assumes nothing.
---   first-either                           the first number at which one of two tests holds, where the first of the second is known; first-most, first-found: it is n at most
 --   other-directions, other-conditions, size-line, v-line, k-line, no-line      the line, by the first of each kind of test
 --   correlates-are, sizes-are              the correlates of the K lines, and the first that is too large
 --   pairs-differ, v-differs, k-differs     the first line of those with two numbers at which a test fails; of the V lines, and of the K lines
 --   corrected-by                           corrections by correlates that agree
-use mathlib.Core.Path.{_≡_, refl, sym, _∙_, ap, ap₂, subst}
-use mathlib.Core.Bool.{Bool, true, false, cond, not, _||_}
+use mathlib.Core.Path.{_≡_, sym, _∙_, ap, ap₂, subst}
+use mathlib.Core.Bool.{Bool, false, not, _||_}
 use mathlib.Core.List.{List, []}
-use Prim.Native.Nat.{ℕ, zero, suc, _+_, _*_, _<_, _≤_}
+use Prim.Native.Nat.{ℕ, _+_, _*_, _<_, _≤_}
 use native.Mathlib.Omega.{arith}
 use borrow.Author.Tests.{lt-ltb, le-ltb, eq-eqb, ne-eqb}
 use lib.Dec.{ltb, eqb}
 use lib.IntN.{ℤ, pos, natAbs}
-use lib.ListN.{length, getD}
-use Rattle.exact.specs.First.{first, some-below}
-use Rattle.exact.proofs.Searching.{first-ext, either}
+use lib.ListN.{getD}
+use Rattle.exact.specs.First.{first}
+use Rattle.exact.proofs.Searching.{first-ext, first-either, either}
 use Rattle.doolittle.specs.Table.{Table, at}
 use Rattle.adjustment.specs.Corrections.{R-of, u-of, adjusted-of, Q-of}
-use Rattle.exact.specs.Nearest.{nearest}
-use Rattle.adjustment.proofs.Solving.{beyond, V-ext}
-use Rattle.sheet.specs.Form.{directionsIn, conditionsIn, fieldsDue, fieldNo, ownU, ownAdjusted, ownK, ownR, ownQ}
-use Rattle.sheet.specs.Check.{unlike, firstLine, countsDiffer, correlateTooLarge, directionDiffers, conditionDiffers, disagreement}
+use Rattle.adjustment.proofs.Solving.{beyond, V-ext, u-ext}
+use Rattle.sheet.specs.Form.{directionsIn, conditionsIn, fieldNo, ownU, ownAdjusted, ownK, ownR, ownQ}
+use Rattle.sheet.specs.Check.{unlike, countsDiffer, correlateTooLarge, directionDiffers, conditionDiffers, disagreement}
 use Rattle.sheet.specs.Inner.{numberAt, pairUnlike, WellFormed, Corrected}
 use Rattle.sheet.proofs.Forming.{due-v, due-k}
-
--- ---- one of two tests
-pub first-either : (n : ℕ) (p q : ℕ → Bool) → first n (λ i. p i || q i) ≡ first (first n q) p
-unfolding first
-first-either zero p q = refl
-first-either (suc n) p q = by-tests (p 0) refl (q 0) (first-either n (λ i. p (suc i)) (λ i. q (suc i)))
-  where
-    by-first : (a : Bool) → p 0 ≡ a → first n (λ i. p (suc i) || q (suc i)) ≡ first (first n (λ i. q (suc i))) (λ i. p (suc i))
-        → cond (a || false) 0 (suc (first n (λ i. p (suc i) || q (suc i)))) ≡ first (suc (first n (λ i. q (suc i)))) p
-    by-first true e rec = rw e
-    by-first false e rec = rw e (ap suc rec)
-
-    by-tests : (a : Bool) → p 0 ≡ a → (b : Bool) → first n (λ i. p (suc i) || q (suc i)) ≡ first (first n (λ i. q (suc i))) (λ i. p (suc i))
-        → cond (a || b) 0 (suc (first n (λ i. p (suc i) || q (suc i)))) ≡ first (cond b 0 (suc (first n (λ i. q (suc i))))) p
-    by-tests a e true rec = rw (either a true refl)
-    by-tests a e false rec = by-first a e rec
-
-pub first-most : (n : ℕ) (p : ℕ → Bool) → first n p ≤ n
-unfolding first
-first-most zero p = omega arith
-first-most (suc n) p = by-test (p 0) (first-most n (λ i. p (suc i)))
-  where
-    by-test : (b : Bool) → first n (λ i. p (suc i)) ≤ n → cond b 0 (suc (first n (λ i. p (suc i)))) ≤ suc n
-    by-test true rec = omega arith
-    by-test false rec = omega arith
-
-pub first-found : {n stop : ℕ} (p : ℕ → Bool) → stop ≡ first n p → stop ≤ n
-first-found {n} {stop} p e = omega (arith, e, first-most n p)
 
 -- ---- the line
 module _ (t : Table) (direction : ℕ → ℤ) (listing : List ℕ) where
@@ -149,9 +119,8 @@ module _ {listing : List ℕ} {m n : ℕ} {x : List ℤ} (f : WellFormed listing
 
 -- ---- corrections of correlates that agree in all conditions
 pub corrected-by : (t : Table) (k k' : ℕ → ℤ) (v u : List ℤ) → ((j : ℕ) → j < t .n → k j ≡ k' j) → Corrected t k v u → Corrected t k' v u
-unfolding u-of
 corrected-by t k k' v u e c = record {
   v-is = λ i l. c .v-is i l ∙ V-ext t k k' e i;
-  u-is = λ i l. c .u-is i l ∙ ap (λ (z : ℤ). nearest z (pos 100000)) (V-ext t k k' e i);
-  u-most = λ i l. subst (λ (z : ℤ). natAbs (nearest z (pos 100000)) ≤ 60000) (V-ext t k k' e i) (c .u-most i l);
+  u-is = λ i l. c .u-is i l ∙ u-ext t k k' e i;
+  u-most = λ i l. subst (λ (z : ℤ). natAbs z ≤ 60000) (u-ext t k k' e i) (c .u-most i l);
 }

@@ -29,20 +29,19 @@ use Rattle.exact.proofs.Linear.{unknowns, orders, one-sided}
 use Rattle.exact.proofs.Order.{lt-false, lt-le, from-one}
 use Rattle.exact.proofs.Searching.{Failed, failed-none, failed-more, neither, either}
 use Rattle.reply.specs.declared.Refusal.the-variants.{Sheet}
-use Rattle.reply.specs.declared.Reply.the-variants.{Accepted, Refused}
+use Rattle.reply.specs.declared.Reply.the-variants.{Refused}
 use Rattle.reply.proofs.Checking.{refuse-at, refuse-none}
 use Rattle.condition.specs.Sound.{Number}
 use Rattle.text.specs.Parts.{bytesBefore, placeFrom, parted, begins}
 use Rattle.text.specs.Lines.{LF, lineAt, lineNo, linesOf, bytesOf}
 use Rattle.text.specs.Fields.{fieldsOf, fieldAt, letterOf}
 use Rattle.text.specs.Rows.{behindWithin, rowWithin, letteredWithin, rowValues, missing, endOf}
-use Rattle.text.specs.declared.row.RowEnd.{RowEnd}
 use Rattle.text.specs.declared.row.RowEnd.the-variants.{Next, NoRow}
 use Rattle.text.proofs.Parting.{begins-split}
 use Rattle.text.proofs.Sparing.{before-free}
 use Rattle.text.proofs.Stepping.{Reached, reached-none, line-here, reached-more, line-missing}
 use Rattle.text.proofs.Lining.{row-within, behind-within}
-use Rattle.sheet.specs.Form.{adjHead, headingOf, headingAmiss, countNo, directionsIn, conditionsIn, letterDue, fieldsDue, numberDue, numbered, dueAt, rowNo, malformed, goesOn, formReply, fieldNo}
+use Rattle.sheet.specs.Form.{adjHead, headingOf, headingAmiss, countNo, letterDue, fieldsDue, numberDue, numbered, dueAt, rowNo, malformed, goesOn, formReply, fieldNo}
 use Rattle.sheet.specs.Inner.{dueFrom, Headed, numberAt, Entered, WellFormed}
 
 -- two answers of which one has numbers

@@ -3,15 +3,14 @@
 --   table-sound, directions-sound      of the table that stands in the first places of lent lists: it is sound
 --   compared                           the opinion by the line of the first test that fails
 --   answer-most, no-answer, answered   an answer has 52 bytes at most; `print` with a buffer that is too short, and by `check`
-use mathlib.Core.Path.{_≡_, refl, sym, _∙_, ap, subst}
-use mathlib.Core.List.{List, []}
-use Prim.Native.Nat.{ℕ, zero, suc, _+_, _*_, _≤_, _<_}
+use mathlib.Core.Path.{_≡_, refl, sym, _∙_, ap}
+use mathlib.Core.List.{List}
+use Prim.Native.Nat.{ℕ, _*_, _≤_, _<_}
 use native.Mathlib.Omega.{arith}
 use borrow.Author.Tests.{lt-ltb, le-ltb}
 use lib.IntN.{ℤ}
 use lib.ListN.{length, take, length-append}
 use Rattle.reply.specs.declared.Refusal.{Refusal}
-use Rattle.reply.specs.declared.Reply.{Reply}
 use Rattle.reply.specs.declared.Reply.the-variants.{Accepted, Refused}
 use Rattle.reply.specs.Numbers.{numberOf, placeOf}
 use Rattle.reply.specs.Verdicts.{verdictOf}
@@ -28,7 +27,7 @@ use Rattle.listing.specs.File.{tableIn}
 use Rattle.sheet.specs.declared.Opinion.{Opinion}
 use Rattle.sheet.specs.declared.Opinion.the-variants.{Yes, No, Refused as Unchecked}
 use Rattle.sheet.specs.Form.{formReply}
-use Rattle.sheet.specs.Check.{disagreement, opinionAt, checkReply, opinionIf, opinionOf}
+use Rattle.sheet.specs.Check.{disagreement, opinionAt, checkReply, opinionOf}
 use Rattle.sheet.specs.Promise.{opinionReply, Checks}
 use Rattle.sheet.specs.Answer.{answerLine, answerIn}
 use Rattle.sheet.proofs.Judging.{net-passed, yes-demand3, yes-within-minute}

@@ -19,13 +19,11 @@ use lib.IntN.{ℤ, pos, natAbs, _+ℤ_, _*ℤ_}
 use lib.ListN.{take}
 use lib.Seq.{take-all}
 use Rattle.exact.specs.Sum.{sum}
-use Rattle.exact.specs.Nearest.{nearest}
-use Rattle.exact.specs.Circle.{C, modulo}
+use Rattle.exact.specs.Circle.{C}
 use Rattle.exact.specs.Tabulate.{tabulate}
 use Rattle.exact.proofs.Bound.{abs-add}
 use Rattle.exact.proofs.Circles.{modulo-size}
 use Rattle.exact.proofs.Filling.{tabulate-length, tabulate-at, tabulate-ext}
-use Rattle.exact.proofs.Sum.{sum-ext}
 use Rattle.reply.specs.declared.Refusal.{Refusal}
 use Rattle.reply.specs.declared.Refusal.the-variants.{Correlate}
 use Rattle.reply.specs.declared.Reply.{Reply}
@@ -33,12 +31,12 @@ use Rattle.reply.specs.declared.Reply.the-variants.{Accepted, Refused}
 use Rattle.reply.specs.Checks.{_andThen_}
 use Rattle.reply.proofs.Checking.{both-accepted, none-refused}
 use Rattle.doolittle.specs.Table.{Table, at}
-use Rattle.doolittle.specs.Solution.{N, K}
+use Rattle.doolittle.specs.Solution.{K}
 use Rattle.doolittle.proofs.Sizes.{sum-within, product-size}
 use Rattle.adjustment.specs.Corrections.{V-of, R-of, u-of, adjusted-of, Q-of}
 use Rattle.adjustment.specs.Refusals.{rowsReply, correlatesReply, remaindersReply, correctionsReply, solutionReply}
 use Rattle.adjustment.specs.Promise.{answersOf}
-use Rattle.adjustment.proofs.Solving.{V-ext}
+use Rattle.adjustment.proofs.Solving.{V-ext, u-ext, adjusted-ext, R-ext, Q-ext}
 use Rattle.text.specs.Lines.{linesOf}
 use Rattle.network.specs.Scan.{scanReply}
 use Rattle.network.specs.Net.{Net, netOf, netFrom, formedReply, tableReply}
@@ -60,34 +58,14 @@ use Rattle.sheet.proofs.Clipping.{form-cut, formed-short}
 
 -- ---- what follows from equal correlates of the n conditions
 module _ (t : Table) (k k' : ℕ → ℤ) (e : (j : ℕ) → j < t .n → k j ≡ k' j) where
-  u-ext : (i : ℕ) → u-of t k i ≡ u-of t k' i
-  unfolding u-of
-  u-ext i = ap (λ (z : ℤ). nearest z (pos 100000)) (V-ext t k k' e i)
-
-  adjusted-ext : (direction : ℕ → ℤ) (i : ℕ) → adjusted-of t k direction i ≡ adjusted-of t k' direction i
-  unfolding adjusted-of
-  adjusted-ext direction i = ap (λ (z : ℤ). modulo (direction i +ℤ z) C) (u-ext i)
-
-  R-ext : (j : ℕ) → R-of t k j ≡ R-of t k' j
-  unfolding R-of
-  R-ext j =
-      ap (λ (z : ℤ). z +ℤ pos 10000000 *ℤ t .w j)
-      (sum-ext (t .n) (λ h. N t j h *ℤ k h) (λ h. N t j h *ℤ k' h) (λ h l. ap (λ (z : ℤ). N t j h *ℤ z) (e h l)))
-
-  Q-ext : (j : ℕ) → Q-of t k j ≡ Q-of t k' j
-  unfolding Q-of
-  Q-ext j =
-      ap (λ (z : ℤ). pos 100000 *ℤ z +ℤ pos 10000000 *ℤ t .w j)
-      (sum-ext (t .m) (λ i. t .a j i *ℤ u-of t k i) (λ i. t .a j i *ℤ u-of t k' i) (λ i l. ap (λ (z : ℤ). t .a j i *ℤ z) (u-ext i)))
-
   pub answers-ext : (direction : ℕ → ℤ) → answersOf t k direction ≡ answersOf t k' direction
   answers-ext direction = λ x. record {
     corrections = tabulate-ext (t .m) (V-of t k) (V-of t k') (λ i l. V-ext t k k' e i) x;
-    printed = tabulate-ext (t .m) (u-of t k) (u-of t k') (λ i l. u-ext i) x;
-    adjusted = tabulate-ext (t .m) (adjusted-of t k direction) (adjusted-of t k' direction) (λ i l. adjusted-ext direction i) x;
+    printed = tabulate-ext (t .m) (u-of t k) (u-of t k') (λ i l. u-ext t k k' e i) x;
+    adjusted = tabulate-ext (t .m) (adjusted-of t k direction) (adjusted-of t k' direction) (λ i l. adjusted-ext t k k' e direction i) x;
     correlates = tabulate-ext (t .n) k k' e x;
-    remainders = tabulate-ext (t .n) (R-of t k) (R-of t k') (λ j l. R-ext j) x;
-    misses = tabulate-ext (t .n) (Q-of t k) (Q-of t k') (λ j l. Q-ext j) x;
+    remainders = tabulate-ext (t .n) (R-of t k) (R-of t k') (λ j l. R-ext t k k' e j) x;
+    misses = tabulate-ext (t .n) (Q-of t k) (Q-of t k') (λ j l. Q-ext t k k' e j) x;
   }
 
 -- ---- correlates within their limits, with the remainders and the corrections that they give

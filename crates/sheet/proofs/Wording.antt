@@ -12,7 +12,6 @@ use mathlib.Core.Bool.{Bool, true, false, cond}
 use mathlib.Core.List.{List, [], _∷_, _++_, append-assoc, append-nil}
 use mathlib.Core.Option.{Option, none, some}
 use Prim.Native.Nat.{ℕ, zero, suc, _+_, _-_, _<_, _≤_, _^_}
-use native.Mathlib.Nat.{add-zero}
 use native.Mathlib.Numerals.{add-one}
 use native.Mathlib.Decide.{decLt}
 use native.Mathlib.Omega.{arith}
@@ -40,21 +39,11 @@ use Rattle.text.specs.Rows.{behindWithin, rowValues, missing}
 use Rattle.text.proofs.Parting.{begins-split}
 use Rattle.text.proofs.Sparing.{Free, free-both, line-free}
 use Rattle.text.proofs.Stepping.{no-line, line-split, reached-at}
-use Rattle.text.proofs.Stacking.{stacked, order-ext, lines-first, stacked-count, stacked-no, stacked-bytes}
+use Rattle.text.proofs.Stacking.{stacked, order-ext, order-both, lines-first, stacked-count, stacked-no, stacked-bytes}
 use Rattle.text.proofs.Lining.{Sized, Row, row-line, Lettered, letter-told, row-free, letter-free, letter-read, row-read}
 use Rattle.listing.specs.Listing.{adjLine, vLine, kLine, vLineOf, kLineOf, acceptedListing}
 use Rattle.sheet.specs.Form.{adjHead, headingOf, headingAmiss, countNo, directionsIn, conditionsIn, letterDue, fieldsDue, numberDue, numbered, dueAt, rowNo, malformed, goesOn, formReply, fieldNo, ownU, ownAdjusted, ownK, ownR, ownQ}
 use Rattle.sheet.proofs.Forming.{heading-told, heading-within, letter-some, none-due, numbered-some}
-
--- ---- lines in their order
-order-both : (a b : ℕ) (f : ℕ → List ℕ) → inOrder (a + b) f ≡ inOrder a f ++ inOrder b (λ i. f (a + i))
-unfolding inOrder
-order-both a zero f = ap (λ (n : ℕ). inOrder n f) (add-zero a) ∙ sym (append-nil (inOrder a f))
-order-both a (suc b) f =
-    let on : a + suc b ≡ suc (a + b) = omega arith in
-    ap (λ (n : ℕ). inOrder n f) on
-    ∙ ap (λ (s : List ℕ). s ++ f (a + b)) (order-both a b f)
-    ∙ append-assoc (inOrder a f) (inOrder b (λ i. f (a + i))) (f (a + b))
 
 -- ---- two, three and four fields, and the end of the line
 two-fields : (a b : List ℕ) → (a ++ (9 ∷ (b ++ []))) ++ lineEnd ≡ a ++ (9 ∷ (b ++ lineEnd))

@@ -4,7 +4,6 @@ use mathlib.Core.Bool.{Bool, true, false, _||_}
 use mathlib.Core.List.{List}
 use mathlib.Core.Option.{Option}
 use Prim.Native.Nat.{ℕ, _+_, _*_, _≤_, _<_}
-use lib.Dec.{ltb}
 use lib.IntN.{ℤ, pos, natAbs}
 use lib.ListN.{length, getD}
 use Rattle.reply.specs.declared.Refusal.the-variants.{Sheet}
@@ -12,9 +11,8 @@ use Rattle.reply.specs.declared.Reply.the-variants.{Accepted, Refused}
 use Rattle.doolittle.specs.Table.{Table}
 use Rattle.adjustment.specs.Corrections.{V-of, u-of}
 use Rattle.text.specs.Parts.{placeFrom, begins}
-use Rattle.text.specs.Lines.{LF, lineAt}
-use Rattle.text.specs.Rows.{letteredWithin, endOf}
-use Rattle.text.specs.declared.row.RowEnd.{RowEnd}
+use Rattle.text.specs.Lines.{LF}
+use Rattle.text.specs.Rows.{letteredWithin}
 use Rattle.sheet.specs.declared.form.Form.{Form}
 use Rattle.sheet.specs.declared.form.Form.the-variants.{Lines, Malformed}
 use Rattle.sheet.specs.Check.{unlike}

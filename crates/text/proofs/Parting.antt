@@ -6,10 +6,10 @@
 --   begins-all, begins-short               a text begins with no word's end; and with no word that goes on behind it
 --   begins-more, begins-other              one byte more of the word, by what stands there in the text
 --   begins-length, begins-word             a word is no longer than a text that begins with it; a word and a byte, and what stands behind them
-use mathlib.Core.Path.{_≡_, refl, sym, ap₂}
+use mathlib.Core.Path.{_≡_, refl, sym, ap, ap₂}
 use mathlib.Core.Bool.{Bool, true, false, cond}
 use mathlib.Core.List.{List, [], _∷_, _++_}
-use Prim.Native.Nat.{ℕ, suc, _+_, _<_, _≤_}
+use Prim.Native.Nat.{ℕ, zero, suc, _+_, _<_, _≤_}
 use native.Mathlib.Numerals.{add-one}
 use native.Mathlib.Nat.{add-zero, add-assoc}
 use native.Mathlib.Omega.{arith}
@@ -139,3 +139,10 @@ unfolding begins
 begins-split [] text e = refl
 begins-split (w ∷ word) [] e = not-both (sym e)
 begins-split (w ∷ word) (b ∷ text) e = split-word b w word text (eqb b w) refl (begins-split word text) e
+
+pub begins-cut : (word text : List ℕ) (n : ℕ) → length word ≤ n → begins word (take n text) ≡ begins word text
+unfolding begins
+begins-cut [] text n l = refl
+begins-cut (w ∷ word) text zero l = absurd (omega arith)
+begins-cut (w ∷ word) [] (suc n) l = refl
+begins-cut (w ∷ word) (b ∷ text) (suc n) l = ap (λ (x : Bool). cond (eqb b w) x false) (begins-cut word text n (omega arith))

@@ -1,6 +1,6 @@
 -- Lines in their order, each with its LF, as a text: its lines are they. Assumes nothing.
 --   stacked                              such a text
---   tabulate-more, order-ext             one element more at the end of a list; equal lines in their order are the same text
+--   order-ext, order-both                equal lines in their order are the same text; some lines, and others behind them
 --   stacked-long, bytes-stacked          such a text has at least a byte to a line, and as many bytes as its lines have
 --   lines-first, lines-stacked           the lines of a text that begins with a line, or with lines in their order
 --   line-before                          line h of such a text
@@ -11,22 +11,18 @@ use mathlib.Core.Path.{_≡_, refl, sym, _∙_, ap}
 use mathlib.Core.Bool.{false}
 use mathlib.Core.List.{List, [], _∷_, _++_, append-assoc, append-nil}
 use Prim.Native.Nat.{ℕ, zero, suc, _+_, _<_, _≤_}
+use native.Mathlib.Nat.{add-zero}
 use native.Mathlib.Omega.{arith}
 use borrow.Author.Tests.{le-ltb}
 use lib.ListN.{length, getD, take, drop, length-append, List·getD-append}
 use lib.Seq.{append-snoc, take-append-seam, drop-append-seam, take-at, drop-at}
 use Rattle.exact.specs.Tabulate.{tabulate}
-use Rattle.exact.proofs.Filling.{tabulate-length, tabulate-at}
+use Rattle.exact.proofs.Filling.{tabulate-length, tabulate-at, tabulate-more}
 use Rattle.text.specs.Parts.{parted}
 use Rattle.text.specs.Lines.{LF, linesOf, linesIn, lineNo, bytesOf, unended}
 use Rattle.text.specs.Written.{lineEnd, inOrder}
 use Rattle.text.proofs.Sparing.{Free, part-first}
 use Rattle.text.proofs.Stepping.{Reached, bytes-append}
-
-pub tabulate-more : {A : Type 0} (n : ℕ) (g : ℕ → A) → tabulate (suc n) g ≡ tabulate n g ++ (g n ∷ [])
-unfolding tabulate
-tabulate-more zero g = refl
-tabulate-more (suc n) g = ap (λ (rest : List _). g 0 ∷ rest) (tabulate-more n (λ i. g (suc i)))
 
 -- n lines in their order, each with its LF
 abbrev pub stacked : ℕ → (ℕ → List ℕ) → List ℕ
@@ -36,6 +32,15 @@ pub order-ext : (n : ℕ) (f g : ℕ → List ℕ) → ((h : ℕ) → h < n → 
 unfolding inOrder
 order-ext zero f g e = refl
 order-ext (suc n) f g e = rw (order-ext n f g (λ h l. e h (omega arith)), e n (omega arith))
+
+pub order-both : (a b : ℕ) (f : ℕ → List ℕ) → inOrder (a + b) f ≡ inOrder a f ++ inOrder b (λ i. f (a + i))
+unfolding inOrder
+order-both a zero f = ap (λ (n : ℕ). inOrder n f) (add-zero a) ∙ sym (append-nil (inOrder a f))
+order-both a (suc b) f =
+    let on : a + suc b ≡ suc (a + b) = omega arith in
+    ap (λ (n : ℕ). inOrder n f) on
+    ∙ ap (λ (s : List ℕ). s ++ f (a + b)) (order-both a b f)
+    ∙ append-assoc (inOrder a f) (inOrder b (λ i. f (a + i))) (f (a + b))
 
 -- ---- how many bytes they have
 pub stacked-long : (n : ℕ) (l : ℕ → List ℕ) → n ≤ length (stacked n l)

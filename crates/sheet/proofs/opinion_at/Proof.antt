@@ -1,7 +1,6 @@
 -- `opinion_at` meets its contract. Assumes nothing.
 use mathlib.Core.Path.{_≡_, refl}
 use Prim.Native.Nat.{ℕ, zero, suc}
-use native.Mathlib.Omega.{arith}
 use borrow.Author.Needs.{needs}
 use Rattle.sheet.specs.declared.Opinion.the-variants.{No}
 use Rattle.sheet.specs.Check.{opinionAt}

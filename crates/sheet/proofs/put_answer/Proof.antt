@@ -1,8 +1,6 @@
 -- `put_answer` meets its contract. Assumes nothing.
-use mathlib.Core.Path.{_≡_, refl, sym, _∙_, ap}
-use native.Mathlib.Omega.{arith}
+use mathlib.Core.Path.{sym, _∙_, ap}
 use borrow.Author.Needs.{needs}
-use denote.Ref.{now}
 use Rattle.reply.specs.declared.Verdict.{Verdict}
 use Rattle.text.proofs.Putting.{then, rewrote}
 use Rattle.page.specs.Lines.{refusedLine}

@@ -1,7 +1,6 @@
 -- `put_no` meets its contract. Assumes nothing.
 use native.Mathlib.Omega.{arith}
 use borrow.Author.Needs.{needs}
-use denote.Ref.{now}
 use Rattle.text.proofs.Putting.{then, come, come-on, count-on}
 use Rattle.sheet.proofs.put_no.Statement.{statement}
 use Rattle.sheet.proofs.put_no.Tie as tie

@@ -1,19 +1,18 @@
 -- `compare::first_condition` meets its contract. Assumes nothing.
 use mathlib.Core.Path.{_≡_, refl, _∙_, ap}
 use mathlib.Core.List.{List}
-use Prim.Native.Nat.{ℕ, _≤_, _<_}
+use Prim.Native.Nat.{ℕ, _≤_}
 use native.Mathlib.Omega.{arith}
 use borrow.Author.Needs.{needs}
 use denote.Ref.{now}
 use lib.IntN.{ℤ, pos}
-use lib.ListN.{length, getD}
+use lib.ListN.{length}
 use Rattle.exact.proofs.Filling.{tabulate-at}
+use Rattle.exact.proofs.Searching.{first-found}
 use Rattle.doolittle.specs.Table.{Table, at, tableOf}
-use Rattle.adjustment.specs.Corrections.{R-of, Q-of}
 use Rattle.adjustment.proofs.Solving.{closing-is, first-open, missed-is}
 use Rattle.sheet.specs.Form.{ownK}
-use Rattle.sheet.specs.Inner.{WellFormed, Corrected}
-use Rattle.sheet.proofs.Comparing.{first-found, k-differs}
+use Rattle.sheet.proofs.Comparing.{k-differs}
 use Rattle.sheet.proofs.compare.first_condition.Statement.{statement}
 use Rattle.sheet.proofs.compare.first_condition.Tie as tie
 

@@ -6,19 +6,17 @@ use native.Mathlib.Omega.{arith}
 use borrow.Author.Needs.{needs}
 use borrow.Author.Tests.{ltb-false}
 use denote.Ref.{now}
-use lib.IntN.{ℤ, pos, natAbs, _+ℤ_}
+use lib.IntN.{ℤ, pos, natAbs}
 use lib.ListN.{length, drop, length-append, List·getD-append}
 use lib.Seq.{length-take-le}
 use Rattle.exact.specs.First.{first}
-use Rattle.exact.specs.Circle.{C, modulo}
 use Rattle.exact.proofs.Filling.{tabulate-at}
-use Rattle.exact.proofs.Searching.{first-before}
+use Rattle.exact.proofs.Searching.{first-before, first-found}
 use Rattle.doolittle.specs.Table.{Table, at, tableOf}
-use Rattle.adjustment.specs.Corrections.{V-of, u-of, adjusted-of}
-use Rattle.adjustment.proofs.Solving.{beyond, V-ext, rounding-is, first-past}
+use Rattle.adjustment.specs.Corrections.{V-of, u-of}
+use Rattle.adjustment.proofs.Solving.{beyond, V-ext, rounding-is, first-past, turned-is}
 use Rattle.sheet.specs.Form.{ownK}
-use Rattle.sheet.specs.Inner.{WellFormed, Corrected}
-use Rattle.sheet.proofs.Comparing.{first-found, v-differs}
+use Rattle.sheet.proofs.Comparing.{v-differs}
 use Rattle.sheet.proofs.compare.first_direction.Statement.{statement}
 use Rattle.sheet.proofs.compare.first_direction.Tie as tie
 
@@ -70,10 +68,6 @@ module _ (c : tie.After-print-corrections) where
 
     u-most : (i : ℕ) → i < within → natAbs (u-of t k i) ≤ 60000
     u-most i l = ltb-false 60000 (natAbs (u-of t k i)) (first-before (t .m) (beyond 60000 (u-of t k)) i (omega (arith, past)))
-
-    turned-by : (i : ℕ) → i < within → modulo (at (now (start .args .directions)) i +ℤ at u i) C ≡ adjusted-of t k (at (now (start .args .directions))) i
-    unfolding adjusted-of
-    turned-by i l = ap (λ (z : ℤ). modulo (at (now (start .args .directions)) i +ℤ z) C) (u-is i l)
 
   u-small : (i : ℕ) → i < within → natAbs (at u i) ≤ 60000
   u-small i l = let k = at (now (start .args .k)) in rw (u-is k (λ j h. refl) i l) (u-most k (λ j h. refl) i l)
@@ -130,7 +124,7 @@ returns c =
           (λ i l. List·getD-append (turned a) (rest a) (pos 0) i (omega (arith, l, turned-long a))
           ∙ ap (λ (xs : List ℤ). at xs i) (a .adjust-directions .ensures)
           ∙ tabulate-at _ _ i (pos 0) (omega (arith, l, length-take-le (within p) (now (s .args .adjusted)) (adjusted-room p)))
-          ∙ turned-by p (ownK listing) same i l)
+          ∙ turned-is (t p) (ownK listing) direction (u p) i (u-is p (ownK listing) same i l))
           (c .first-unlike .ensures)),
       λ l. let all : t p .m ≤ within p = omega (arith, l, first-found _ (c .first-unlike .ensures)) in let k = at (now (s .args .k)) in
           record { v-is = v-is p k (λ j h. refl); u-is = λ i h. u-is p k (λ j h. refl) i (omega (arith, h, all)); u-most = λ i h. u-most p k (λ j h. refl) i (omega (arith, h, all)) },

@@ -1,6 +1,6 @@
 -- `form::read` meets its contract. Assumes nothing.
-use mathlib.Core.Path.{_≡_, refl, sym, _∙_, ap, subst}
-use mathlib.Core.Bool.{true, false}
+use mathlib.Core.Path.{_≡_, sym, _∙_, ap, subst}
+use mathlib.Core.Bool.{false}
 use mathlib.Core.List.{List}
 use mathlib.Core.Option.{some}
 use Prim.Native.Nat.{ℕ, _+_}
@@ -20,7 +20,6 @@ use Rattle.text.specs.Parts.{placeFrom}
 use Rattle.text.specs.Lines.{LF}
 use Rattle.text.proofs.Rowing.{told-some, told-none}
 use Rattle.sheet.specs.Form.{headingOf}
-use Rattle.sheet.specs.Inner.{Headed}
 use Rattle.sheet.proofs.Forming.{none-refused, first-refused, second-refused, directions-number, conditions-number, headed}
 use Rattle.sheet.proofs.form.read.Statement.{statement}
 use Rattle.sheet.proofs.form.read.Tie as tie
