@@ -34,13 +34,13 @@ use Rattle.doolittle.specs.Table.{at}
 use Rattle.text.specs.Decimal.{digitsOf, written}
 use Rattle.text.specs.Parts.{bytesBefore, placeFrom, begins}
 use Rattle.text.specs.Lines.{LF, lineAt, linesOf, linesIn, lineNo, bytesOf}
-use Rattle.text.specs.Written.{signedFields, signedRow, lineEnd, inOrder}
+use Rattle.text.specs.Written.{lineEnd, inOrder}
 use Rattle.text.specs.Rows.{behindWithin, rowValues, missing}
 use Rattle.text.proofs.Parting.{begins-split}
 use Rattle.text.proofs.Sparing.{Free, free-both, line-free}
 use Rattle.text.proofs.Stepping.{no-line, line-split, reached-at}
 use Rattle.text.proofs.Stacking.{stacked, order-ext, order-both, lines-first, stacked-count, stacked-no, stacked-bytes}
-use Rattle.text.proofs.Lining.{Sized, Row, row-line, Lettered, letter-told, row-free, letter-free, letter-read, row-read}
+use Rattle.text.proofs.Lining.{signedFields, signedRow, Sized, Row, row-line, Lettered, letter-told, row-free, letter-free, letter-read, row-read}
 use Rattle.listing.specs.Listing.{adjLine, vLine, kLine, vLineOf, kLineOf, acceptedListing}
 use Rattle.sheet.specs.Form.{adjHead, headingOf, headingAmiss, countNo, directionsIn, conditionsIn, letterDue, fieldsDue, numberDue, numbered, dueAt, rowNo, malformed, goesOn, formReply, fieldNo, ownU, ownAdjusted, ownK, ownR, ownQ}
 use Rattle.sheet.proofs.Forming.{heading-told, heading-within, letter-some, none-due, numbered-some}

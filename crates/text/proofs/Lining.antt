@@ -1,4 +1,5 @@
 -- Lines of numbers: what is read as numbers is their text, and their text is read as them. Assumes nothing.
+--   signedFields, signedRow                   the text of numbers
 --   Sized                                     numbers of at most so many digits each
 --   Row, numbers-told                         a line that is read as numbers: it is their text, and no longer than so many digits ask for
 --   Lettered, letter-told                     the same of numbers behind a letter
@@ -27,7 +28,7 @@ use Rattle.text.specs.Fields.{TAB, fieldsOf, fieldAt, letterOf}
 use Rattle.text.specs.Numbers.{numeralWithin}
 use Rattle.text.specs.Rows.{before, numbersWithin, behindWithin, rowWithin, letteredWithin}
 use Rattle.text.specs.Decimal.{written}
-use Rattle.text.specs.Written.{signedFields, signedRow, lineEnd}
+use Rattle.text.specs.Written.{signedField, lineEnd}
 use Rattle.text.specs.declared.number.Number.{Number}
 use Rattle.text.specs.declared.number.Number.the-variants.{Value, Malformed}
 use Rattle.text.proofs.Spanning.{High, numeral-high}
@@ -37,6 +38,14 @@ use Rattle.text.proofs.Lettering.{long-field}
 use Rattle.text.proofs.Stepping.{line-cut}
 use Rattle.text.proofs.ReadingBack.{reads-back, few-digits}
 use Rattle.text.proofs.WritingBack.{writes-back, numeral-small, numeral-short}
+
+-- fields one after another; without the tab in front they are a row of numbers
+unfoldable pub signedFields : List ℤ → List ℕ
+signedFields [] = []
+signedFields (z ∷ zs) = signedField z ++ signedFields zs
+
+abbrev pub signedRow : List ℤ → List ℕ
+signedRow zs = drop 1 (signedFields zs)
 
 unfoldable pub Sized : (most : ℕ) → List ℤ → Type 0
 Sized most [] = Unit {0}
