@@ -1,6 +1,6 @@
 -- What the two numbers that C is told of another office's sheet say: 0 and 0 is a yes, and nothing else is. Assumes nothing.
---   zero-is-yes          of the rules' opinions only yes is told so: a no has a line, and lines count from 1
---   yes-demand3          a sheet that is told so meets demand 3, and none of its corrections is past one minute
+--   zeros-are-yes          of the rules' opinions only yes is told so: a no has a line, and lines count from 1
+--   zeros-demand3          a sheet that is told so meets demand 3, and none of its corrections is past one minute
 use mathlib.Core.Path.{_≡_, refl, sym, _∙_, ap}
 use mathlib.Core.List.{List}
 use Prim.Native.Nat.{ℕ, zero, suc}
@@ -24,12 +24,12 @@ by-reply Accepted zero before accepted none = refl
 by-reply Accepted (suc line) before accepted none = absurd (omega (arith, none))
 by-reply (Refused why) line before accepted none = absurd (no-refusal-is-0 why accepted)
 
-pub zero-is-yes : (net listing : List ℕ) (before : ℕ) → verdictOf (opinionReply (opinionOf net listing)) .number ≡ 0 → opinionLeaves (opinionOf net listing) before ≡ 0 → opinionOf net listing ≡ Yes
+pub zeros-are-yes : (net listing : List ℕ) (before : ℕ) → verdictOf (opinionReply (opinionOf net listing)) .number ≡ 0 → opinionLeaves (opinionOf net listing) before ≡ 0 → opinionOf net listing ≡ Yes
 unfolding opinionOf
-zero-is-yes net listing before accepted none =
+zeros-are-yes net listing before accepted none =
     let given = netOf (linesOf net) in by-reply (checkReply net listing) (disagreement (tableIn given) (at (given .directions)) listing) before accepted none
 
-pub yes-demand3 : (net listing : List ℕ) (before after : ℕ) (v : Verdict) → SheetChecked net listing before v after → v .number ≡ 0 → after ≡ 0 → SheetDemand3 net listing × SheetWithinMinute net listing
-yes-demand3 net listing before after v c accepted none =
-    let yes = zero-is-yes net listing before (sym (ap (λ (v : Verdict). v .number) (c .verdict)) ∙ accepted) (sym (c .number) ∙ none) in
+pub zeros-demand3 : (net listing : List ℕ) (before after : ℕ) (v : Verdict) → SheetChecked net listing before v after → v .number ≡ 0 → after ≡ 0 → SheetDemand3 net listing × SheetWithinMinute net listing
+zeros-demand3 net listing before after v c accepted none =
+    let yes = zeros-are-yes net listing before (sym (ap (λ (v : Verdict). v .number) (c .verdict)) ∙ accepted) (sym (c .number) ∙ none) in
     (c .sheet .demand3 yes, c .sheet .within-minute yes)
