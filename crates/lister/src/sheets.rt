@@ -1,6 +1,8 @@
 // Other offices' sheets: a net and a listing, each read by its name, and the line that answers whether they agree.
-ghost use lib.ListN.{length};
-ghost use Prim.Native.Nat.{_≤_};
+ghost use mathlib.Core.Path.{_≡_};
+ghost use mathlib.Core.List.{List};
+ghost use Prim.Native.Nat.{ℕ, _≤_};
+ghost use lib.ListN.{length, take};
 ghost use Rattle.text.specs.Written.{Wrote};
 ghost use Rattle.sheet.specs.Answer.{answerIn};
 ghost use Rattle.lister.specs.Input.{Within};
@@ -24,9 +26,11 @@ fn read_named(program: &[u8], name: &[u8], file: &mut [u8]) -> Input
     came
 }
 
-// The answer to a net and a listing, into a lent buffer; how many bytes it has.
+// The answer to a net and a listing, of which the first 65,536 bytes have been read, into a lent buffer; how many bytes it has. Whatever stands behind
+// them, it is the answer to the whole listing.
 fn print(net: &[u8], listing: &[u8], out: &mut [u8]) -> usize
-    ensures line { λ r. ⌜ Wrote (now (out .entry)) 0 (answerIn (now (net .entry)) (now (listing .entry)) (length (now (out .entry)))) (now (out .exit)) r ⌝ }
+    ensures line { λ r. ⌜ ((whole : List ℕ) → now (listing .entry) ≡ take 65536 whole →
+        Wrote (now (out .entry)) 0 (answerIn (now (net .entry)) whole (length (now (out .entry)))) (now (out .exit)) r) ⌝ }
     ensures within { λ r. ⌜ r ≤ length (now (out .entry)) ⌝ }
 {
     sheet::print(net, listing, out)
