@@ -177,32 +177,45 @@ impl Net {
     }
 
     pub(crate) fn adjust(&self) -> Result<Adjustment, Refusal> {
-        let (k, r) = self.solve()?;
+        let found = self.solve()?;
+        match found.u.iter().position(|&u| !correction_allowed(u)) {
+            None => Ok(found),
+            Some(index) => Err(Refusal::new(CORRECTION, place(index + 1))),
+        }
+    }
 
+    /// The solution, with the tests 6 by row, 7 in back order and 8 by condition.
+    fn solve(&self) -> Result<Adjustment, Refusal> {
+        let normals = self.normals();
+        let rows =
+            reduce(&normals, &self.w).map_err(|(row, _)| Refusal::new(WEAK_ROW, place(row + 1)))?;
+        let found = self.with_normals(&normals, correlates(&rows)?);
+        match found.r.iter().position(|&r| !remainder_allowed(r)) {
+            None => Ok(found),
+            Some(index) => Err(Refusal::new(REMAINDER, place(index + 1))),
+        }
+    }
+
+    /// All that follows from correlates, whoever found them: of a size for which R and Q are
+    /// answers, 10^8 and somewhat more. Nothing of it is tested.
+    pub(crate) fn given_by(&self, k: &[i64]) -> Adjustment {
+        self.with_normals(&self.normals(), wide(k))
+    }
+
+    fn with_normals(&self, normals: &[Vec<i128>], k: Vec<i128>) -> Adjustment {
         // R stands on the unrounded V; only u and Q see the rounding.
         let v = self.corrections(&k);
-        let u = printed_corrections(&v)
-            .map_err(|(direction, _)| Refusal::new(CORRECTION, place(direction + 1)))?;
+        let u: Vec<i128> = v.iter().map(|&v| nearest(v, 100_000)).collect();
         let adjusted = self.directions.iter().zip(&u);
         let adjusted = adjusted.map(|(&direction, &u)| modulo(direction + u, CIRCLE));
-        Ok(Adjustment {
+        Adjustment {
             adjusted: adjusted.map(answer).collect(),
+            r: answers(remainders(normals, &k, &self.w)),
             q: answers(self.printed_remainders(&u)),
             v: answers(v),
             u: answers(u),
             k: answers(k),
-            r: answers(r),
-        })
-    }
-
-    /// K and R, with the tests 6 by row, 7 in back order and 8 by condition.
-    fn solve(&self) -> Result<(Vec<i128>, Vec<i128>), Refusal> {
-        let normals = self.normals();
-        let rows =
-            reduce(&normals, &self.w).map_err(|(row, _)| Refusal::new(WEAK_ROW, place(row + 1)))?;
-        let k = correlates(&rows)?;
-        let r = remainders(&normals, &k, &self.w)?;
-        Ok((k, r))
+        }
     }
 
     /// Why the first weak row is weak, if one is.
@@ -236,15 +249,12 @@ impl Net {
 
     /// The printed correction that refuses a net with nothing else against it, if one does.
     pub(crate) fn blunder(&self) -> Option<i64> {
-        let (k, _) = self.solve().ok()?;
-        match printed_corrections(&self.corrections(&k)) {
-            Ok(_) => None,
-            Err((_, u)) => Some(answer(u)),
-        }
+        let found = self.solve().ok()?;
+        found.u.into_iter().find(|&u| !correction_allowed(u))
     }
 
     /// N(j,k): inverse weights multiply.
-    fn normals(&self) -> Vec<Vec<i128>> {
+    pub(crate) fn normals(&self) -> Vec<Vec<i128>> {
         let entry = |row: &[i128], other: &[i128]| -> i128 {
             let products = row.iter().zip(other).zip(&self.q);
             products.map(|((a, b), q)| q * a * b).sum()
@@ -338,7 +348,7 @@ fn correlates(rows: &[ReducedRow]) -> Result<Vec<i128>, Refusal> {
         for (m, later) in row.m.iter().zip(&found[j..]).skip(1) {
             k += nearest(m * later, 1_000_000);
         }
-        if !within(k, MOST_K) {
+        if !correlate_allowed(k) {
             return Err(Refusal::new(CORRELATE, place(j + 1)));
         }
         found[j] = k;
@@ -346,30 +356,10 @@ fn correlates(rows: &[ReducedRow]) -> Result<Vec<i128>, Refusal> {
     Ok(found)
 }
 
-/// R(j) = sum of N(j,k)*K(k) + 10^7*w(j), each tested.
-fn remainders(normals: &[Vec<i128>], k: &[i128], w: &[i128]) -> Result<Vec<i128>, Refusal> {
-    let mut remainders = Vec::new();
-    for (index, (row, w)) in normals.iter().zip(w).enumerate() {
-        let r = dot(row, k) + 10_000_000 * w;
-        if !within(r, MOST_R) {
-            return Err(Refusal::new(REMAINDER, place(index + 1)));
-        }
-        remainders.push(r);
-    }
-    Ok(remainders)
-}
-
-/// u(i) = nearest(V(i) / 10^5), or the index of the first past one minute and that u.
-fn printed_corrections(v: &[i128]) -> Result<Vec<i128>, (usize, i128)> {
-    let mut printed = Vec::new();
-    for (index, &v) in v.iter().enumerate() {
-        let u = nearest(v, 100_000);
-        if !correction_allowed(u) {
-            return Err((index, u));
-        }
-        printed.push(u);
-    }
-    Ok(printed)
+/// R(j) = sum of N(j,k)*K(k) + 10^7*w(j).
+fn remainders(normals: &[Vec<i128>], k: &[i128], w: &[i128]) -> Vec<i128> {
+    let remainder = |(row, w): (&Vec<i128>, &i128)| dot(row, k) + 10_000_000 * w;
+    normals.iter().zip(w).map(remainder).collect()
 }
 
 /// Whether a net may have m directions and n conditions.
@@ -377,9 +367,19 @@ pub(crate) fn counts_allowed(m: usize, n: usize) -> bool {
     (1..=MOST_DIRECTIONS).contains(&m) && (1..=MOST_CONDITIONS).contains(&n) && n <= m
 }
 
+/// Whether a correlate is within its limit.
+pub(crate) fn correlate_allowed(k: i128) -> bool {
+    within(k, MOST_K)
+}
+
+/// Whether a remainder R is within its limit.
+pub(crate) fn remainder_allowed(r: i64) -> bool {
+    within(r.into(), MOST_R)
+}
+
 /// Whether a printed correction is no blunder.
-pub(crate) fn correction_allowed(u: i128) -> bool {
-    within(u, MOST_U)
+pub(crate) fn correction_allowed(u: i64) -> bool {
+    within(u.into(), MOST_U)
 }
 
 fn dot(row: &[i128], other: &[i128]) -> i128 {

@@ -7,9 +7,11 @@ use std::fmt::Debug;
 use crate::adjustment::{Adjustment, Weakness};
 use crate::generate::{
     archive_case, book_case, line_case, network_case, number_case, precision_case, reports_case,
-    state_case, station_case, sum_case, table_case, terms_case, PrecisionCase, Rng,
+    sheet_case, state_case, station_case, sum_case, table_case, terms_case, PrecisionCase, Rng,
+    SheetCase,
 };
 use crate::refusal::{Refusal, CORRECTION, RANGE};
+use crate::sheet::{self, Answer, Fault};
 use crate::{adjustment, book, condition, lines, network, precision, reports, season, station};
 
 /// Replies by number, 0 for acceptance, with how often each occurred.
@@ -31,6 +33,20 @@ pub struct Census {
     pub season_end: Replies,
     pub add_reports: Replies,
     pub texts_of_reports: Replies,
+    pub sheet: Replies,
+    /// Sheets with yes and with no, by what the net is refused with when it is adjusted.
+    pub sheets_yes: Replies,
+    pub sheets_no: Replies,
+    /// Which test was the first to fail.
+    pub sheet_faults: BTreeMap<Fault, usize>,
+    /// Sheets with yes in which some |K| is 10^8, some |R| 50,000,000 and some |u| 60,000;
+    /// then those with no for one more.
+    pub sheets_at_limits: [usize; 3],
+    pub sheets_past_limits: [usize; 3],
+    /// Listings with a yes of n = 24, of m = 64, and of both.
+    pub largest_sheets: [usize; 3],
+    /// Listings of more than 65,535 bytes.
+    pub long_sheets: usize,
     /// Accepted tables of n = 24, of m = 64, and of both; then the same of networks.
     pub largest_tables: [usize; 3],
     pub largest_networks: [usize; 3],
@@ -85,6 +101,7 @@ pub fn take(seed: u64, cases: usize) -> Census {
     let mut rng = Rng::new(seed);
     // What came later is drawn apart, so that the other inputs stay those they were.
     let mut later = Rng::new(!seed);
+    let mut latest = Rng::new(seed.rotate_left(32));
     for _ in 0..cases {
         count_station(&mut rng, &mut census);
         count_terms(&mut rng, &mut census);
@@ -95,6 +112,7 @@ pub fn take(seed: u64, cases: usize) -> Census {
         count_season(&mut later, &mut census);
         count_states(&mut later, &mut census);
         count_sums(&mut later, &mut census);
+        count_sheet(&mut latest, &mut census);
         let case = line_case(&mut rng);
         let status = lines::line_status(&case.file, case.start);
         *census.line_statuses.entry(status).or_default() += 1;
@@ -292,6 +310,71 @@ fn count_sums(rng: &mut Rng, census: &mut Census) {
     *census.texts_of_reports.entry(number).or_default() += 1;
 }
 
+fn count_sheet(rng: &mut Rng, census: &mut Census) {
+    let SheetCase { net, listing } = sheet_case(rng);
+    let reply = sheet::check(&net, &listing);
+    count(&mut census.sheet, &reply);
+    census.long_sheets += usize::from(listing.len() > lines::MOST_BYTES);
+    let Ok(answer) = reply else { return };
+    let adjusted = network::adjust_network(&net);
+    let sizes = SheetSizes::of(&listing);
+    match answer {
+        Answer::Yes => {
+            count(&mut census.sheets_yes, &adjusted);
+            add(&mut census.sheets_at_limits, sizes.largest_are(0));
+            add(
+                &mut census.largest_sheets,
+                largest(sizes.u.len(), sizes.k.len()),
+            );
+        }
+        Answer::No(_) => count(&mut census.sheets_no, &adjusted),
+    }
+    if let Some(fault) = sheet::fault(&net, &listing) {
+        *census.sheet_faults.entry(fault).or_default() += 1;
+        let limits = [Fault::Correlate, Fault::RemainderSize, Fault::Minute];
+        let past = sizes.largest_are(1);
+        let past = [0, 1, 2].map(|index| past[index] && fault == limits[index]);
+        add(&mut census.sheets_past_limits, past);
+    }
+}
+
+/// The sizes of the numbers of a listing that have limits.
+struct SheetSizes {
+    k: Vec<u64>,
+    r: Vec<u64>,
+    u: Vec<u64>,
+}
+
+impl SheetSizes {
+    /// Those of a listing in form.
+    fn of(listing: &[u8]) -> Self {
+        let text = String::from_utf8_lossy(listing);
+        let sizes = |letter: &str, field: usize| -> Vec<u64> {
+            let lines = text
+                .lines()
+                .map(|line| line.split('\t').collect::<Vec<_>>());
+            let fields = lines.filter(|line| line[0] == letter);
+            let number = |line: Vec<&str>| line[field].parse::<i64>().map_or(0, i64::unsigned_abs);
+            fields.map(number).collect()
+        };
+        SheetSizes {
+            k: sizes("K", 2),
+            r: sizes("K", 3),
+            u: sizes("V", 2),
+        }
+    }
+
+    /// Whether the largest K, R and u stand so far past their limits.
+    fn largest_are(&self, past: u64) -> [bool; 3] {
+        let is_largest = |list: &[u64], size: u64| list.iter().max() == Some(&size);
+        [
+            is_largest(&self.k, 100_000_000 + past),
+            is_largest(&self.r, 50_000_000 + past),
+            is_largest(&self.u, 60_000 + past),
+        ]
+    }
+}
+
 /// Adds the place of a number out of its range.
 fn count_ordinal(ordinals: &mut Replies, reply: &Result<(), Refusal>) {
     if let Err(Refusal {
@@ -329,6 +412,7 @@ pub fn report(census: &Census) -> String {
     let [empty, left, parts] = census.archives;
     let [start, stop, elsewhere] = census.states;
     let [one_less, held, more] = census.long_states;
+    let limits = |name: &str, [k, r, u]: [usize; 3]| format!("{name}: K {k}, R {r}, u {u}\n");
     [
         describe("station", &census.station),
         describe("coefficients", &census.coefficients),
@@ -343,6 +427,14 @@ pub fn report(census: &Census) -> String {
         describe("season end", &census.season_end),
         describe("add reports", &census.add_reports),
         describe("texts of reports", &census.texts_of_reports),
+        describe("sheet", &census.sheet),
+        describe("sheets with yes, by the net", &census.sheets_yes),
+        describe("sheets with no, by the net", &census.sheets_no),
+        describe("first faults of sheets", &census.sheet_faults),
+        limits("limits met in sheets with yes", census.sheets_at_limits),
+        limits("limits passed by one in sheets", census.sheets_past_limits),
+        sizes("sheets", census.largest_sheets),
+        format!("listings of over 65,535 bytes {}\n", census.long_sheets),
         sizes("tables", census.largest_tables),
         sizes("networks", census.largest_networks),
         sizes("corrections", census.largest_corrections),

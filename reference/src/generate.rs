@@ -6,6 +6,7 @@ mod network;
 mod pivot;
 mod precision;
 mod season;
+mod sheet;
 mod station;
 mod table;
 mod terms;
@@ -17,6 +18,7 @@ pub use precision::{precision_case, PrecisionCase};
 pub use season::{
     archive_case, reports_case, state_case, sum_case, ArchiveCase, ReportsCase, StateCase, SumCase,
 };
+pub use sheet::{sheet_case, SheetCase};
 pub use station::{station_case, StationCase};
 pub use table::{table_case, TableCase};
 pub use terms::{terms_case, TermsCase};
@@ -223,6 +225,7 @@ mod tests {
             assert_eq!(state_case(&mut one), state_case(&mut other));
             assert_eq!(sum_case(&mut one), sum_case(&mut other));
             assert_eq!(reports_case(&mut one), reports_case(&mut other));
+            assert_eq!(sheet_case(&mut one), sheet_case(&mut other));
         }
     }
 

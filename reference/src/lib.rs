@@ -16,4 +16,5 @@ pub mod precision;
 pub mod refusal;
 pub mod reports;
 pub mod season;
+pub mod sheet;
 pub mod station;

@@ -8,6 +8,9 @@ pub const MOST_BYTES: usize = 65_535;
 
 const MOST_DIGITS: usize = 11;
 
+/// The digits that a number of a report or of a sheet may have.
+const MOST_LONG_DIGITS: usize = 18;
+
 /// What the line reader found at a start.
 #[derive(Clone, Copy, Debug, PartialEq, Eq, PartialOrd, Ord)]
 pub enum LineStatus {
@@ -71,13 +74,37 @@ pub(crate) fn fields(line: &[u8]) -> Vec<&[u8]> {
     line.split(|&byte| byte == b'\t').collect()
 }
 
-/// A number as the file writes it, or nothing if the field is malformed.
+/// What stands behind the heading of a line, each field after a tab and as `read` takes it,
+/// or nothing where the line has another heading or some field is malformed.
+pub(crate) fn read_behind<T>(
+    line: &[u8],
+    heading: &str,
+    read: fn(&[u8]) -> Option<T>,
+) -> Option<Vec<T>> {
+    let rest = line.strip_prefix(heading.as_bytes())?;
+    match fields(rest)[..] {
+        [b"", ref fields @ ..] => fields.iter().map(|field| read(field)).collect(),
+        _ => None,
+    }
+}
+
+/// A number as a network file or a sighting book writes it, or nothing if the field is
+/// malformed.
 pub fn read_number(field: &[u8]) -> Option<i64> {
+    read_up_to(MOST_DIGITS, field)
+}
+
+/// The same, with the digits that a report or a sheet may have.
+pub fn read_long_number(field: &[u8]) -> Option<i64> {
+    read_up_to(MOST_LONG_DIGITS, field)
+}
+
+fn read_up_to(most_digits: usize, field: &[u8]) -> Option<i64> {
     let (negative, digits) = match field {
         [b'-', digits @ ..] => (true, digits),
         digits => (false, digits),
     };
-    let sound = (1..=MOST_DIGITS).contains(&digits.len())
+    let sound = (1..=most_digits).contains(&digits.len())
         && digits.iter().all(u8::is_ascii_digit)
         && (digits[0] != b'0' || field == b"0");
     if !sound {

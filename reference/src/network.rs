@@ -91,13 +91,13 @@ pub fn margins(file: &[u8]) -> Option<Margins> {
 }
 
 /// The net of a file, with every check before the normals.
-fn sound_net(file: &[u8]) -> Result<Net, Refusal> {
+pub(crate) fn sound_net(file: &[u8]) -> Result<Net, Refusal> {
     let net = read_file(file)?.into_net();
     net.check_conditions()?;
     Ok(net)
 }
 
-fn adjustment_text(adjustment: &Adjustment) -> String {
+pub(crate) fn adjustment_text(adjustment: &Adjustment) -> String {
     let mut text = format!("ADJ\t{}\t{}\n", adjustment.u.len(), adjustment.k.len());
     let corrections = adjustment.u.iter().zip(&adjustment.adjusted);
     for (index, (u, adjusted)) in corrections.enumerate() {

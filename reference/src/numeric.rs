@@ -35,8 +35,8 @@ pub fn within(value: i128, limit: i128) -> bool {
     (-limit..=limit).contains(&value)
 }
 
-/// An answer as it is handed back. Each one is bounded by tests made before it
-/// (the largest is Q, below 8 * 10^14), so nothing is cut off.
+/// An answer as it is handed back. Each one is bounded by tests made before it (the largest
+/// are R and Q of correlates within 10^8, below 6.2 * 10^18), so nothing is cut off.
 pub fn answer(value: i128) -> i64 {
     value as i64
 }

@@ -22,7 +22,7 @@ pub fn probable_error(u: &[i64], q: &[i64], n: usize) -> Result<Errors, Refusal>
         return Err(Refusal::at_zero(COUNT));
     }
     for (index, (&u, &q)) in u.iter().zip(q).enumerate() {
-        if !correction_allowed(i128::from(u)) || !inverse_weight_allowed(q) {
+        if !correction_allowed(u) || !inverse_weight_allowed(q) {
             return Err(Refusal::new(RANGE, place(index + 1)));
         }
     }

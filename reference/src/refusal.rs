@@ -35,6 +35,8 @@ pub const FACES_APART: i64 = 25;
 pub const POSITIONS_APART: i64 = 26;
 /// A net past those that one report holds.
 pub const NET_PAST: i64 = 30;
+/// A listing that is no sheet in form.
+pub const SHEET: i64 = 31;
 
 /// Number and place; nothing else is handed back with a refusal.
 #[derive(Clone, Copy, Debug, PartialEq, Eq)]

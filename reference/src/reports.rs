@@ -1,13 +1,11 @@
 //! Reports as text: the lines of one, and the program that adds up reports.
 
-use crate::lines::{fields, line, line_status, LineStatus};
+use crate::lines::{line, line_status, read_behind, read_long_number, LineStatus};
 use crate::refusal::{listing_or_refused, refused_line, Refusal, MALFORMED};
 use crate::season::{
     net_past, report_of, together, total_allowed, Totals, A_SUM, MOST_NETS, NO_NETS, SHARED, S_SUM,
     TOTALS,
 };
-
-const MOST_DIGITS: usize = 18;
 
 /// The line of a report that shows whether its counts add up.
 const LAST_COUNT: usize = 10;
@@ -106,7 +104,7 @@ impl Sum {
     /// Takes the line that is due, or nothing where it is not that one, or shows that
     /// something does not add up.
     fn take_line(&mut self, line: &[u8], due: &Line, index: usize) -> Option<()> {
-        let numbers = numbers_behind(line, &due.heading)?;
+        let numbers = read_behind(line, &due.heading, read_total)?;
         if numbers.len() != due.totals.len() {
             return None;
         }
@@ -143,21 +141,8 @@ impl Sum {
     }
 }
 
-/// The numbers of a line behind its heading, each after a tab, or nothing where the line
-/// has another heading or some field is no total.
-fn numbers_behind(line: &[u8], heading: &str) -> Option<Vec<i128>> {
-    let rest = line.strip_prefix(heading.as_bytes())?;
-    match fields(rest)[..] {
-        [b"", ref numbers @ ..] => numbers.iter().map(|field| read_total(field)).collect(),
-        _ => None,
-    }
-}
-
-/// A total as a report writes it: digits alone, and no zero before others.
+/// A total as a report writes it: it has no minus.
 fn read_total(field: &[u8]) -> Option<i128> {
-    let sound = (1..=MOST_DIGITS).contains(&field.len())
-        && field.iter().all(u8::is_ascii_digit)
-        && (field[0] != b'0' || field == b"0");
-    let value = |value, digit: &u8| 10 * value + i128::from(digit - b'0');
-    sound.then(|| field.iter().fold(0, value))
+    let total = read_long_number(field).filter(|&total| total >= 0)?;
+    Some(total.into())
 }

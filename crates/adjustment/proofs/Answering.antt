@@ -1,13 +1,12 @@
 -- The answer lists of a solved table, from what the code writes. Assumes nothing.
 --   u-size                            the printed corrections are within 60,000
 --   corrections-list, correlates-list, remainders-list, printed-list, adjusted-list, misses-list      each list is the rules' one
-use mathlib.Core.Path.{_≡_, ap}
+use mathlib.Core.Path.{_≡_}
 use mathlib.Core.List.{List}
 use lib.ListN.{getD}
 use lib.IntN.{ℤ, pos, _+ℤ_, _*ℤ_}
 use Rattle.exact.specs.Circle.{C, modulo}
 use Rattle.exact.specs.Tabulate.{tabulate}
-use Rattle.exact.proofs.Sum.{sum-ext}
 use Rattle.exact.proofs.Filling.{tabulate-ext}
 use Rattle.doolittle.specs.Table.{Table, at}
 use Rattle.doolittle.specs.Solution.{K}
@@ -15,6 +14,7 @@ use Rattle.adjustment.specs.Corrections.{V-of, R-of, u-of, adjusted-of, 
 use Rattle.adjustment.specs.Demand.{seen}
 use Rattle.doolittle.specs.Inner.{Small}
 use Rattle.adjustment.specs.Inner.{Solved}
+use Rattle.adjustment.proofs.Solving.{turned-is, missed-is}
 
 module _ {t : Table} {ks vs us rs : List ℤ} (s : Solved t ks vs us rs) where
   pub corrections-list : tabulate (t .m) (at vs) ≡ tabulate (t .m) (V-of t (K t))
@@ -33,14 +33,9 @@ module _ {t : Table} {ks vs us rs : List ℤ} (s : Solved t ks vs us rs) where
   u-size i l = rw (s .u i l) (s .u-most i l)
 
   pub adjusted-list : (ds : List ℤ) → tabulate (t .m) (λ i. modulo (getD ds i (pos 0) +ℤ getD us i (pos 0)) C) ≡ tabulate (t .m) (adjusted-of t (K t) (at ds))
-  unfolding adjusted-of
   adjusted-list ds =
-      tabulate-ext (t .m) (λ i. modulo (getD ds i (pos 0) +ℤ getD us i (pos 0)) C) (adjusted-of t (K t) (at ds))
-      (λ i l. ap (λ (z : ℤ). modulo (getD ds i (pos 0) +ℤ z) C) (s .u i l))
+      tabulate-ext (t .m) (λ i. modulo (getD ds i (pos 0) +ℤ getD us i (pos 0)) C) (adjusted-of t (K t) (at ds)) (turned-is t (K t) us (s .u) (at ds))
 
   pub misses-list : tabulate (t .n) (λ j. pos 100000 *ℤ seen t j (at us) +ℤ pos 10000000 *ℤ t .w j) ≡ tabulate (t .n) (Q-of t (K t))
-  unfolding Q-of
   misses-list =
-      tabulate-ext (t .n) (λ j. pos 100000 *ℤ seen t j (at us) +ℤ pos 10000000 *ℤ t .w j) (Q-of t (K t))
-      (λ j l. ap (λ (z : ℤ). pos 100000 *ℤ z +ℤ pos 10000000 *ℤ t .w j)
-      (sum-ext (t .m) (λ i. t .a j i *ℤ at us i) (λ i. t .a j i *ℤ u-of t (K t) i) (λ i h. ap (λ (z : ℤ). t .a j i *ℤ z) (s .u i h))))
+      tabulate-ext (t .n) (λ j. pos 100000 *ℤ seen t j (at us) +ℤ pos 10000000 *ℤ t .w j) (Q-of t (K t)) (λ j l. missed-is t (K t) us (s .u) j)

@@ -3,6 +3,7 @@
 --   same-first, each-within          of numbers tested against a limit in their order: equal ones have the same first beyond it; where none is refused, each is within it
 --   closing-is, rounding-is          of any correlates: the remainders of a list that holds their corrections are R, and its numbers rounded are u
 --   first-open, first-past           and the first beyond its limit is the same
+--   turned-is, missed-is             a direction and its printed correction are the adjusted direction, and what the printed ones leave is Q
 --   weak-refused, large-refused, open-refused, past-refused      6, 7, 8 and 9 at their places; first-weak: 6 by the tests of the rows
 --   none-weak, none-too-large, none-open, none-past              where nothing is found, the check accepts
 --   all-accepted                     where all four accept, so does the solution
@@ -19,6 +20,7 @@ use lib.IntN.{ℤ, pos, natAbs, _+ℤ_, _*ℤ_}
 use Rattle.exact.specs.Sum.{sum}
 use Rattle.exact.specs.First.{first}
 use Rattle.exact.specs.Nearest.{nearest}
+use Rattle.exact.specs.Circle.{C, modulo}
 use Rattle.exact.proofs.Bound.{abs-mul, mul-le}
 use Rattle.exact.proofs.Sum.{sum-ext}
 use Rattle.exact.proofs.Searching.{Failed, first-at, first-before, first-ext}
@@ -29,8 +31,9 @@ use Rattle.reply.specs.Checks.{refuseFirst}
 use Rattle.reply.proofs.Checking.{refuse-first, accept-first, none-refused}
 use Rattle.doolittle.specs.Table.{Table, at, tableOf}
 use Rattle.doolittle.specs.Solution.{weak, K}
-use Rattle.adjustment.specs.Corrections.{V-of, R-of, u-of}
+use Rattle.adjustment.specs.Corrections.{V-of, R-of, u-of, adjusted-of, Q-of}
 use Rattle.adjustment.specs.Refusals.{rowsReply, correlatesReply, remaindersReply, correctionsReply, solutionReply}
+use Rattle.adjustment.specs.Demand.{seen}
 use Rattle.adjustment.specs.Promise.{WithinMinute}
 use Rattle.doolittle.specs.Inner.{Sound}
 use Rattle.adjustment.specs.Inner.{closing, rounding}
@@ -111,6 +114,18 @@ module _ (t : Table) where
 
     pub first-past : (within : ℕ) → within ≡ first (t .m) (beyond 60000 (rounding (at vs))) → within ≡ first (t .m) (beyond 60000 (u-of t k))
     first-past within e = e ∙ same-first (t .m) 60000 (rounding (at vs)) (u-of t k) rounding-is
+
+  -- ---- and by a list that holds what is printed of them
+  module _ (k : ℕ → ℤ) (us : List ℤ) (u : (i : ℕ) → i < t .m → at us i ≡ u-of t k i) where
+    pub turned-is : (direction : ℕ → ℤ) (i : ℕ) → i < t .m → modulo (direction i +ℤ at us i) C ≡ adjusted-of t k direction i
+    unfolding adjusted-of
+    turned-is direction i l = ap (λ (z : ℤ). modulo (direction i +ℤ z) C) (u i l)
+
+    pub missed-is : (j : ℕ) → pos 100000 *ℤ seen t j (at us) +ℤ pos 10000000 *ℤ t .w j ≡ Q-of t k j
+    unfolding Q-of
+    missed-is j =
+        ap (λ (z : ℤ). pos 100000 *ℤ z +ℤ pos 10000000 *ℤ t .w j)
+        (sum-ext (t .m) (λ i. t .a j i *ℤ at us i) (λ i. t .a j i *ℤ u-of t k i) (λ i h. ap (λ (z : ℤ). t .a j i *ℤ z) (u i h)))
 
   module _ (vs : List ℤ) (v : (i : ℕ) → i < t .m → at vs i ≡ V-of t (K t) i) where
     -- ---- 8

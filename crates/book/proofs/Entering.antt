@@ -1,21 +1,20 @@
 -- Laws of entering a book's lines one after the other. Assumes nothing.
 --   Begun, begun-none                       the lines before a start are sightings
---   line-here, no-sighting, sighting        the line at a start, by what the reader of its numbers answers
+--   no-sighting, sighting                   the line at a start, by what the reader of its numbers answers
 --   all-begun                               the end of the book
 --   Column, column-none, column-more, column-all   one field of the lines so far, in the first places of a list
 use mathlib.Core.Path.{_≡_, refl, sym, _∙_, ap, subst}
 use mathlib.Core.Bool.{Bool, true, false, cond}
-use mathlib.Core.List.{List, [], _∷_}
+use mathlib.Core.List.{List}
 use mathlib.Core.Option.{Option, none, some}
 use Prim.Native.Nat.{ℕ, _+_, _<_, _≤_}
-use native.Mathlib.Nat.{add-zero}
 use native.Mathlib.Decide.{decLt}
 use native.Mathlib.Omega.{arith}
 use borrow.Author.Tests.{lt-ltb, le-ltb, ltb-true, ltb-false}
 use lib.Dec.{ltb}
 use lib.IntN.{ℤ, pos}
-use lib.ListN.{length, getD, set, take, drop, length-drop, length-set}
-use lib.Seq.{getD-drop, getD-take, getD-set-same, getD-set-other, drop-drop, ext-getD, length-take-le}
+use lib.ListN.{length, getD, set, take, length-set}
+use lib.Seq.{getD-take, getD-set-same, getD-set-other, ext-getD, length-take-le}
 use Rattle.exact.proofs.Filling.{tabulate-length, tabulate-at}
 use Rattle.exact.proofs.Searching.{Failed, failed-none, failed-more}
 use Rattle.reply.specs.declared.Refusal.the-variants.{Malformed}
@@ -25,34 +24,25 @@ use Rattle.text.specs.Parts.{placeFrom}
 use Rattle.text.specs.Lines.{LF, lineAt, linesOf, linesIn, lineNo, bytesOf, unended}
 use Rattle.text.specs.Rows.{letteredWithin, behindAt, rowValues, missing}
 use Rattle.text.proofs.Parting.{place-after}
-use Rattle.text.proofs.Splitting.{line-next, lines-whole, lines-rest, lines-end}
+use Rattle.text.proofs.Stepping.{Reached, reached-none, line-here, one-more, reached-more, none-left, bytes-reached}
 use Rattle.book.specs.Lines.{letter-S, sightingOf, fieldNo, column, malformed, linesReply}
 
 module _ (file : List ℕ) where
-  -- n lines have been read, and the next one starts at `start`
+  -- n lines have been read, all of them sightings, and the next one starts at `start`
   pub record Begun (start n : ℕ) : Type 0 where
-    pub within : start ≤ length file
-    pub few : n ≤ start
-    pub inside : n ≤ linesIn file
-    pub lines : drop n (linesOf file) ≡ linesOf (drop start file)
-    pub bytes : start + bytesOf (linesOf (drop start file)) ≡ bytesOf (linesOf file)
+    pub reached : Reached file start n
     pub sound : Failed (malformed file) n
 
   pub begun-none : Begun 0 0
-  begun-none = record { within = omega arith; few = omega arith; inside = omega arith; lines = refl; bytes = omega arith; sound = failed-none (malformed file) }
-
-  -- what is left has no line
-  none-left : {start n : ℕ} → Begun start n → linesOf (drop start file) ≡ [] → (n ≡ linesIn file) × (bytesOf (linesOf file) ≡ start)
-  unfolding bytesOf
-  none-left {start} {n} b e =
-      (omega (arith, b .inside, length-drop n (linesOf file), ap length (b .lines ∙ e)), omega (arith, b .bytes, ap bytesOf e))
+  begun-none = record { reached = reached-none file; sound = failed-none (malformed file) }
 
   pub all-begun : {start n : ℕ} → Begun start n → length file ≤ start → (linesReply file ≡ Accepted) × (n ≡ linesIn file)
   unfolding linesReply unended
   all-begun {start} {n} b l =
-      let none = none-left b (lines-end file start l) in
-      let sound : Failed (malformed file) (linesIn file) = rw (← none .0) (b .sound) in
-      (rw (refuse-none (linesIn file) (malformed file) (λ h. Malformed (h + 1)) sound, le-ltb (bytesOf (linesOf file)) (length file) (omega (arith, none .1))), none .0)
+      let past : length file ≤ placeFrom LF file start = omega (arith, l, place-after LF file start) in
+      let all = none-left file (b .reached) past in
+      let sound : Failed (malformed file) (linesIn file) = rw (← all) (b .sound) in
+      (rw (refuse-none (linesIn file) (malformed file) (λ h. Malformed (h + 1)) sound, le-ltb (bytesOf (linesOf file)) (length file) (omega (arith, bytes-reached file (b .reached) past))), all)
 
   module _ {start n : ℕ} (b : Begun start n) where
     abbrev end : ℕ
@@ -60,38 +50,21 @@ module _ (file : List ℕ) where
 
     -- the line has its LF
     module _ (l : end < length file) where
-      abbrev left : drop n (linesOf file) ≡ lineAt file start ∷ linesOf (drop (end + 1) file)
-      left = b .lines ∙ lines-whole file start l
-
-      pub line-here : lineNo file n ≡ lineAt file start
-      unfolding lineNo
-      line-here = ap (λ (m : ℕ). getD (linesOf file) m []) (sym (add-zero n)) ∙ sym (getD-drop n (linesOf file) 0 []) ∙ ap (λ (lines : List (List ℕ)). getD lines 0 []) left
-
-      one-more : n < linesIn file
-      one-more = omega (arith, length-drop n (linesOf file), ap length left)
-
       begun-more : malformed file n ≡ false → Begun (end + 1) (n + 1)
-      unfolding bytesOf
-      begun-more f = record {
-        within = omega (arith, l);
-        few = omega (arith, b .few, place-after LF file start);
-        inside = omega (arith, one-more);
-        lines = sym (drop-drop 1 n (linesOf file)) ∙ ap (drop 1) left;
-        bytes = omega (arith, b .bytes, ap bytesOf (lines-whole file start l), line-next file start l);
-        sound = failed-more (malformed file) n (b .sound) f;
-      }
+      begun-more f = record { reached = reached-more file (b .reached) l; sound = failed-more (malformed file) n (b .sound) f }
 
       refused-here : malformed file n ≡ true → linesReply file ≡ Refused (Malformed (n + 1))
       unfolding linesReply
-      refused-here f = rw (refuse-at (linesIn file) (malformed file) (λ h. Malformed (h + 1)) n one-more (b .sound) f)
+      refused-here f = rw (refuse-at (linesIn file) (malformed file) (λ h. Malformed (h + 1)) n (one-more file (b .reached) l) (b .sound) f)
 
     -- it has none
     unended-here : start < length file → length file ≤ end → linesReply file ≡ Refused (Malformed (n + 1))
     unfolding linesReply unended
     unended-here s l =
-        let none = none-left b (lines-rest file start l) in
-        let sound : Failed (malformed file) (linesIn file) = rw (← none .0) (b .sound) in
-        rw (refuse-none (linesIn file) (malformed file) (λ h. Malformed (h + 1)) sound, lt-ltb (bytesOf (linesOf file)) (length file) (omega (arith, none .1, s)), none .0)
+        let all = none-left file (b .reached) l in
+        let sound : Failed (malformed file) (linesIn file) = rw (← all) (b .sound) in
+        let more : bytesOf (linesOf file) < length file = omega (arith, bytes-reached file (b .reached) l, s) in
+        rw (refuse-none (linesIn file) (malformed file) (λ h. Malformed (h + 1)) sound, lt-ltb (bytesOf (linesOf file)) (length file) more, all)
 
     -- ---- by what stands behind its letter
     abbrev row : Bool → Option (List ℤ)
@@ -103,7 +76,7 @@ module _ (file : List ℕ) where
 
     none-by : start < length file → (found : Bool) → ltb end (length file) ≡ found → row found ≡ none → linesReply file ≡ Refused (Malformed (n + 1))
     unfolding malformed
-    none-by s true t e = let l = ltb-true end (length file) t in refused-here l (ap missing (ap sightingOf (line-here l) ∙ e))
+    none-by s true t e = let l = ltb-true end (length file) t in refused-here l (ap missing (ap sightingOf (line-here file (b .reached) l) ∙ e))
     none-by s false t e = unended-here s (ltb-false end (length file) t)
 
     pub no-sighting : start < length file → behindAt file start letter-S 4 ≡ none → linesReply file ≡ Refused (Malformed (n + 1))
@@ -112,7 +85,7 @@ module _ (file : List ℕ) where
     module _ (zs : List ℤ) where
       some-by : (found : Bool) → ltb end (length file) ≡ found → row found ≡ some zs → (sightingOf (lineNo file n) ≡ some zs) × Begun (end + 1) (n + 1)
       unfolding malformed
-      some-by true t e = let l = ltb-true end (length file) t in let says = ap sightingOf (line-here l) ∙ e in (says, begun-more l (ap missing says))
+      some-by true t e = let l = ltb-true end (length file) t in let says = ap sightingOf (line-here file (b .reached) l) ∙ e in (says, begun-more l (ap missing says))
       some-by false t e = let z : _≡_ {A = ℕ} 0 1 = cc in absurd (omega arith)
 
       pub sighting : behindAt file start letter-S 4 ≡ some zs → (sightingOf (lineNo file n) ≡ some zs) × Begun (end + 1) (n + 1)

@@ -10,9 +10,15 @@ use Rattle.sheet.specs.declared.Opinion.{Opinion}
 use Rattle.sheet.specs.declared.Opinion.the-variants.{Yes, No, Refused as Unchecked}
 use Rattle.sheet.specs.Check.{opinionOf}
 
+abbrev pub yesLine : List ℕ
+yesLine = (89 ∷ 69 ∷ 83 ∷ []) ++ lineEnd
+
+abbrev pub noLine : (line : ℕ) → List ℕ
+noLine line = (78 ∷ []) ++ ((79 ∷ []) ++ (countField line ++ lineEnd))
+
 unfoldable pub answerLine : Opinion → List ℕ
-answerLine Yes = (89 ∷ 69 ∷ 83 ∷ []) ++ lineEnd
-answerLine (No line) = (78 ∷ 79 ∷ []) ++ (countField line ++ lineEnd)
+answerLine Yes = yesLine
+answerLine (No line) = noLine line
 answerLine (Unchecked why) = refusedLine (numberOf why) (placeOf why)
 
 -- what goes into a lent buffer of so many bytes: nothing, where it could not hold any answer

@@ -5,10 +5,12 @@ use mathlib.Core.List.{List}
 use mathlib.Core.Option.{Option}
 use Prim.Native.Nat.{ℕ, _+_, _*_, _≤_, _<_}
 use lib.Dec.{ltb}
-use lib.IntN.{ℤ, pos}
+use lib.IntN.{ℤ, pos, natAbs}
 use lib.ListN.{length, getD}
 use Rattle.reply.specs.declared.Refusal.the-variants.{Sheet}
 use Rattle.reply.specs.declared.Reply.the-variants.{Accepted, Refused}
+use Rattle.doolittle.specs.Table.{Table}
+use Rattle.adjustment.specs.Corrections.{V-of, u-of}
 use Rattle.text.specs.Parts.{placeFrom, begins}
 use Rattle.text.specs.Lines.{LF, lineAt}
 use Rattle.text.specs.Rows.{letteredWithin, endOf}
@@ -56,3 +58,9 @@ FormedAs listing (Malformed line) x = formReply listing ≡ Refused (Sheet line)
 -- two numbers side by side in every line, from place `from` on, against those of two lists
 abbrev pub pairUnlike : (x : List ℤ) (from : ℕ) (a b : List ℤ) (i : ℕ) → Bool
 pairUnlike x from a b i = unlike (getD x (from + 4 * i) (pos 0)) (getD a i (pos 0)) || unlike (getD x (from + 4 * i + 1) (pos 0)) (getD b i (pos 0))
+
+-- the corrections and printed corrections of the correlates k, none of these past one minute
+pub record Corrected (t : Table) (k : ℕ → ℤ) (v u : List ℤ) : Type 0 where
+  pub v-is : (i : ℕ) → i < t .m → getD v i (pos 0) ≡ V-of t k i
+  pub u-is : (i : ℕ) → i < t .m → getD u i (pos 0) ≡ u-of t k i
+  pub u-most : (i : ℕ) → i < t .m → natAbs (u-of t k i) ≤ 60000

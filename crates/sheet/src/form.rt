@@ -30,10 +30,10 @@ fn heading(listing: &[u8], x: &mut [i64]) -> RowEnd
     ensures end { λ r. ⌜ r ≡ endOf (headingOf (now (listing .entry))) (placeFrom LF (now (listing .entry)) 4 + 1) ⌝ }
     ensures values { λ r. ⌜ take 2 (now (x .exit)) ≡ rowValues (headingOf (now (listing .entry))) (take 2 (now (x .exit))) ⌝ }
 {
-    if !find::begins(listing, b"ADJ\t") {
-        return RowEnd::NoRow;
+    if find::begins(listing, b"ADJ\t") {
+        return row::read(MOST_DIGITS, listing, 4, 2, x);
     }
-    row::read(MOST_DIGITS, listing, 4, 2, x)
+    RowEnd::NoRow
 }
 
 // A line of that letter and so many numbers, of which the first is its own.
@@ -54,7 +54,8 @@ fn numbered_line(
     let RowEnd::Next(next) = end else {
         return RowEnd::NoRow;
     };
-    if x[0] != number as i64 {
+    let own = x[0];
+    if own != number as i64 {
         return RowEnd::NoRow;
     }
     RowEnd::Next(next)

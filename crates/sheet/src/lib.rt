@@ -9,7 +9,7 @@ ghost use lib.ListN.{length};
 ghost use Rattle.text.specs.Written.{Wrote};
 ghost use Rattle.sheet.specs.Check.{opinionAt};
 ghost use Rattle.sheet.specs.Promise.{Checks};
-ghost use Rattle.sheet.specs.Answer.{answerLine, answerIn};
+ghost use Rattle.sheet.specs.Answer.{noLine, answerLine, answerIn};
 use form::Form;
 use reply::Refusal;
 use reply::Reply;
@@ -74,6 +74,17 @@ pub fn check(net: &[u8], listing: &[u8]) -> Opinion
     }
 }
 
+// NO and the line, from the start of a lent buffer.
+fn put_no(line: u64, out: &mut [u8]) -> usize
+    requires { ⌜ 52 ≤ length (now out) ⌝ }
+    ensures { λ r. ⌜ Wrote (now (out .entry)) 0 (noLine line) (now (out .exit)) r ⌝ }
+{
+    let first = writer::put_byte(out, 0, b'N');
+    let word = writer::put_byte(out, first, b'O');
+    let end = writer::put_count(out, word, line);
+    writer::put_byte(out, end, LF)
+}
+
 // An opinion as a line, from the start of a lent buffer.
 fn put_answer(opinion: Opinion, out: &mut [u8]) -> usize
     requires { ⌜ 52 ≤ length (now out) ⌝ }
@@ -84,12 +95,7 @@ fn put_answer(opinion: Opinion, out: &mut [u8]) -> usize
             let word = writer::put_three(out, 0, b'Y', b'E', b'S');
             writer::put_byte(out, word, LF)
         }
-        Opinion::No(line) => {
-            let n = writer::put_byte(out, 0, b'N');
-            let word = writer::put_byte(out, n, b'O');
-            let end = writer::put_count(out, word, line);
-            writer::put_byte(out, end, LF)
-        }
+        Opinion::No(line) => put_no(line, out),
         Opinion::Refused(why) => {
             let verdict = reply::refuse(why);
             page::lines::put_refused(out, 0, verdict.number, verdict.place)

@@ -1,5 +1,6 @@
 -- Laws of the letter in a line's first field and the tab behind it. Assumes nothing.
 --   firstLetter, lineIn                         the letter of a line, and the line that a text begins with
+--   long-field                                  a first field of two bytes or more has no letter
 --   one-tab, one-end, lone-field                a byte and a tab, a byte and the LF
 --   at-lf, at-tab, no-first                     lines without a letter: an LF or a tab at the start, two bytes of which the second is no tab
 --   other-letter                                a line that begins with another byte has another letter or none
@@ -35,7 +36,7 @@ abbrev pub lineIn : List ℕ → List ℕ
 lineIn s = take (bytesBefore LF s) s
 
 -- a byte before a field that is there
-long-field : (b c : ℕ) (fields : List (List ℕ)) → letterOf (getD (onFirst b (onFirst c fields)) 0 []) ≡ 0
+pub long-field : (b c : ℕ) (fields : List (List ℕ)) → letterOf (getD (onFirst b (onFirst c fields)) 0 []) ≡ 0
 unfolding onFirst letterOf
 long-field b c [] = refl
 long-field b c (field ∷ fields) = rw (ne-eqb (suc (suc (length field))) 1 (λ e. omega (arith, e)))

@@ -2,9 +2,15 @@ pub mod Parting
 pub mod Splitting
 pub mod Numerals
 pub mod Spanning
+pub mod Sparing
 pub mod Rowing
 pub mod Lettering
+pub mod Stepping
+pub mod Stacking
+pub mod Cutting
 pub mod Writing
 pub mod ReadingBack
+pub mod WritingBack
+pub mod Lining
 pub mod Putting
 pub mod Unique

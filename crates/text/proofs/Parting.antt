@@ -5,15 +5,15 @@
 --   parts-dropped, parts-last              the parts of a text without the byte: none, or the text itself
 --   begins-all, begins-short               a text begins with no word's end; and with no word that goes on behind it
 --   begins-more, begins-other              one byte more of the word, by what stands there in the text
---   begins-length                          a word is no longer than a text that begins with it
-use mathlib.Core.Path.{_≡_, refl, sym}
+--   begins-length, begins-word             a word is no longer than a text that begins with it; a word and a byte, and what stands behind them
+use mathlib.Core.Path.{_≡_, refl, sym, ap₂}
 use mathlib.Core.Bool.{Bool, true, false, cond}
-use mathlib.Core.List.{List, [], _∷_}
+use mathlib.Core.List.{List, [], _∷_, _++_}
 use Prim.Native.Nat.{ℕ, suc, _+_, _<_, _≤_}
 use native.Mathlib.Numerals.{add-one}
 use native.Mathlib.Nat.{add-zero, add-assoc}
 use native.Mathlib.Omega.{arith}
-use borrow.Author.Tests.{eq-eqb, ne-eqb}
+use borrow.Author.Tests.{eq-eqb, ne-eqb, eqb-true}
 use lib.Dec.{eqb}
 use lib.ListN.{length, getD, take, drop, drop-of-length-le, length-drop}
 use lib.Seq.{drop-cons, drop-drop}
@@ -123,3 +123,19 @@ unfolding begins
 begins-length [] text e = omega arith
 begins-length (w ∷ word) [] e = not-both (sym e)
 begins-length (w ∷ word) (b ∷ text) e = length-step (eqb b w) (begins word text) (length word) (length text) (begins-length word text) e
+
+pub begins-word : (word : List ℕ) (c : ℕ) (rest : List ℕ) → begins (word ++ (c ∷ [])) (word ++ (c ∷ rest)) ≡ true
+unfolding begins
+begins-word [] c rest = rw (eq-eqb c c refl)
+begins-word (w ∷ word) c rest = rw (eq-eqb w w refl, begins-word word c rest)
+
+split-word : (b w : ℕ) (word text : List ℕ) (t : Bool) → eqb b w ≡ t → (begins word text ≡ true → text ≡ word ++ drop (length word) text)
+    → cond t (begins word text) false ≡ true → b ∷ text ≡ w ∷ (word ++ drop (length word) text)
+split-word b w word text true t rec e = ap₂ _∷_ (eqb-true b w t) (rec e)
+split-word b w word text false t rec e = not-both (sym e)
+
+pub begins-split : (word text : List ℕ) → begins word text ≡ true → text ≡ word ++ drop (length word) text
+unfolding begins
+begins-split [] text e = refl
+begins-split (w ∷ word) [] e = not-both (sym e)
+begins-split (w ∷ word) (b ∷ text) e = split-word b w word text (eqb b w) refl (begins-split word text) e

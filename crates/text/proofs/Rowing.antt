@@ -1,6 +1,7 @@
 -- Laws of a row of numbers, read field by field from where the last one ended. Assumes nothing.
 --   split-at-byte                       a text is what stands before a byte, the byte, and the rest
 --   fields-tab, fields-plain            the fields of a line that begins with a number and a tab, and of one that is a number
+--   fields-more, fields-last, some-field   the fields of any line, by the first tab; no line has none
 --   tab-number, tab-place, tab-none     a number up to a tab: the row goes on behind it; where there is none, there is no row of two or more
 --   last-number, last-none              a number up to the LF ends the row; where there is none, there is no row of one
 --   prepend, prepend-nothing, prepend-more   the numbers read so far, and those of what is left
@@ -76,15 +77,15 @@ module _ (line : List ℕ) where
   abbrev tab : ℕ
   tab = bytesBefore TAB line
 
-  fields-more : tab < length line → fieldsOf line ≡ take tab line ∷ fieldsOf (drop (tab + 1) line)
+  pub fields-more : tab < length line → fieldsOf line ≡ take tab line ∷ fieldsOf (drop (tab + 1) line)
   unfolding fieldsOf placeFrom
   fields-more l = let same : 0 + bytesBefore TAB line ≡ bytesBefore TAB line = omega arith in parts-more TAB ([] ∷ []) line 0 (omega arith) ∙ rw same
 
-  fields-last : length line ≤ tab → fieldsOf line ≡ line ∷ []
+  pub fields-last : length line ≤ tab → fieldsOf line ≡ line ∷ []
   unfolding fieldsOf
   fields-last l = parts-last TAB line l
 
-  some-field : (most : ℕ) (b : Bool) → ltb tab (length line) ≡ b → numbersWithin most 0 (fieldsOf line) ≡ none
+  pub some-field : (most : ℕ) (b : Bool) → ltb tab (length line) ≡ b → numbersWithin most 0 (fieldsOf line) ≡ none
   unfolding numbersWithin
   some-field most true t = rw (fields-more (ltb-true tab (length line) t))
   some-field most false t = rw (fields-last (ltb-false tab (length line) t))

@@ -1,6 +1,6 @@
 -- Laws of digits that stand in a text, and of the number up to a byte. Assumes nothing.
 --   digit-bounds, digit-first         a digit is a byte from 48 to 57; the first of digits that have a value
---   no-whole                          no digits have no value
+--   no-whole, first-by                no digits have no value; digits that pass a test have theirs
 --   High, digits-high, numeral-high   a number has no byte below 45, so neither a tab nor an LF
 --   before-high, reads-on             a search for a lower byte goes on behind such bytes; digits, and what follows them
 --   span-none, span-more              before the first digit, and one more
@@ -47,7 +47,7 @@ wholes NoDigits = 0
 pub no-whole : {P : Type 0} (v : ℕ) → NoDigits ≡ Whole v → P
 no-whole v e = absurd (omega (arith, ap wholes e))
 
-first-by : (x : Bool) (d : Digits) (w : ℕ) → cond x NoDigits d ≡ Whole w → (x ≡ false) × (d ≡ Whole w)
+pub first-by : (x : Bool) (d : Digits) (w : ℕ) → cond x NoDigits d ≡ Whole w → (x ≡ false) × (d ≡ Whole w)
 first-by true d w e = no-whole w e
 first-by false d w e = (refl, e)
 

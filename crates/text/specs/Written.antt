@@ -2,7 +2,7 @@
 use mathlib.Core.Path.{_≡_}
 use mathlib.Core.List.{List, [], _∷_, _++_}
 use Prim.Native.Nat.{ℕ, zero, suc, _+_}
-use lib.ListN.{length}
+use lib.ListN.{length, drop}
 use lib.Seq.{sets}
 use lib.IntN.{ℤ}
 use Rattle.text.specs.Decimal.{digitsOf, written}
@@ -13,6 +13,14 @@ signedField z = 9 ∷ written z
 
 abbrev pub countField : ℕ → List ℕ
 countField n = 9 ∷ digitsOf n
+
+-- such fields one after another; without the tab in front they are a row of numbers
+unfoldable pub signedFields : List ℤ → List ℕ
+signedFields [] = []
+signedFields (z ∷ zs) = signedField z ++ signedFields zs
+
+abbrev pub signedRow : List ℤ → List ℕ
+signedRow zs = drop 1 (signedFields zs)
 
 -- the end of a line: LF
 abbrev pub lineEnd : List ℕ

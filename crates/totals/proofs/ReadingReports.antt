@@ -1,5 +1,5 @@
 -- The text of a report is read back as its totals, so that reports made apart, printed and then added are the report of all nets. Assumes nothing.
---   Free, next-line             a text without a byte; the first line of a text is read, and then the others
+--   next-line                   the first line of a text is read, and then the others
 --   line-body, body-free        a line of a report has no LF but its last byte
 --   line-read                   and is read as its numbers, whatever line of the fourteen it is
 --   countsIn, Addable           places 1 to k added up; totals that can be added to those before them: sixteen, ACCEPTED and the nine counts add up to
@@ -27,21 +27,23 @@ use native.Mathlib.Omega.{arith}
 use borrow.Author.Tests.{eq-eqb, ne-eqb, lt-ltb, le-ltb, eqb-true, eqb-false, ltb-true, ltb-false, not-false}
 use lib.Dec.{eqb, ltb}
 use lib.IntN.{pos}
-use lib.ListN.{length, getD, set, drop, getD-replicate, length-append, length-drop, length-map, List·getD-eq-default}
-use lib.Seq.{take-all, take-append-seam, drop-at}
+use lib.ListN.{length, getD, set, getD-replicate, length-append, length-map, List·getD-eq-default}
+use lib.Seq.{take-all, drop-at}
 use Rattle.exact.specs.First.{first, some-below}
 use Rattle.exact.specs.Tabulate.{tabulate}
 use Rattle.exact.proofs.Searching.{all-failed}
 use Rattle.exact.proofs.Filling.{Filled, filled-none, filled-more, filled-all}
-use Rattle.text.specs.Parts.{bytesBefore, placeFrom, onFirst, parted, begins}
-use Rattle.text.specs.Lines.{LF, lineAt}
+use Rattle.text.specs.Parts.{bytesBefore, parted, begins}
+use Rattle.text.specs.Lines.{LF}
 use Rattle.text.specs.Fields.{TAB, fieldsOf}
 use Rattle.text.specs.Numbers.{numeralWithin}
-use Rattle.text.specs.Rows.{before, numbersWithin, rowWithin}
+use Rattle.text.specs.Rows.{before, numbersWithin}
 use Rattle.text.specs.Decimal.{digits, digitsOf, written}
 use Rattle.text.specs.Written.{countField, lineEnd, inOrder}
 use Rattle.text.specs.declared.number.Number.the-variants.{Value}
-use Rattle.text.proofs.Spanning.{High, before-high, numeral-high}
+use Rattle.text.proofs.Parting.{begins-word}
+use Rattle.text.proofs.Spanning.{High, numeral-high}
+use Rattle.text.proofs.Sparing.{Free, free-both, free-high, part-first, row-written}
 use Rattle.text.proofs.Rowing.{fields-tab, fields-plain}
 use Rattle.text.proofs.ReadingBack.{reads-back, few-digits}
 use Rattle.page.specs.Lines.{refusedLine}
@@ -59,49 +61,10 @@ use Rattle.totals.proofs.Printing.{pair-within}
 use Rattle.totals.proofs.Entering.{other-head, due-head, well-entered}
 use Rattle.totals.proofs.Summing.{linesIn, lines-on}
 
--- ---- a text without a byte
-abbrev Free : (byte : ℕ) (text : List ℕ) → Type 0
-Free byte text = bytesBefore byte text ≡ length text
-
-free-cons : (byte b : ℕ) (text : List ℕ) → Free byte (b ∷ text) → (eqb b byte ≡ false) × Free byte text
-unfolding bytesBefore
-free-cons byte b text e = by-first (eqb b byte) refl e
-  where
-    by-first : (x : Bool) → eqb b byte ≡ x → cond x 0 (suc (bytesBefore byte text)) ≡ suc (length text) → (eqb b byte ≡ false) × Free byte text
-    by-first true t f = absurd (omega arith)
-    by-first false t f = (t, omega arith)
-
-before-free : (byte : ℕ) (text rest : List ℕ) → Free byte text → bytesBefore byte (text ++ rest) ≡ length text + bytesBefore byte rest
-unfolding bytesBefore
-before-free byte [] rest e = omega arith
-before-free byte (b ∷ text) rest e = let f = free-cons byte b text e in rw (f .0, before-free byte text rest (f .1)) (omega arith)
-
-free-both : (byte : ℕ) (text rest : List ℕ) → Free byte text → Free byte rest → Free byte (text ++ rest)
-free-both byte text rest e f = before-free byte text rest e ∙ ap (λ (n : ℕ). length text + n) f ∙ sym (length-append text rest)
-
 -- ---- the first line of a text
-part-first : (byte : ℕ) (end : List (List ℕ)) (line rest : List ℕ) → Free byte line → parted byte end (line ++ (byte ∷ rest)) ≡ line ∷ parted byte end rest
-unfolding parted onFirst
-part-first byte end [] rest e = rw (eq-eqb byte byte refl)
-part-first byte end (b ∷ line) rest e = let f = free-cons byte b line e in rw (f .0, part-first byte end line rest (f .1))
-
 pub next-line : (t : Tally) (line rest : List ℕ) → Free LF line
     → afterLines t (linesIn ((line ++ lineEnd) ++ rest)) ≡ afterLines (afterLine t (cut (line ++ lineEnd))) (linesIn rest)
 next-line t line rest e = rw (append-assoc line lineEnd rest, part-first LF ([] ∷ []) line rest e) (lines-on t line rest)
-
--- ---- what a line begins with, and its numbers
-begins-word : (word : List ℕ) (c : ℕ) (rest : List ℕ) → begins (word ++ (c ∷ [])) (word ++ (c ∷ rest)) ≡ true
-unfolding begins
-begins-word [] c rest = rw (eq-eqb c c refl)
-begins-word (w ∷ word) c rest = rw (eq-eqb w w refl, begins-word word c rest)
-
-row-written : (most k : ℕ) (file : List ℕ) (at : ℕ) (line : List ℕ) → at ≤ length file → drop at file ≡ line ++ lineEnd → Free LF line
-    → rowWithin most file at k ≡ numbersWithin most k (fieldsOf line)
-unfolding rowWithin lineAt placeFrom bytesBefore
-row-written most k file at line l d e =
-    let before : bytesBefore LF (line ++ lineEnd) ≡ length line = before-free LF line lineEnd e ∙ add-zero (length line) in
-    let long : at + length line < length file = omega (arith, l, sym (length-drop at file) ∙ ap length d ∙ length-append line lineEnd) in
-    rw (d, before, lt-ltb (at + length line) (length file) long, take-append-seam line lineEnd)
 
 -- ---- facts of the fourteen lines, by computation
 fourteen : (p : ℕ → Bool) → some-below 14 (λ d. not (p d)) ≡ false → (d : ℕ) → d < 14 → p d ≡ true
@@ -128,8 +91,7 @@ number-high : (n : ℕ) → n ≤ mostTotal → High (digitsOf n)
 number-high n l = numeral-high 18 (digitsOf n) (pos n) (read-number n l)
 
 number-free : (n : ℕ) → n ≤ mostTotal → Free LF (digitsOf n)
-unfolding bytesBefore
-number-free n l = ap (bytesBefore LF) (sym (append-nil (digitsOf n))) ∙ before-high LF (digitsOf n) [] (omega arith) (number-high n l) ∙ add-zero (length (digitsOf n))
+number-free n l = free-high LF (digitsOf n) (omega arith) (number-high n l)
 
 -- what stands behind the head and its tab, before the LF
 abbrev figures : (pair : Bool) (a b : ℕ) → List ℕ
@@ -198,8 +160,7 @@ module _ (x : List ℕ) (d : ℕ) where
         ap (entryAt d) same
         ∙ sym (due-head d text starts)
         ∙ ap entryOf
-        (row-written 18 (cond (pairOn d) 2 1) text at f (omega (arith, reach, length-append (headOf d ++ (TAB ∷ [])) (f ++ lineEnd)))
-        (drop-at (headOf d ++ (TAB ∷ [])) (f ++ lineEnd) at reach) (figures-free (pairOn d) firstOn secondOn m n))
+        (row-written text at f [] (drop-at (headOf d ++ (TAB ∷ [])) (f ++ lineEnd) at reach) (figures-free (pairOn d) firstOn secondOn m n) 18 (cond (pairOn d) 2 1))
         ∙ figures-read (pairOn d) firstOn secondOn m n
 
 place-count : (d : ℕ) → d < 12 → placeOf d ≡ d

@@ -93,7 +93,7 @@ pub fn number_case(rng: &mut Rng) -> NumberCase {
 }
 
 /// A net that is well formed; what its solution says of it is another matter.
-fn sound_net(rng: &mut Rng) -> Vec<Line> {
+pub(super) fn sound_net(rng: &mut Rng) -> Vec<Line> {
     let m = direction_count(rng);
     let directions: Vec<i64> = (0..m).map(|_| rng.direction()).collect();
     let q = inverse_weights(rng, m);
@@ -120,7 +120,7 @@ fn sound_net(rng: &mut Rng) -> Vec<Line> {
 
 /// A net with corrections next to one minute: the angles of each condition have directions
 /// of their own, which share its misclosure equally.
-fn net_about_a_minute(rng: &mut Rng) -> Vec<Line> {
+pub(super) fn net_about_a_minute(rng: &mut Rng) -> Vec<Line> {
     let n = rng.count(1, 3);
     let angles = rng.count(1, 4);
     let ends = rng.count(1, 2);
@@ -150,7 +150,7 @@ fn net_about_a_minute(rng: &mut Rng) -> Vec<Line> {
 }
 
 /// A net of side conditions in which rows and pivots stand next to their limits.
-fn net_of_rows(rng: &mut Rng) -> Vec<Line> {
+pub(super) fn net_of_rows(rng: &mut Rng) -> Vec<Line> {
     let draft = match rng.below(8) {
         0 | 1 => lone_light(rng),
         2 | 3 => next_to_its_entry(rng),
@@ -484,7 +484,7 @@ fn fill_terms(rng: &mut Rng, lines: &mut Vec<Line>) {
 }
 
 /// The same condition twice, which makes a weak row of the second.
-fn repeat_condition(rng: &mut Rng, lines: &mut Vec<Line>) {
+pub(super) fn repeat_condition(rng: &mut Rng, lines: &mut Vec<Line>) {
     let starts: Vec<usize> = (0..lines.len())
         .filter(|&index| lines[index][0] == "C")
         .collect();

@@ -3,7 +3,7 @@
 use super::*;
 use reference::census::{self, Replies};
 use reference::generate::Rng;
-use reference::{book, precision, reports, season};
+use reference::{book, precision, reports, season, sheet};
 
 fn assert_frequent(name: &str, replies: &Replies, numbers: &[i64], cases: usize) {
     for number in numbers {
@@ -43,6 +43,19 @@ fn every_reply_occurs_often() {
     assert_frequent("add reports", &census.add_reports, &[0, 2, 3, 30], cases);
     let texts = &census.texts_of_reports;
     assert_frequent("texts of reports", texts, &[0, 1, 30], cases);
+    assert_frequent("sheet", &census.sheet, &[0, 1, 2, 3, 4, 5, 31], cases);
+    assert!(census.sheets_yes.keys().eq(&[0, 6, 7, 8, 9]));
+    assert!(census.sheets_no.keys().eq(&[0, 6, 7, 8, 9]));
+    assert!(5 * census.sheets_yes.values().sum::<usize>() >= cases);
+    assert_eq!(census.sheet_faults.len(), 8);
+    assert!(census
+        .sheet_faults
+        .values()
+        .all(|count| 200 * count >= cases));
+    let limits = [census.sheets_at_limits, census.sheets_past_limits];
+    assert!(limits.as_flattened().iter().all(|&count| count > 0));
+    assert!(census.largest_sheets.iter().all(|&count| count > 0));
+    assert!(100 * census.long_sheets >= cases);
     // Archives of 100,000 nets are few, since they are long.
     assert!(census.report.keys().eq(&[0, 2, 30]));
     assert_frequent("nets", &census.season_nets, &network, cases);
@@ -121,6 +134,16 @@ fn wild_season(rng: &mut Rng, bytes: &[u8]) {
     let _ = season::begin(&held, &mut totals, &mut place);
 }
 
+/// A net that is sound, of the largest coefficients and misclosure.
+const WILD_NET: &[u8] = b"D\t1\t0\t10\nC\tS\nL\t10000\t2000\t0\t1\n";
+
+/// A sheet in form of one direction and one condition, with any numbers.
+fn wild_sheet(rng: &mut Rng) -> Vec<u8> {
+    let ends = [0, 1, 60_000, 100_000_000, 10_i64.pow(18) - 1];
+    let [u, adjusted, k, r, q] = [(); 5].map(|()| rng.sign() * rng.pick(&ends));
+    format!("ADJ\t1\t1\nV\t1\t{u}\t{adjusted}\nK\t1\t{k}\t{r}\t{q}\n").into_bytes()
+}
+
 #[test]
 fn no_input_panics() {
     let mut rng = Rng::new(24);
@@ -166,6 +189,8 @@ fn no_input_panics() {
         let _ = book::listing(&bytes);
         let _ = reports::report(&bytes);
         let _ = reports::add_reports(&bytes);
+        let _ = sheet::listing(&bytes, &bytes);
+        let _ = sheet::listing(WILD_NET, &wild_sheet(&mut rng));
         wild_season(&mut rng, &bytes);
         let _ = lines::line(&bytes, rng.below(70));
         let _ = lines::read_number(&bytes);

@@ -40,9 +40,7 @@ P 0 3
 F 216000000
 ";
 
-#[test]
-fn figure_3_network_file() {
-    let expected = "\
+pub const FIGURE_3_LISTING: &str = "\
 ADJ 3 2
 V 1 -2000 215998000
 V 2 -1000 216002000
@@ -50,7 +48,10 @@ V 3 1000 215998000
 K 1 -2000000 0 0
 K 2 1000000 0 0
 ";
-    assert_eq!(listing(FIGURE_3), expected);
+
+#[test]
+fn figure_3_network_file() {
+    assert_eq!(listing(FIGURE_3), FIGURE_3_LISTING);
 }
 
 #[test]

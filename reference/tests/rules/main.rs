@@ -1,5 +1,5 @@
 //! The rules as tests: the ten figures, every refusal, the readings of open points, the
-//! sighting book, the season report, and what the generator reaches.
+//! sighting book, the season report, the check of a sheet, and what the generator reaches.
 
 mod book;
 mod census;
@@ -9,6 +9,7 @@ mod readings;
 mod refusals;
 mod reports;
 mod season;
+mod sheet;
 
 use reference::adjustment::{self, Adjustment, ConditionTable, Weakness};
 use reference::condition::{self, ConditionKind, LentCondition};
@@ -53,6 +54,14 @@ pub fn list_spaced(list: fn(&[u8]) -> Vec<u8>, file: &str) -> String {
 pub fn first_line(listing: &str) -> String {
     assert!(listing.ends_with('\n'));
     listing.lines().next().unwrap_or_default().to_string()
+}
+
+/// A text with line `number` replaced.
+pub fn with_line(text: &str, number: usize, line: &str) -> String {
+    let lines = text.lines().enumerate();
+    lines
+        .map(|(index, old)| format!("{}\n", if index + 1 == number { line } else { old }))
+        .collect()
 }
 
 /// The listing of a net written with spaces for tabs.

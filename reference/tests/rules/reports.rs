@@ -51,14 +51,6 @@ S 90123 4567
 SHARED 11
 ";
 
-/// A report with line `number` replaced.
-fn with_line(report: &str, number: usize, line: &str) -> String {
-    let lines = report.lines().enumerate();
-    lines
-        .map(|(index, old)| format!("{}\n", if index + 1 == number { line } else { old }))
-        .collect()
-}
-
 /// A report of so many nets, all of them accepted.
 fn nets(count: u64) -> String {
     with_line(

@@ -8,3 +8,4 @@ pub mod molsadriu;
 pub mod net;
 pub mod operations;
 pub mod season;
+pub mod sheet;

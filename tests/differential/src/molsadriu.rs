@@ -181,6 +181,14 @@ extern "C" {
         sum_room: usize,
     ) -> Verdict;
 
+    fn molsadriu_check_sheet(
+        net: *const u8,
+        net_length: usize,
+        listing: *const u8,
+        listing_length: usize,
+        line: *mut u64,
+    ) -> Verdict;
+
     fn molsadriu_refused_line(number: u64, place: u64, out: *mut u8, out_room: usize) -> usize;
 
     fn molsadriu_list_file(
@@ -398,6 +406,20 @@ pub fn add_reports([first, second, sum]: &mut [Counts; 3]) -> Verdict {
             second.length(),
             sum.pointer(),
             sum.length(),
+        )
+    }
+}
+
+/// Lists in the header's order: net, listing; then the line, a list of just one place.
+pub fn check_sheet([net, listing]: &mut [Lent<u8>; 2], line: &mut Counts) -> Verdict {
+    assert_eq!(line.length(), 1);
+    unsafe {
+        molsadriu_check_sheet(
+            net.pointer(),
+            net.length(),
+            listing.pointer(),
+            listing.length(),
+            line.pointer(),
         )
     }
 }

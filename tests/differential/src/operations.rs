@@ -19,7 +19,7 @@ use reference::station;
 use crate::compare::{Operation, Outcome, Reply};
 use crate::lent::{Lent, Mark};
 use crate::molsadriu::{
-    self, OnFile, Verdict, LISTING, PROBABLE_LISTING, REFUSED_LINE, STATION_LISTING,
+    self, Counts, OnFile, Verdict, LISTING, PROBABLE_LISTING, REFUSED_LINE, STATION_LISTING,
 };
 
 pub struct StationMeans;
@@ -55,6 +55,14 @@ impl<C> Drawn<C> {
     fn blank(&self, length: usize) -> Lent<i64> {
         Lent::blank(length).or_null(self.null)
     }
+
+    pub(crate) fn counts(&self, values: &[u64]) -> Counts {
+        Lent::holding(values).or_null(self.null)
+    }
+
+    pub(crate) fn bytes(&self, values: &[u8]) -> Lent<u8> {
+        Lent::holding(values).or_null(self.null)
+    }
 }
 
 /// A list of any length and of any numbers, in one case of thirty in place of a drawn one.
@@ -68,6 +76,12 @@ fn wild(rng: &mut Rng, most: usize) -> Vec<i64> {
     (0..length).map(|_| number(rng)).collect()
 }
 
+/// The same of bytes.
+pub(crate) fn wild_bytes(rng: &mut Rng) -> Vec<u8> {
+    let length = rng.below(60);
+    (0..length).map(|_| rng.range(0, 255) as u8).collect()
+}
+
 pub(crate) fn is_wild(rng: &mut Rng) -> bool {
     rng.below(30) == 0
 }
@@ -77,9 +91,23 @@ pub(crate) fn refused(refusal: Refusal) -> [u64; 2] {
     [refusal.number, refusal.place].map(|x| u64::try_from(x).unwrap_or(!0))
 }
 
+pub(crate) fn told(verdict: Verdict) -> [u64; 2] {
+    [verdict.number, verdict.place]
+}
+
+/// What a call without lists of signed numbers leaves behind.
+pub(crate) fn outcome(said: [u64; 2], counts: Vec<Counts>, bytes: Vec<Lent<u8>>) -> Outcome {
+    Outcome {
+        said,
+        numbers: Vec::new(),
+        counts,
+        bytes,
+    }
+}
+
 fn of_verdict(verdict: Verdict, numbers: impl Into<Vec<Lent<i64>>>) -> Outcome {
     Outcome {
-        said: [verdict.number, verdict.place],
+        said: told(verdict),
         numbers: numbers.into(),
         counts: Vec::new(),
         bytes: Vec::new(),
@@ -402,18 +430,14 @@ impl fmt::Debug for FileCase {
 
 fn file_lists(drawn: &Drawn<FileCase>) -> [Lent<u8>; 2] {
     let FileCase { file, room } = &drawn.case;
-    [
-        Lent::holding(file).or_null(drawn.null),
-        Lent::blank(*room).or_null(drawn.null),
-    ]
+    [drawn.bytes(file), Lent::blank(*room).or_null(drawn.null)]
 }
 
 /// A file of one kind, seldom one of any bytes, and room about the `least` that it asks.
 fn draw_file(rng: &mut Rng, draw: fn(&mut Rng) -> Vec<u8>, least: usize) -> Drawn<FileCase> {
     let mut file = draw(rng);
     if is_wild(rng) {
-        let length = rng.below(60);
-        file = (0..length).map(|_| rng.range(0, 255) as u8).collect();
+        file = wild_bytes(rng);
     }
     let room = draw_room(rng, least);
     Drawn::new(FileCase { file, room }, rng)
@@ -544,12 +568,7 @@ fn draw_count(rng: &mut Rng) -> u64 {
 }
 
 fn of_bytes(said: u64, bytes: Vec<Lent<u8>>) -> Outcome {
-    Outcome {
-        said: [said, 0],
-        numbers: Vec::new(),
-        counts: Vec::new(),
-        bytes,
-    }
+    outcome([said, 0], Vec::new(), bytes)
 }
 
 /// The outcome by the reference of an operation that answers in the first bytes of the
@@ -644,7 +663,7 @@ fn draw_line(rng: &mut Rng) -> Drawn<LineCase> {
 }
 
 fn line_list(drawn: &Drawn<LineCase>) -> Lent<u8> {
-    Lent::holding(&drawn.case.file).or_null(drawn.null)
+    drawn.bytes(&drawn.case.file)
 }
 
 fn of_line(said: u64, file: Lent<u8>) -> Outcome {

@@ -12,8 +12,8 @@ use reference::season::{self, HELD, PLACES, TOTALS};
 
 use crate::compare::{Operation, Outcome, Reply};
 use crate::lent::{Lent, Mark};
-use crate::molsadriu::{self, Counts, Verdict};
-use crate::operations::{is_wild, refused, verdict_reply, Drawn};
+use crate::molsadriu::{self, Counts};
+use crate::operations::{is_wild, outcome, refused, told, verdict_reply, wild_bytes, Drawn};
 
 pub struct Report;
 /// A whole stream: begun, given an archive in parts, and ended. What the reference's stream
@@ -24,32 +24,9 @@ pub struct Next;
 pub struct End;
 pub struct AddReports;
 
-impl<C> Drawn<C> {
-    fn counts(&self, values: &[u64]) -> Counts {
-        Lent::holding(values).or_null(self.null)
-    }
-
-    fn bytes(&self, values: &[u8]) -> Lent<u8> {
-        Lent::holding(values).or_null(self.null)
-    }
-}
-
 /// What a call of the reference says.
 fn said(reply: Result<(), Refusal>) -> [u64; 2] {
     reply.err().map_or([0, 0], refused)
-}
-
-fn told(verdict: Verdict) -> [u64; 2] {
-    [verdict.number, verdict.place]
-}
-
-fn outcome(said: [u64; 2], counts: Vec<Counts>, bytes: Vec<Lent<u8>>) -> Outcome {
-    Outcome {
-        said,
-        numbers: Vec::new(),
-        counts,
-        bytes,
-    }
 }
 
 /// A list of any length and any numbers, many of them the ends of their range.
@@ -77,8 +54,7 @@ impl fmt::Debug for Archive {
 fn draw_archive(rng: &mut Rng) -> Drawn<Archive> {
     let mut case = archive_case(rng);
     if is_wild(rng) {
-        let length = rng.below(60);
-        case.archive = (0..length).map(|_| rng.range(0, 255) as u8).collect();
+        case.archive = wild_bytes(rng);
         case.cuts.clear();
     }
     Drawn::new(Archive(case), rng)

@@ -11,6 +11,7 @@ use differential::operations::{
     ProbableFile, RefusedLine, StationBook, StationMeans,
 };
 use differential::season::{AddReports, Begin, End, Next, Report, Season};
+use differential::sheet::CheckSheet;
 
 const CASES: u64 = 75_000;
 const SEED: u64 = 138;
@@ -52,6 +53,7 @@ fn reply(words: &[&str]) -> Option<bool> {
         row::<Next>(),
         row::<End>(),
         row::<AddReports>(),
+        row::<CheckSheet>(),
         row::<RefusedLine>(),
         row::<ListFile>(),
         row::<Line>(),

@@ -34,7 +34,7 @@ slice-aggregate-read-behind : tie.Need-slice-aggregate-read-behind Inv-loop μ-l
 slice-aggregate-read-behind c = search needs
 
 read-behind-requires : tie.Need-read-behind-requires Inv-loop μ-loop
-read-behind-requires c κs = let v = c .before .before .loop .inv in (omega arith, v .1 .0 .within, omega arith, omega arith, omega (arith, v .0))
+read-behind-requires c κs = let v = c .before .before .loop .inv in (omega arith, v .1 .0 .reached .within, omega arith, omega arith, omega (arith, v .0))
 
 enum-known-end : tie.Need-enum-known-end Inv-loop μ-loop
 enum-known-end c = search needs
@@ -48,7 +48,7 @@ module _ (c : tie.After-enum-told Inv-loop μ-loop) where
   broken = c .before .before .before .before .before .before
 
 add-t15 : tie.Need-add-t15 Inv-loop μ-loop
-add-t15 c = let l = broken c in omega (arith, l .loop .inv .1 .0 .few, l .loop .inv .1 .0 .within)
+add-t15 c = let b = broken c .loop .inv .1 .0 .reached in omega (arith, b .few, b .within)
 
 same-length : tie.Need-same-length Inv-loop μ-loop
 same-length c = let l = broken c in l .loop .inv .1 .1 .0 .room ∙ sym (l .before .before .pre .1)
@@ -104,10 +104,10 @@ module _ (c : tie.After-reading Inv-loop μ-loop) where
   entered {k} col e l = subst (Column file k (turn .loop .n + 1)) (sym e) (column-more file k col fields (take 4 fields) (on .0) refl l)
 
 add-n : tie.Need-add-n Inv-loop μ-loop
-add-n c = let b = turn c .loop .inv .1 .0 in omega (arith, b .few, b .within)
+add-n c = let b = turn c .loop .inv .1 .0 .reached in omega (arith, b .few, b .within)
 
 loop-less : tie.Need-loop-less Inv-loop μ-loop
-loop-less c = omega (arith, told c .1, on c .1 .within, place-after LF (file c) (turn c .loop .start))
+loop-less c = omega (arith, told c .1, on c .1 .reached .within, place-after LF (file c) (turn c .loop .start))
 
 loop-again : tie.Need-loop-again Inv-loop μ-loop
 loop-again c =
