@@ -2,7 +2,7 @@
 use mathlib.Core.Path.{_≡_, _∙_, ap}
 use mathlib.Core.Bool.{cond}
 use mathlib.Core.List.{List, []}
-use Prim.Native.Nat.{ℕ}
+use Prim.Native.Nat.{ℕ, _≤_}
 use native.Mathlib.Omega.{arith}
 use borrow.Author.Needs.{needs}
 use lib.Dec.{ltb}
@@ -16,10 +16,10 @@ use Rattle.lister.proofs.sheets.print.Statement.{statement}
 use Rattle.lister.proofs.sheets.print.Tie as tie
 
 -- the answer to the first bytes is that to the whole listing
-whole-answer : (net listing whole : List ℕ) (room : ℕ) → listing ≡ take 65536 whole → answerIn net listing room ≡ answerIn net whole room
+whole-answer : (net listing whole : List ℕ) (room size : ℕ) → 65536 ≤ size → listing ≡ take size whole → answerIn net listing room ≡ answerIn net whole room
 unfolding answerIn
-whole-answer net listing whole room read =
-    ap (λ (o : Opinion). cond (ltb room 52) [] (answerLine o)) (ap (opinionOf net) read ∙ first-bytes net whole 65536 (omega arith))
+whole-answer net listing whole room size most read =
+    ap (λ (o : Opinion). cond (ltb room 52) [] (answerLine o)) (ap (opinionOf net) read ∙ first-bytes net whole size (omega (arith, most)))
 
 print-requires : tie.Need-print-requires
 print-requires c κs = search needs
@@ -28,7 +28,7 @@ same-length : tie.Need-same-length
 same-length c = search needs
 
 returns : tie.Need-returns
-returns c = let printed = c .before .before .print .ensures in (λ whole read. rewrote (whole-answer _ _ whole _ read) (printed .0), printed .1)
+returns c = let printed = c .before .before .print .ensures in (λ whole size most read. rewrote (whole-answer _ _ whole _ size most read) (printed .0), printed .1)
 
 pub print-spec : {M : Type 1} → statement M
 print-spec = tie.close (tie.spec print-requires same-length returns)
