@@ -14,9 +14,9 @@
  * refusal alone comes with an answer: 30, from molsadriu_report and molsadriu_season_end. docs/COSTS.md says how much stack a call takes.
  *
  * WHAT CANNOT BE SEEN, and is up to the caller: that a list has as many numbers as its length says, where that length agrees with the
- * others (a null pointer with a length above 0 has not), that a pointer to one number, `w`, `length`, `mean` or `probable`, is not null,
- * that each pointer is aligned for its type, and that what is lent for an answer shares no place with anything else lent in the same call.
- * Lists that are only read may overlap.
+ * others (a null pointer with a length above 0 has not), that a pointer to one number, `w`, `length`, `mean`, `probable` or `line`, is not
+ * null, that each pointer is aligned for its type, and that what is lent for an answer shares no place with anything else lent in the
+ * same call. Lists that are only read may overlap.
  *
  * UNITS. Directions, readings, printed corrections u, mean error and probable error are in 0.001 second, coefficients a in hundredths,
  * misclosures w in thousandths of the condition's unit, correlates K in millionths, corrections V in 10^-8 second, remainders R and Q in
@@ -35,7 +35,7 @@ extern "C" {
 
 /* The version of this header. Each request that changes a number of the table of refusals, a limit, a unit or a function's parameters, or
  * adds a function, raises it by one. The archive holds no version: header and archive go together, from one state of the project. */
-#define MOLSADRIU_VERSION 5
+#define MOLSADRIU_VERSION 6
 
 /* The archive is made for computers whose lengths have 64 bits; a compiler for another one stops here. */
 typedef char molsadriu_lengths_have_64_bits[sizeof(size_t) == 8 ? 1 : -1];
@@ -85,6 +85,7 @@ typedef char molsadriu_lengths_have_64_bits[sizeof(size_t) == 8 ? 1 : -1];
  *  30   a net past 100,000 in a season report; the one refusal that comes   100001
  *       with an answer, the totals of the nets before it, but where two
  *       reports are added
+ *  31   a line of another office's listing that is not the one due          line
  *
  * Lines, ordinals, directions, rows, conditions and nets count from 1. The first refusal in the rules' order of checks is told, and no
  * other. */
@@ -297,6 +298,21 @@ molsadriu_verdict molsadriu_add_reports(
     const uint64_t *first, size_t first_length,
     const uint64_t *second, size_t second_length,
     uint64_t *sum, size_t sum_room);
+
+/* Checks another office's sheet: whether a listing, whoever made it, agrees with a net. In: the bytes of a network file, and those of the
+ * listing, an ADJ line, V lines and K lines as above, with nothing behind them and with numbers of at most 18 digits. It agrees where its
+ * counts are the net's, no K is above 10^8 in size, u, adjusted direction, R and Q on each line are what the net and those K give, no R is
+ * above 50,000,000 in size and no u above 60,000. The listing that molsadriu_adjust_file has for an accepted net agrees with it.
+ * Out, in the one number at `line`, which must not be null: 0 where it agrees; else the line of the first test that fails, of the counts
+ * (line 1), then of the sizes of the K, then of all lines in order.
+ * Comes back: the verdict, which is 0 also where it does not agree. 1 to 5 refuse the net, as in molsadriu_adjust_file, and 6 to 9 are not
+ * asked. Then 31 refuses the listing at its first line that is not the one due: the ADJ line counts 1 to 64 directions and 1 to 24
+ * conditions, and by these counts V and K lines are due, each numbered from 1. A line that is missing or lacks its LF is told where it was
+ * due, and a line more where it stands. A refusal leaves the number at `line` as it was. A listing may have any length. */
+molsadriu_verdict molsadriu_check_sheet(
+    const uint8_t *net, size_t net_length,
+    const uint8_t *listing, size_t listing_length,
+    uint64_t *line);
 
 #ifdef __cplusplus
 }

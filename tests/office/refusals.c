@@ -568,6 +568,156 @@ static void network(void)
                  "ADJ\t2\t2\nV\t1\t-1000\t0\nV\t2\t-60000\t0\nK\t1\t-1000000\t0\t0\nK\t2\t-60000000\t0\t0\n", "E\t42432\t28620\n");
 }
 
+/* ---- another office's sheet: figure 3's, and some that no adjustment of ours would make */
+/* Nets of one direction and one condition, for their limits. */
+static const char heavy[] = "D\t1\t0\t10\nC\tA\t0\nP\t0\t1\n", minute[] = "D\t1\t60000\t1\nC\tA\t0\nP\t0\t1\n",
+                  past[] = "D\t1\t60001\t1\nC\tA\t0\nP\t0\t1\n", light[] = "D\t1\t0\t1\nC\tS\nL\t0\t10\t0\t1\nR\t10\t0\t0\t0\n";
+
+/* A check gives this verdict. One that refuses leaves the number for the line as it was. */
+static int checks_sheet(const char *text, const char *sheet, uint64_t number, uint64_t place, uint64_t line)
+{
+    uint8_t *file = copy(text), *listed = copy(sheet);
+    uint64_t left = 4711;
+    int right = is(molsadriu_check_sheet(file, strlen(text), listed, strlen(sheet), &left), number, place) && left == line;
+    if (left != line) printf("  line %" PRIu64 ", and not %" PRIu64 "\n", left, line);
+    free(file);
+    free(listed);
+    return right;
+}
+
+static int agrees(const char *text, const char *sheet)
+{
+    return checks_sheet(text, sheet, 0, 0, 0);
+}
+
+static int disagrees(const char *text, const char *sheet, uint64_t line)
+{
+    return checks_sheet(text, sheet, 0, 0, line);
+}
+
+/* A sheet of figure 3 that is malformed at this line; a net that is refused comes first. */
+static int malformed(const char *sheet, uint64_t line)
+{
+    return checks_sheet(net, sheet, 31, line, 4711) && checks_sheet("X\n", sheet, 1, 1, 4711);
+}
+
+/* A net that is refused so, with a sheet that is well formed, with one that is not and with none. */
+static int unchecked(const char *text, uint64_t number, uint64_t place)
+{
+    return checks_sheet(text, listing, number, place, 4711) && checks_sheet(text, "ADJ\n", number, place, 4711) &&
+           checks_sheet(text, "", number, place, 4711);
+}
+
+/* Figure 3's listing with one text in the place of another. */
+static const char *with(const char *old, const char *new)
+{
+    static char sheet[2 * sizeof listing];
+    const char *at = strstr(listing, old);
+    if (at == NULL || strlen(new) > sizeof listing) exit(2);
+    snprintf(sheet, sizeof sheet, "%.*s%s%s", (int)(at - listing), listing, new, at + strlen(old));
+    return sheet;
+}
+
+static void sheet_agreement(void)
+{
+    CHECK(agrees(net, listing));
+    /* each number but those of the lines themselves */
+    CHECK(disagrees(net, with("-2000\t", "-2001\t"), 2));
+    CHECK(disagrees(net, with("-2000\t", "2000\t"), 2));
+    CHECK(disagrees(net, with("215998000\nV\t2", "215998001\nV\t2"), 2));
+    CHECK(disagrees(net, with("-1000", "-100000000000000000"), 3));
+    CHECK(disagrees(net, with("216002000", "999999999999999999"), 3));
+    CHECK(disagrees(net, with("1000\t215998000\nK", "1000\t-215998000\nK"), 4));
+    CHECK(disagrees(net, with("-2000000\t0\t0", "-2000001\t0\t0"), 5));
+    CHECK(disagrees(net, with("-2000000\t0\t0", "-2000000\t1\t0"), 5));
+    CHECK(disagrees(net, with("-2000000\t0\t0", "-2000000\t0\t-1"), 5));
+    CHECK(disagrees(net, with("1000000\t0\t0\n", "1000000\t0\t999999999999999999\n"), 6));
+    CHECK(disagrees(net, with("K\t2\t1000000\t0\t0", "K\t2\t1000000\t0\t1"), 6));
+    /* other counts before all else, also more conditions than directions */
+    CHECK(disagrees(net, "ADJ\t1\t1\nV\t1\t0\t0\nK\t1\t100000001\t0\t0\n", 1));
+    CHECK(disagrees(net, "ADJ\t3\t1\nV\t1\t0\t0\nV\t2\t0\t0\nV\t3\t0\t0\nK\t1\t0\t0\t0\n", 1));
+    CHECK(disagrees(heavy, "ADJ\t1\t2\nV\t1\t0\t0\nK\t1\t0\t0\t0\nK\t2\t0\t0\t0\n", 1));
+    /* a K too large before any line that is amiss; of two, the first */
+    CHECK(disagrees(net, with("K\t2\t1000000", "K\t2\t100000001"), 6));
+    CHECK(disagrees(net, with("K\t2\t1000000", "K\t2\t-100000001"), 6));
+    CHECK(disagrees(net, with("K\t2\t1000000", "K\t2\t999999999999999999"), 6));
+    CHECK(disagrees(net, with("-2000000\t0\t0\nK\t2\t1000000", "100000001\t0\t0\nK\t2\t100000001"), 5));
+    CHECK(disagrees(net, with("K\t2\t1000000", "K\t2\t100000000"), 3));
+    /* both sides of the limits, of K, R and u */
+    CHECK(agrees(light, "ADJ\t1\t1\nV\t1\t10000\t10000\nK\t1\t100000000\t0\t0\n"));
+    CHECK(disagrees(light, "ADJ\t1\t1\nV\t1\t10000\t10000\nK\t1\t100000001\t100\t0\n", 3));
+    CHECK(agrees(heavy, "ADJ\t1\t1\nV\t1\t0\t0\nK\t1\t0\t0\t0\n"));
+    CHECK(agrees(heavy, "ADJ\t1\t1\nV\t1\t5\t5\nK\t1\t500\t50000000\t50000000\n"));
+    CHECK(disagrees(heavy, "ADJ\t1\t1\nV\t1\t5\t5\nK\t1\t501\t50100000\t50000000\n", 3));
+    CHECK(agrees(minute, "ADJ\t1\t1\nV\t1\t-60000\t0\nK\t1\t-60000000\t0\t0\n"));
+    CHECK(disagrees(past, "ADJ\t1\t1\nV\t1\t-60001\t0\nK\t1\t-60001000\t0\t0\n", 2));
+    /* a net that an adjustment refuses with 6 may have a sheet that agrees, and one with 8 has its R against it */
+    CHECK(agrees("D\t1\t0\t1\nC\tS\nL\t0\t0\t0\t0\n", "ADJ\t1\t1\nV\t1\t0\t0\nK\t1\t7\t0\t0\n"));
+    CHECK(disagrees("D\t1\t0\t10\nD\t2\t0\t10\nD\t3\t0\t10\nD\t4\t0\t10\nC\tS\n"
+                    "L\t2\t2000\t0\t1\nL\t0\t2000\t0\t2\nL\t0\t2000\t0\t3\nL\t0\t2000\t0\t4\n",
+                    "ADJ\t4\t1\nV\t1\t-3\t1295999997\nV\t2\t-3\t1295999997\nV\t3\t-3\t1295999997\nV\t4\t-3\t1295999997\n"
+                    "K\t1\t-13\t-80000000\t-400000000\n", 6));
+}
+
+static void sheet_form(void)
+{
+    static const char *const headings[12] = {"", "ADJ\t3\t2", "ADJ\t0\t1\n", "ADJ\t65\t1\n", "ADJ\t1\t0\n", "ADJ\t1\t25\n", "ADJ\t3\n",
+                                             "ADJ\t3\t2\t\n", "adj\t3\t2\n", "ADJ 3 2\n", "ADJ\t-3\t2\n", "REFUSED\t6\t1\n"};
+    char more[2 * sizeof listing];
+    for (size_t n = 0; n < 12; n++) CHECK(malformed(headings[n], 1));
+    CHECK(malformed("ADJ\t64\t24\n", 2));
+    CHECK(malformed("\n", 1));
+    /* each line left out, and the last without its LF */
+    for (size_t n = 1, at = 0; at < strlen(listing); n++) {
+        size_t length = strcspn(listing + at, "\n");
+        snprintf(more, sizeof more, "%.*s%s", (int)at, listing, listing + at + length + 1);
+        CHECK(malformed(more, n));
+        snprintf(more, sizeof more, "%.*s", (int)(at + length), listing);
+        CHECK(malformed(more, n));
+        at += length + 1;
+    }
+    /* a line more, whatever it is */
+    static const char *const lines[4] = {"E\t1732\t1168\n", "K\t3\t0\t0\t0\n", "\n", "K"};
+    for (size_t n = 0; n < 4; n++) {
+        snprintf(more, sizeof more, "%s%s", listing, lines[n]);
+        CHECK(malformed(more, 7));
+    }
+    /* numbers: 18 digits at most, and none that is written in two ways */
+    CHECK(malformed(with("-2000\t", "1000000000000000000\t"), 2));
+    CHECK(malformed(with("-1000", "-01000"), 3));
+    CHECK(malformed(with("\t1000\t", "\t+1000\t"), 4));
+    CHECK(malformed(with("-2000000\t0\t0", "-2000000\t-0\t0"), 5));
+    CHECK(malformed(with("K\t2\t1000000\t0", "K\t2\t1000000\t"), 6));
+    CHECK(malformed(with("V\t2", "V\t1"), 3));
+    CHECK(malformed(with("V\t3", "K\t3"), 4));
+    CHECK(malformed(with("K\t1", "K\t2"), 5));
+}
+
+static void sheets(void)
+{
+    const size_t too_long[2] = {MOLSADRIU_FILE + 1, SIZE_MAX};
+    uint8_t *file = copy(net), *listed = copy(listing);
+    uint64_t line = 4711;
+    sheet_agreement();
+    sheet_form();
+    CHECK(unchecked("D\t1\t0\t1\nX\n", 1, 2));
+    CHECK(unchecked("D\t1\t0\t1\nD\t3\t0\t1\n", 2, 2));
+    CHECK(unchecked("D\t1\t0\t1\n", 2, 0));
+    CHECK(unchecked("D\t1\t0\t1\nD\t2\t0\t11\n", 3, 2));
+    CHECK(unchecked("D\t1\t0\t1\nC\tS\nL\t0\t2000\t0\t1\nL\t0\t1\t0\t1\n", 4, 1));
+    CHECK(unchecked("D\t1\t0\t1\nC\tA\t1000001\nP\t1\t0\n", 5, 1));
+    /* too long is seen before the net is read; an empty file may have no place; what is only read may overlap */
+    for (size_t n = 0; n < 2; n++) CHECK(is(molsadriu_check_sheet(file, too_long[n], listed, strlen(listing), &line), 2, 0) && line == 4711);
+    CHECK(is(molsadriu_check_sheet(NULL, 0, listed, strlen(listing), &line), 2, 0) && line == 4711);
+    CHECK(is(molsadriu_check_sheet(NULL, 0, NULL, 0, &line), 2, 0) && line == 4711);
+    CHECK(is(molsadriu_check_sheet(file, strlen(net), NULL, 0, &line), 31, 1) && line == 4711);
+    CHECK(is(molsadriu_check_sheet(file, strlen(net), file, strlen(net), &line), 31, 1) && line == 4711);
+    CHECK(is(molsadriu_check_sheet(file, strlen(net), listed, strlen(listing), &line), 0, 0) && line == 0);
+    CHECK(memcmp(file, net, strlen(net)) == 0 && memcmp(listed, listing, strlen(listing)) == 0);
+    free(file);
+    free(listed);
+}
+
 /* ---- a sighting book: figure 9 */
 static void book(void)
 {
@@ -938,6 +1088,7 @@ int main(void)
     lines();
     refused_lines();
     network();
+    sheets();
     book();
     seasons();
     printf("%u checks, %u failed\n", checks, failures);

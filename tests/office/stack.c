@@ -162,6 +162,17 @@ static void add_reports(void)
     answered = molsadriu_add_reports(totals, MOLSADRIU_TOTALS, totals, MOLSADRIU_TOTALS, sum, MOLSADRIU_TOTALS).number;
 }
 
+/* the listing of the network file, as another office's */
+static uint8_t sheet[MOLSADRIU_LISTING];
+static size_t sheet_length;
+static uint64_t sheet_line;
+
+static void check_sheet(void)
+{
+    HERE;
+    answered = molsadriu_check_sheet(file, file_length, sheet, sheet_length, &sheet_line).number;
+}
+
 /* ---- their input */
 static void fill(const char *name)
 {
@@ -193,6 +204,7 @@ static void fill(const char *name)
     if (in == NULL) stop("the network file cannot be opened");
     file_length = fread(file, 1, sizeof file, in);
     fclose(in);
+    if (molsadriu_adjust_file(file, file_length, sheet, sizeof sheet, &sheet_length).number != 0) stop("the network file is refused");
     for (int n = 0; n < 2; n++) {
         memcpy(archive + archive_length, file, file_length);
         memcpy(archive + archive_length + file_length, ".\n", 2);
@@ -231,7 +243,7 @@ static size_t painted(void (*call)(void), char *stack, char paint)
 }
 
 /* The limits: what the functions took before W-204, but 8 KiB for a table and 22 KiB for a file's three, where that request asks for 16 and 30.
- * A season's (W-205): 22 KiB too where nets are adjusted, else what they took at first.
+ * A season's (W-205): 22 KiB too where nets are adjusted, else what they took at first. The check of a sheet (W-206): 22 KiB, as for a file.
  * They are x86-64's; another back end lays its frames out in another way, and may take this much more. */
 #ifdef __x86_64__
 #define MORE 0
@@ -276,6 +288,8 @@ int main(int count, char **words)
     measure("molsadriu_season_next", season_next, 22 * 1024, stack);
     measure("molsadriu_season_end", season_end, 88, stack);
     measure("molsadriu_add_reports", add_reports, 88, stack);
+    measure("molsadriu_check_sheet", check_sheet, 22 * 1024, stack);
+    if (sheet_line != 0) stop("the listing of the network file does not agree with it");
     free(stack);
     if (above > 0) stop("above a limit");
     return 0;

@@ -1,10 +1,12 @@
 // Reads a file whole, has its listing made, of a network file by `listing` and of a sighting book by `book`, and writes that: what
 // `adjust`, `probable` and `means` do, and the programs that run the files kept as data. Files of any length are read in parts: archives
-// (`archive`), for `report`, and reports to be added up (`sums`), for `add_reports`.
+// (`archive`), for `report`, and reports to be added up (`sums`), for `add_reports`. A net is held against another office's listing for `check`
+// (`sheets`).
 //
 // What cannot be done is said on standard error, a line for each file that opens with the program's name, and nothing else
 // is. A program has no exit status of its own, so the command that runs it goes by these lines.
 pub mod archive;
+pub mod sheets;
 pub mod sums;
 
 use libc::STDERR_FILENO;

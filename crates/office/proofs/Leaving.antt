@@ -7,6 +7,7 @@
 --   told-left                              the buffer of any file that has been listed, and the number lent for its length
 --   book-left, file-left                   those of a sighting book, and of a network file
 --   begun-left, next-left, sum-left        the lists of a season's stream that is begun or fed, and the list for the sum of two reports
+--   check-sheet-left                       the number lent for a line of another office's sheet
 --   Past, past-or-none                     the number is 30; where only 30 can be refused, it is that or 0
 --   report-left, ended-left                the totals of an archive, and the lists of a stream that is ended: by every refusal but 30
 --   report-past, ended-past                and what 30 leaves there; state-number: a stream's state itself is never refused by 30
@@ -44,9 +45,13 @@ use Rattle.totals.specs.Promise.{mostNets, sumReply}
 use Rattle.season.specs.Season.{sharesOf, seasonReply, seasonReport}
 use Rattle.season.specs.Stream.{over, placeOf, placeList, endedTotals, endedPlace, lengthsAmiss, totalAmiss, lineAmiss, placeReply, stateReply}
 use Rattle.season.specs.Promise.{reportReply, beginReply, pastReply, endReply}
+use Rattle.sheet.specs.declared.Opinion.{Opinion}
+use Rattle.sheet.specs.declared.Opinion.the-variants.{Yes, No, Refused as Unchecked}
+use Rattle.sheet.specs.Check.{opinionOf}
+use Rattle.sheet.specs.Promise.{opinionReply, opinionLeaves}
 use Rattle.office.specs.declared.Heading.{Heading}
 use Rattle.office.specs.declared.Heading.the-variants.{Named, Unknown}
-use Rattle.office.specs.Promises.{Means, Coefficients, Misclosed, Table, DirectionErrors, ToldBy, SightingBook, File, SeasonReport, SeasonBegun, SeasonNext, SeasonEnded, ReportSum}
+use Rattle.office.specs.Promises.{Means, Coefficients, Misclosed, Table, DirectionErrors, ToldBy, SightingBook, File, SeasonReport, SeasonBegun, SeasonNext, SeasonEnded, ReportSum, SheetChecked}
 use Rattle.office.specs.Terms.{coefficientsReplyUnder, coefficientsListUnder, misclosureUnder}
 
 abbrev pub Refuses : Verdict → Type 0
@@ -109,6 +114,14 @@ next-left bytes held totals place h t p v n refuses =
 pub sum-left : (first second lent left : List ℕ) (v : Verdict) → ReportSum first second lent v left → Refuses v → left ≡ lent
 sum-left first second lent left v s refuses =
     let r = reply-refuses (sumReply first second (length lent)) (s .verdict) refuses in rw (r .is) at (s .list .sum)
+
+pub check-sheet-left : (net listing : List ℕ) (before after : ℕ) (v : Verdict) → SheetChecked net listing before v after → Refuses v → after ≡ before
+check-sheet-left net listing before after v c refuses = c .number ∙ under (opinionOf net listing) (c .verdict)
+  where
+    under : (o : Opinion) → v ≡ verdictOf (opinionReply o) → opinionLeaves o before ≡ before
+    under Yes told = absurd (refuses (ap (λ (v : Verdict). v .number) told))
+    under (No line) told = absurd (refuses (ap (λ (v : Verdict). v .number) told))
+    under (Unchecked why) told = refl
 
 -- ---- 30, a net past 100,000, and no other number, comes with an answer
 abbrev pub Past : Verdict → Type 0

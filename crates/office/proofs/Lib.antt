@@ -4,3 +4,4 @@ pub mod OwnBytes
 pub mod Unique
 pub mod Leaving
 pub mod Seasons
+pub mod Sheets

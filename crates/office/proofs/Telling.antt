@@ -6,7 +6,8 @@
 --   book-told, file-told of a sighting book, and of a network file
 --   report-told          of the report of a season; begun-told, next-told, ended-told of one that comes in parts
 --   sum-told             of the sum of two reports
-use mathlib.Core.Path.{_≡_, refl, _∙_, ap, subst}
+--   sheet-told           of another office's sheet
+use mathlib.Core.Path.{_≡_, refl, sym, _∙_, ap, subst}
 use mathlib.Core.List.{List}
 use Prim.Native.Nat.{ℕ}
 use lib.IntN.{ℤ}
@@ -29,7 +30,9 @@ use Rattle.listing.specs.File.{AdjustsFile}
 use Rattle.book.specs.File.{MeansOf}
 use Rattle.totals.specs.Promise.{Adds}
 use Rattle.season.specs.Promise.{Reports, Begins, Feeds, Ends}
-use Rattle.office.specs.Promises.{Means, Table, DirectionErrors, ToldBy, SightingBook, File, SeasonReport, SeasonBegun, SeasonNext, SeasonEnded, ReportSum}
+use Rattle.sheet.specs.declared.Opinion.{Opinion}
+use Rattle.sheet.specs.Promise.{opinionReply, opinionLeaves, Checks}
+use Rattle.office.specs.Promises.{Means, Table, DirectionErrors, ToldBy, SightingBook, File, SeasonReport, SeasonBegun, SeasonNext, SeasonEnded, ReportSum, SheetChecked}
 
 module _ (v : Verdict) (r : Reply) (told : v ≡ verdictOf r) where
   pub means-told : (b : Book) (d p D P : List ℤ) → Answers b d p r D P → Means b d p v D P
@@ -84,3 +87,12 @@ module _ {v : Verdict} {listed : Listed} {before after : List ℕ} {n m : ℕ} (
   file-told sheet file a =
       let e = a .lists .answer in
       record { told = listed-told (a .lists); demand3 = λ f. a .demand3 (e ∙ f); within-minute = λ f. a .within-minute (e ∙ f); mean-error = λ f. a .mean-error (e ∙ f) }
+
+pub sheet-told : {net listing : List ℕ} {o answer : Opinion} {before after : ℕ} {v : Verdict} → o ≡ answer → v ≡ verdictOf (opinionReply answer)
+    → after ≡ opinionLeaves answer before → Checks net listing o → SheetChecked net listing before v after
+sheet-told {net} {listing} {before = before} e told left a =
+    let f = sym e ∙ a .answer in record {
+      verdict = told ∙ ap (λ (o : Opinion). verdictOf (opinionReply o)) f;
+      number = left ∙ ap (λ (o : Opinion). opinionLeaves o before) f;
+      sheet = subst (λ (o : Opinion). Checks net listing o) (a .answer) a;
+    }

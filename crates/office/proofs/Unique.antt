@@ -3,6 +3,7 @@
 --                                                (one-file: of both functions on a network file, by their sheets)
 --   one-told                                     of any file that has been listed
 --   one-season-report, one-season-begin, one-season-next, one-season-end, one-add-reports      of the functions on a season's archive
+--   one-check-sheet                              of the check of another office's sheet
 --   (of `molsadriu_refused_line` and `molsadriu_list_file`: page's one-refused-line and listing's one-listing)
 use mathlib.Core.Path.{_≡_}
 use mathlib.Core.List.{List}
@@ -25,7 +26,7 @@ use Rattle.listing.specs.declared.Sheet.{Sheet}
 use Rattle.totals.proofs.Promising.{one-sum}
 use Rattle.season.proofs.Unique.{one-report, one-begin, one-next, one-end}
 use Rattle.office.specs.declared.Heading.{Heading}
-use Rattle.office.specs.Promises.{Means, Coefficients, Misclosed, Table, DirectionErrors, ToldBy, SightingBook, File, SeasonReport, SeasonBegun, SeasonNext, SeasonEnded, ReportSum}
+use Rattle.office.specs.Promises.{Means, Coefficients, Misclosed, Table, DirectionErrors, ToldBy, SightingBook, File, SeasonReport, SeasonBegun, SeasonNext, SeasonEnded, ReportSum, SheetChecked}
 use Rattle.office.specs.Statuses.{statusNumber}
 
 pub one-means : (b : Book) (d p : List ℤ) (v v′ : Verdict) (D D′ P P′ : List ℤ) → Means b d p v D P → Means b d p v′ D′ P′ → (v ≡ v′) × ((D ≡ D′) × (P ≡ P′))
@@ -73,3 +74,6 @@ module _ (held totals place : List ℕ) (v v′ : Verdict) where
 
 pub one-add-reports : (first second lent : List ℕ) (v v′ : Verdict) (left left′ : List ℕ) → ReportSum first second lent v left → ReportSum first second lent v′ left′ → (v ≡ v′) × (left ≡ left′)
 one-add-reports first second lent v v′ left left′ x y = (only (x .verdict) (y .verdict), one-sum first second lent _ _ left left′ (x .list) (y .list) .1)
+
+pub one-check-sheet : (net listing : List ℕ) (before : ℕ) (v v′ : Verdict) (after after′ : ℕ) → SheetChecked net listing before v after → SheetChecked net listing before v′ after′ → (v ≡ v′) × (after ≡ after′)
+one-check-sheet net listing before v v′ after after′ x y = (only (x .verdict) (y .verdict), only (x .number) (y .number))

@@ -26,6 +26,8 @@ use Rattle.book.specs.File.{bookListing, meansReply}
 use Rattle.totals.specs.Promise.{sumReply, Adds}
 use Rattle.season.specs.Stream.{stateReply}
 use Rattle.season.specs.Promise.{reportReply, Reports, beginReply, Begins, Feeds, endReply, Ends}
+use Rattle.sheet.specs.Check.{opinionOf}
+use Rattle.sheet.specs.Promise.{opinionReply, opinionLeaves, Checks}
 use Rattle.office.specs.declared.Heading.{Heading}
 use Rattle.office.specs.Terms.{coefficientsReplyUnder, coefficientsListUnder, misclosureUnder}
 
@@ -86,3 +88,9 @@ pub record SeasonEnded (held totals place : List ℕ) (v : Verdict) (totalsNow p
 pub record ReportSum (first second lent : List ℕ) (v : Verdict) (left : List ℕ) : Type 0 where
   pub verdict : v ≡ verdictOf (sumReply first second (length lent))
   pub list : Adds first second lent (sumReply first second (length lent)) left
+
+-- ---- of another office's sheet: with the rules' opinion the library's own promise, demand 3 of a yes with it
+pub record SheetChecked (net listing : List ℕ) (before : ℕ) (v : Verdict) (after : ℕ) : Type 0 where
+  pub verdict : v ≡ verdictOf (opinionReply (opinionOf net listing))
+  pub number : after ≡ opinionLeaves (opinionOf net listing) before
+  pub sheet : Checks net listing (opinionOf net listing)

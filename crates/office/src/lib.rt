@@ -14,7 +14,7 @@ ghost use Rattle.page.specs.Page.{refusedLineIn};
 ghost use Rattle.listing.specs.declared.Sheet.the-variants.{Plain, WithErrors};
 ghost use Rattle.listing.specs.File.{listingIn};
 ghost use Rattle.office.specs.Promises.{Means, SightingBook, Coefficients, Misclosed, Table, DirectionErrors, File};
-ghost use Rattle.office.specs.Promises.{SeasonReport, SeasonBegun, SeasonNext, SeasonEnded, ReportSum};
+ghost use Rattle.office.specs.Promises.{SeasonReport, SeasonBegun, SeasonNext, SeasonEnded, ReportSum, SheetChecked};
 ghost use Rattle.office.specs.Terms.{headingOf, termsOf};
 ghost use Rattle.office.specs.Statuses.{statusNumber};
 use condition::Kind;
@@ -24,6 +24,7 @@ use reply::Figure;
 use reply::Refusal;
 use reply::Reply;
 use reply::Verdict;
+use sheet::Opinion;
 use text::line::LineStatus;
 
 // The kind of condition that a letter names.
@@ -315,4 +316,23 @@ pub extern "C" fn molsadriu_add_reports(first: &[u64], second: &[u64], sum: &mut
 {
     let reply = totals::add_reports(first, second, sum);
     reply::tell(reply)
+}
+
+// Whether another office's listing agrees with a network file, into one lent number: 0 where it does, else the line of the first test that fails.
+#[no_mangle]
+pub extern "C" fn molsadriu_check_sheet(net: &[u8], listing: &[u8], line: &mut u64) -> Verdict
+    ensures { λ v. ⌜ SheetChecked (now (net .entry)) (now (listing .entry)) (now (line .entry)) v (now (line .exit)) ⌝ }
+{
+    let opinion = sheet::check(net, listing);
+    match opinion {
+        Opinion::Yes => {
+            *line = 0;
+            reply::tell(Reply::Accepted)
+        }
+        Opinion::No(first) => {
+            *line = first;
+            reply::tell(Reply::Accepted)
+        }
+        Opinion::Refused(why) => reply::refuse(why),
+    }
 }
