@@ -26,8 +26,8 @@ fn read_named(program: &[u8], name: &[u8], file: &mut [u8]) -> Input
     came
 }
 
-// The answer to a net and a listing, of which all or the first 65,536 bytes and more have been read, into a lent buffer; how many bytes it has. Whatever
-// stands behind them, it is the answer to the whole listing.
+// The answer to a net and to as much of a listing as has been read, all of it or at least its first 65,536 bytes, into a lent buffer; how many bytes it
+// has. Whatever stands behind them, it is the answer to the whole listing.
 fn print(net: &[u8], listing: &[u8], out: &mut [u8]) -> usize
     ensures line { λ r. ⌜ ((whole : List ℕ) (size : ℕ) → 65536 ≤ size → now (listing .entry) ≡ take size whole →
         Wrote (now (out .entry)) 0 (answerIn (now (net .entry)) whole (length (now (out .entry)))) (now (out .exit)) r) ⌝ }

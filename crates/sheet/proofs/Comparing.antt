@@ -39,11 +39,11 @@ module _ (t : Table) (direction : ℕ → ℤ) (listing : List ℕ) where
   other-conditions e = rw (either (not (eqb (directionsIn listing) m)) (not (eqb (conditionsIn listing) n)) (rw (ne-eqb (conditionsIn listing) n e)))
 
   module _ (em : directionsIn listing ≡ m) (en : conditionsIn listing ≡ n) where
-    same-counts : countsDiffer t direction listing ≡ false
+    same-counts : countsDiffer t listing ≡ false
     unfolding countsDiffer
     same-counts = rw (eq-eqb (directionsIn listing) m em, eq-eqb (conditionsIn listing) n en)
 
-    module _ (sized : ℕ) (es : sized ≡ first n (correlateTooLarge t direction listing)) where
+    module _ (sized : ℕ) (es : sized ≡ first n (correlateTooLarge listing)) where
       pub size-line : sized < n → disagreement t direction listing ≡ m + 2 + sized
       unfolding disagreement
       size-line l = rw (same-counts, ← es, lt-ltb sized n l)
@@ -53,7 +53,7 @@ module _ (t : Table) (direction : ℕ → ℤ) (listing : List ℕ) where
         unfolding disagreement
         v-line l = rw (same-counts, ← es, le-ltb sized n ls, ← ev, lt-ltb v m l)
 
-        module _ (lv : m ≤ v) (r : ℕ) (er : r ≡ first n (conditionDiffers t direction listing)) where
+        module _ (lv : m ≤ v) (r : ℕ) (er : r ≡ first n (conditionDiffers t listing)) where
           pub k-line : r < n → disagreement t direction listing ≡ m + 2 + r
           unfolding disagreement
           k-line l = rw (same-counts, ← es, le-ltb sized n ls, ← ev, le-ltb v m lv, ← er, lt-ltb r n l)
@@ -89,29 +89,29 @@ module _ {listing : List ℕ} {m n : ℕ} {x : List ℤ} (f : WellFormed listing
   pub correlates-are : (ks : List ℤ) → ((j : ℕ) → j < n → getD ks j (pos 0) ≡ numberAt x (m + j) 1) → (j : ℕ) → j < n → at ks j ≡ ownK listing j
   correlates-are ks e j l = e j l ∙ on-k j 1 l (omega arith)
 
-  module _ (t : Table) (direction : ℕ → ℤ) (em : m ≡ t .m) (en : n ≡ t .n) where
+  module _ (t : Table) (em : m ≡ t .m) (en : n ≡ t .n) where
     abbrev k : ℕ → ℤ
     k = ownK listing
 
-    pub sizes-are : (sized : ℕ) → sized ≡ first n (beyond 100000000 (λ j. numberAt x (m + j) 1)) → sized ≡ first (t .n) (correlateTooLarge t direction listing)
+    pub sizes-are : (sized : ℕ) → sized ≡ first n (beyond 100000000 (λ j. numberAt x (m + j) 1)) → sized ≡ first (t .n) (correlateTooLarge listing)
     unfolding correlateTooLarge
     sizes-are sized e =
         e ∙ first-ext n (beyond 100000000 (λ j. numberAt x (m + j) 1)) (beyond 100000000 k) (λ j l. ap (λ (z : ℤ). ltb 100000000 (natAbs z)) (on-k j 1 l (omega arith)))
         ∙ ap (λ (c : ℕ). first c (beyond 100000000 k)) en
 
     -- V lines, up to the first correction past one minute
-    pub v-differs : (us adjusted : List ℤ) (within v : ℕ) → within ≡ first (t .m) (beyond 60000 (u-of t k)) → within ≤ m
+    pub v-differs : (direction : ℕ → ℤ) (us adjusted : List ℤ) (within v : ℕ) → within ≡ first (t .m) (beyond 60000 (u-of t k)) → within ≤ m
         → ((i : ℕ) → i < within → at us i ≡ u-of t k i) → ((i : ℕ) → i < within → at adjusted i ≡ adjusted-of t k direction i)
         → v ≡ first within (pairUnlike x 1 us adjusted) → v ≡ first (t .m) (directionDiffers t direction listing)
     unfolding directionDiffers
-    v-differs us adjusted within v ew few eu ea e =
+    v-differs direction us adjusted within v ew few eu ea e =
         pairs-differ x 1 (t .m) us adjusted (ownU listing) (ownAdjusted listing) (u-of t k) (adjusted-of t k direction) (beyond 60000 (u-of t k)) within v ew
         (λ i l. place (omega arith) ∙ on-v i 1 (omega arith) (omega arith)) (λ i l. place (omega arith) ∙ on-v i 2 (omega arith) (omega arith)) eu ea e
 
     -- K lines, up to the first remainder that is too large
     pub k-differs : (rs qs : List ℤ) (close v : ℕ) → close ≡ first (t .n) (beyond 50000000 (R-of t k)) → close ≤ n
         → ((j : ℕ) → j < close → at rs j ≡ R-of t k j) → ((j : ℕ) → j < close → at qs j ≡ Q-of t k j)
-        → v ≡ first close (pairUnlike x (4 * m + 2) rs qs) → v ≡ first (t .n) (conditionDiffers t direction listing)
+        → v ≡ first close (pairUnlike x (4 * m + 2) rs qs) → v ≡ first (t .n) (conditionDiffers t listing)
     unfolding conditionDiffers
     k-differs rs qs close v ec few er eq e =
         pairs-differ x (4 * m + 2) (t .n) rs qs (ownR listing) (ownQ listing) (R-of t k) (Q-of t k) (beyond 50000000 (R-of t k)) close v ec

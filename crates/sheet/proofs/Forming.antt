@@ -1,6 +1,6 @@
 -- Laws of a listing's lines, read one after another. Assumes nothing.
 --   heading-row, no-heading                the counts of a listing that begins with the word of its ADJ line, or does not
---   none-refused, first-refused, second-refused, directions-number, conditions-number, headed   without counts, with counts out of range or in it
+--   in-range, heading-refused, none-refused, first-refused, second-refused, directions-number, conditions-number, headed   without counts, with counts out of range or in it
 --   heading-told, heading-within           and what is known of one that has counts; word-place, heading-reached: its first line
 --   line-none, line-other, line-same       the line of a letter, by what the reader of its numbers answers and by its own number
 --   due-v, due-k                           which line is due at a place
@@ -10,7 +10,7 @@
 --   broken, goes-on, all-read              the next line is not the one due; bytes behind the last; nothing behind it
 use mathlib.Core.Path.{_≡_, refl, sym, _∙_, ap, subst}
 use mathlib.Core.Bool.{Bool, true, false, cond}
-use mathlib.Core.List.{List, [], _∷_, _++_}
+use mathlib.Core.List.{List, [], _++_}
 use mathlib.Core.Option.{Option, none, some}
 use Prim.Native.Nat.{ℕ, _+_, _*_, _-_, _<_, _≤_}
 use native.Mathlib.Nat.{zero-add}
@@ -18,16 +18,15 @@ use native.Mathlib.Decide.{decLt}
 use native.Mathlib.Omega.{arith}
 use borrow.Author.Tests.{lt-ltb, le-ltb, ltb-true, ltb-false, ne-eqb}
 use lib.Dec.{ltb}
-use lib.IntN.{ℤ, pos, natAbs}
-use lib.Signed.{_≤ℤ_, ltZ}
+use lib.IntN.{ℤ, pos, negsuc, natAbs}
+use lib.Signed.{ltZ}
 use lib.ListN.{length, getD, take, drop}
 use lib.Seq.{getD-drop, getD-take, drop-at, take-append-le, length-take-le}
 use borrow.Rule.Slice.PartMut.{midOf, postOf, putMid, same-len-mid, take-put}
 use Rattle.exact.specs.Same.{same}
 use Rattle.exact.specs.Outside.{outside}
-use Rattle.exact.proofs.Linear.{unknowns, orders, one-sided}
 use Rattle.exact.proofs.Order.{lt-false, lt-le, from-one}
-use Rattle.exact.proofs.Searching.{Failed, failed-none, failed-more, neither, either}
+use Rattle.exact.proofs.Searching.{Failed, failed-none, failed-more, neither, either, not-both}
 use Rattle.reply.specs.declared.Refusal.the-variants.{Sheet}
 use Rattle.reply.specs.declared.Reply.the-variants.{Refused}
 use Rattle.reply.proofs.Checking.{refuse-at, refuse-none}
@@ -85,16 +84,12 @@ module _ (listing : List ℕ) where
       subst (λ (p : ℕ). Reached listing (p + 1) 1) same (reached-more listing (reached-none listing) (omega (arith, same, l)))
 
 -- a count that is in range
-counted : (most : ℕ) (z : ℤ) → outside (pos 1) (pos most) z ≡ false → Number most z
-counted most z e =
-    let h = neither (ltZ z (pos 1)) (ltZ (pos most) z) e in
-    record { low = low z (lt-false (h .0) refl refl); high = high z (lt-false (h .0) refl refl) (lt-false (h .1) refl refl) }
-  where
-    low : (z : ℤ) → pos 1 ≤ℤ z → pos 0 ≤ℤ z
-    low z a = lt-le (from-one z a)
+pub in-range : (high : ℕ) (z : ℤ) → outside (pos 1) (pos high) z ≡ false → (z ≡ pos (natAbs z)) × (1 ≤ natAbs z) × (natAbs z ≤ high)
+in-range high (pos n) e = let b = neither (ltb n 1) (ltb high n) e in (refl, ltb-false n 1 (b .0), ltb-false high n (b .1))
+in-range high (negsuc n) e = not-both e
 
-    high : (z : ℤ) → pos 1 ≤ℤ z → z ≤ℤ pos most → natAbs z ≤ most
-    high z a b = let v = unknowns (z ∷ []) in omega (arith, orders, one-sided)
+counted : (most : ℕ) (z : ℤ) → outside (pos 1) (pos most) z ≡ false → Number most z
+counted most z e = record { low = lt-le (from-one z (lt-false (neither (ltZ z (pos 1)) (ltZ (pos most) z) e .0) refl refl)); high = in-range most z e .2 }
 
 module _ (listing : List ℕ) where
   pub heading-refused : headingAmiss (headingOf listing) ≡ true → formReply listing ≡ Refused (Sheet 1)

@@ -107,7 +107,7 @@ module _ (net listing : List ℕ) where
       let last = neither (a || b) (pastMinute (u-of t k i)) e in let two = neither a b (last .0) in
       (alike (ownU listing i) (u-of t k i) (two .0), alike (ownAdjusted listing i) (adjusted-of t k (at (given .directions)) i) (two .1), ltb-false 60000 (natAbs (u-of t k i)) (last .1))
 
-  condition-says : (j : ℕ) → conditionDiffers t (at (given .directions)) listing j ≡ false
+  condition-says : (j : ℕ) → conditionDiffers t listing j ≡ false
       → (ownR listing j ≡ R-of t k j) × (ownQ listing j ≡ Q-of t k j) × (natAbs (R-of t k j) ≤ 50000000)
   unfolding conditionDiffers
   condition-says j e =
@@ -121,15 +121,15 @@ module _ (net listing : List ℕ) where
       let d = at (given .directions) in
       let passed = if-yes (checkReply net listing) (opinionAt (disagreement t d listing)) e in
       let replies = both-accepted (tableReply net) (formReply listing) (passed .0) in
-      let conditions = firstLine (t .n) (conditionDiffers t d listing) (t .m + 2) 0 in
+      let conditions = firstLine (t .n) (conditionDiffers t listing) (t .m + 2) 0 in
       let directions = firstLine (t .m) (directionDiffers t d listing) 2 conditions in
-      let sizes = firstLine (t .n) (correlateTooLarge t d listing) (t .m + 2) directions in
+      let sizes = firstLine (t .n) (correlateTooLarge listing) (t .m + 2) directions in
       let no-m = not (eqb (directionsIn listing) (t .m)) in let no-n = not (eqb (conditionsIn listing) (t .n)) in
       let first = by-first (no-m || no-n) 1 sizes (omega arith) (at-none (disagreement t d listing) (passed .1)) in
       let counts = neither no-m no-n (first .0) in
-      let small = none-failed (t .n) (correlateTooLarge t d listing) (t .m + 2) directions (omega arith) (first .1) in
+      let small = none-failed (t .n) (correlateTooLarge listing) (t .m + 2) directions (omega arith) (first .1) in
       let followed = none-failed (t .m) (directionDiffers t d listing) 2 conditions (omega arith) (small .1) in
-      let closed = none-failed (t .n) (conditionDiffers t d listing) (t .m + 2) 0 (omega arith) (followed .1) in
+      let closed = none-failed (t .n) (conditionDiffers t listing) (t .m + 2) 0 (omega arith) (followed .1) in
       record {
         table = replies .0;
         form = replies .1;
@@ -145,11 +145,11 @@ module _ (net listing : List ℕ) where
       }
 
   module _ (s : Says) where
-    counts-agree : countsDiffer t (at (given .directions)) listing ≡ false
+    counts-agree : countsDiffer t listing ≡ false
     unfolding countsDiffer
     counts-agree = rw (eq-eqb (directionsIn listing) (t .m) (s .directions), eq-eqb (conditionsIn listing) (t .n) (s .conditions))
 
-    correlates-small : Failed (correlateTooLarge t (at (given .directions)) listing) (t .n)
+    correlates-small : Failed (correlateTooLarge listing) (t .n)
     unfolding correlateTooLarge
     correlates-small j l = le-ltb 100000000 (natAbs (k j)) (s .k-most j l)
 
@@ -162,7 +162,7 @@ module _ (net listing : List ℕ) where
           le-ltb 60000 (natAbs (u-of t k i)) (s .u-most i l),
         )
 
-    conditions-agree : Failed (conditionDiffers t (at (given .directions)) listing) (t .n)
+    conditions-agree : Failed (conditionDiffers t listing) (t .n)
     unfolding conditionDiffers
     conditions-agree j l =
         rw (
@@ -176,9 +176,9 @@ module _ (net listing : List ℕ) where
     no-disagreement =
         let d = at (given .directions) in
         rw counts-agree
-        (goes-on (t .n) (correlateTooLarge t d listing) (t .m + 2) _ correlates-small
+        (goes-on (t .n) (correlateTooLarge listing) (t .m + 2) _ correlates-small
         ∙ goes-on (t .m) (directionDiffers t d listing) 2 _ directions-agree
-        ∙ goes-on (t .n) (conditionDiffers t d listing) (t .m + 2) 0 conditions-agree)
+        ∙ goes-on (t .n) (conditionDiffers t listing) (t .m + 2) 0 conditions-agree)
 
     pub says-yes : opinionOf net listing ≡ Yes
     unfolding opinionOf checkReply

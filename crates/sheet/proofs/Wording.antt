@@ -17,7 +17,7 @@ use native.Mathlib.Decide.{decLt}
 use native.Mathlib.Omega.{arith}
 use borrow.Author.Tests.{lt-ltb, le-ltb, ltb-false}
 use lib.Dec.{ltb}
-use lib.IntN.{ℤ, pos, negsuc, natAbs}
+use lib.IntN.{ℤ, pos, natAbs}
 use lib.ListN.{length, getD, take, drop}
 use lib.Seq.{take-all}
 use Rattle.exact.specs.Same.{same}
@@ -43,7 +43,7 @@ use Rattle.text.proofs.Stacking.{stacked, order-ext, order-both, lines-first, s
 use Rattle.text.proofs.Lining.{signedFields, signedRow, Sized, Row, row-line, Lettered, letter-told, row-free, letter-free, letter-read, row-read}
 use Rattle.listing.specs.Listing.{adjLine, vLine, kLine, vLineOf, kLineOf, acceptedListing}
 use Rattle.sheet.specs.Form.{adjHead, headingOf, headingAmiss, countNo, directionsIn, conditionsIn, letterDue, fieldsDue, numberDue, numbered, dueAt, rowNo, malformed, goesOn, formReply, fieldNo, ownU, ownAdjusted, ownK, ownR, ownQ}
-use Rattle.sheet.proofs.Forming.{heading-told, heading-within, letter-some, none-due, numbered-some}
+use Rattle.sheet.proofs.Forming.{heading-told, heading-within, letter-some, none-due, numbered-some, in-range}
 
 -- ---- two, three and four fields, and the end of the line
 two-fields : (a b : List ℕ) → (a ++ (9 ∷ (b ++ []))) ++ lineEnd ≡ a ++ (9 ∷ (b ++ lineEnd))
@@ -109,11 +109,6 @@ module _ (m n : ℕ) (u adjusted k r q : ℕ → ℤ) where
         (order-ext n (λ j. line (1 + (m + j))) (kLineOf ks rs qs) (λ j l. rw (← k-is j l, ← r-is j l, ← q-is j l) (ap line (omega arith) ∙ k-line j)))
 
 -- ---- a line that is read as its numbers
--- "from 1 to 64 and 1 to 24"
-in-range : (high : ℕ) (z : ℤ) → outside (pos 1) (pos high) z ≡ false → (z ≡ pos (natAbs z)) × (1 ≤ natAbs z) × (natAbs z ≤ high)
-in-range high (pos n) e = let b = neither (ltb n 1) (ltb high n) e in (refl, ltb-false n 1 (b .0), ltb-false high n (b .1))
-in-range high (negsuc n) e = not-both e
-
 two-of : (zs : List ℤ) → length zs ≡ 2 → zs ≡ getD zs 0 (pos 0) ∷ getD zs 1 (pos 0) ∷ []
 two-of (a ∷ b ∷ []) e = refl
 two-of [] e = absurd (omega (arith, e))

@@ -1,4 +1,4 @@
--- Another office's sheet held against a net: what its K give, and the first line that says something else. "Otherwise the counts are compared first, then the
+-- Another office's sheet held against a net: what its K give, and the line of the first test that fails. "Otherwise the counts are compared first, then the
 -- sizes of the K, then all lines in order."
 use mathlib.Core.Bool.{Bool, _||_, not, cond}
 use mathlib.Core.List.{List}
@@ -20,7 +20,7 @@ use Rattle.sheet.specs.declared.Opinion.{Opinion}
 use Rattle.sheet.specs.declared.Opinion.the-variants.{Yes, No, Refused as Unchecked}
 use Rattle.sheet.specs.Form.{directionsIn, conditionsIn, formReply, ownU, ownAdjusted, ownK, ownR, ownQ}
 
--- two numbers that ought to be the same
+-- two numbers that ought to be the same, and are not
 abbrev pub unlike : ℤ → ℤ → Bool
 unlike a b = not (same a b)
 
@@ -28,34 +28,33 @@ unlike a b = not (same a b)
 abbrev pub firstLine : (n : ℕ) (fails : ℕ → Bool) (from after : ℕ) → ℕ
 firstLine n fails from after = cond (some-below n fails) (from + first n fails) after
 
-module _ (t : Table) (direction : ℕ → ℤ) (listing : List ℕ) where
-  -- "its counts agree with the net"
-  unfoldable pub countsDiffer : Bool
-  countsDiffer = not (eqb (directionsIn listing) (t .m)) || not (eqb (conditionsIn listing) (t .n))
+-- "its counts agree with the net"
+unfoldable pub countsDiffer : Table → (listing : List ℕ) → Bool
+countsDiffer t listing = not (eqb (directionsIn listing) (t .m)) || not (eqb (conditionsIn listing) (t .n))
 
-  -- "every K is within 10^8"
-  unfoldable pub correlateTooLarge : ℕ → Bool
-  correlateTooLarge j = ltb 100000000 (natAbs (ownK listing j))
+-- "every K is within 10^8"
+unfoldable pub correlateTooLarge : (listing : List ℕ) → ℕ → Bool
+correlateTooLarge listing j = ltb 100000000 (natAbs (ownK listing j))
 
-  -- "every u and adjusted direction follows from the K, and no u passes 60,000"
-  unfoldable pub directionDiffers : ℕ → Bool
-  directionDiffers i =
-      let k = ownK listing in
-      (unlike (ownU listing i) (u-of t k i) || unlike (ownAdjusted listing i) (adjusted-of t k direction i)) || pastMinute (u-of t k i)
+-- "every u and adjusted direction follows from the K, and no u passes 60,000"
+unfoldable pub directionDiffers : Table → (direction : ℕ → ℤ) (listing : List ℕ) → ℕ → Bool
+directionDiffers t direction listing i =
+    let k = ownK listing in
+    (unlike (ownU listing i) (u-of t k i) || unlike (ownAdjusted listing i) (adjusted-of t k direction i)) || pastMinute (u-of t k i)
 
-  -- "every R and Q printed is what those K give, every R is within 50,000,000"
-  unfoldable pub conditionDiffers : ℕ → Bool
-  conditionDiffers j =
-      let k = ownK listing in
-      (unlike (ownR listing j) (R-of t k j) || unlike (ownQ listing j) (Q-of t k j)) || ltb 50000000 (natAbs (R-of t k j))
+-- "every R and Q printed is what those K give, every R is within 50,000,000"
+unfoldable pub conditionDiffers : Table → (listing : List ℕ) → ℕ → Bool
+conditionDiffers t listing j =
+    let k = ownK listing in
+    (unlike (ownR listing j) (R-of t k j) || unlike (ownQ listing j) (Q-of t k j)) || ltb 50000000 (natAbs (R-of t k j))
 
-  -- the line of the first test that fails; 0, which is no line, where none does
-  unfoldable pub disagreement : ℕ
-  disagreement =
-      cond countsDiffer 1
-      (firstLine (t .n) correlateTooLarge (t .m + 2)
-      (firstLine (t .m) directionDiffers 2
-      (firstLine (t .n) conditionDiffers (t .m + 2) 0)))
+-- the line of the first test that fails; 0, which is no line, where none does
+unfoldable pub disagreement : Table → (direction : ℕ → ℤ) (listing : List ℕ) → ℕ
+disagreement t direction listing =
+    cond (countsDiffer t listing) 1
+    (firstLine (t .n) (correlateTooLarge listing) (t .m + 2)
+    (firstLine (t .m) (directionDiffers t direction listing) 2
+    (firstLine (t .n) (conditionDiffers t listing) (t .m + 2) 0)))
 
 -- "a disagreement is a no with the line of the first test that fails"
 abbrev pub opinionAt : (line : ℕ) → Opinion

@@ -4,7 +4,7 @@ ghost use mathlib.Core.List.{List};
 ghost use Prim.Native.Nat.{ℕ, _+_, _*_, _≤_, _<_};
 ghost use lib.Dec.{ltb};
 ghost use lib.ListN.{length, getD};
-ghost use lib.IntN.{ℤ, pos, natAbs};
+ghost use lib.IntN.{pos, natAbs};
 ghost use Rattle.exact.specs.First.{first};
 ghost use Rattle.doolittle.specs.Table.{at, tableOf};
 ghost use Rattle.doolittle.specs.Inner.{Small, Sound};
@@ -101,9 +101,9 @@ fn first_condition(
     requires { ⌜ (length (now q) ≤ length (now v)) × Small 48000000000000 (now v) (length (now q)) ⌝ }
     requires { ⌜ (length (now q) ≤ length (now u)) × Small 60000 (now u) (length (now q)) ⌝ }
     requires { ⌜ (length (now w) ≤ length (now r)) × (length (now misses) ≡ length (now w)) ⌝ }
-    ensures { λ line. ⌜ ((listing : List ℕ) (direction : ℕ → ℤ) → WellFormed listing (length (now (q .entry))) (length (now (w .entry))) (now (x .entry)) →
+    ensures { λ line. ⌜ ((listing : List ℕ) → WellFormed listing (length (now (q .entry))) (length (now (w .entry))) (now (x .entry)) →
         Corrected (tableOf (now (q .entry)) (now (a .entry)) (now (w .entry))) (ownK listing) (now (v .entry)) (now (u .entry)) →
-        line ≡ first (length (now (w .entry))) (conditionDiffers (tableOf (now (q .entry)) (now (a .entry)) (now (w .entry))) direction listing)) ⌝ }
+        line ≡ first (length (now (w .entry))) (conditionDiffers (tableOf (now (q .entry)) (now (a .entry)) (now (w .entry))) listing)) ⌝ }
 {
     let close = correct::remainders(q, a, w, v, r);
     correct::print_remainders(q, a, w, u, misses);

@@ -20,7 +20,7 @@ use text::writer;
 pub enum Opinion {
     // It agrees with the net, line by line.
     Yes,
-    // Its first line at which a test fails.
+    // The line of the first test that fails.
     No(u64),
     // The net is refused, or the listing is malformed.
     Refused(Refusal),

@@ -3,24 +3,23 @@
 --   Sized                                     numbers of at most so many digits each
 --   Row, numbers-told                         a line that is read as numbers: it is their text, and no longer than so many digits ask for
 --   Lettered, letter-told                     the same of numbers behind a letter
---   row-within, row-line, row-cut             the same of a row that stands in a file: it has its LF, and its bytes there
---   behind-within, behind-line, behind-cut    and of a row behind a letter
---   written-high, written-short               a written number has no byte below 45, and few bytes
+--   row-within, row-line                      the same of a row that stands in a file, and that it has its LF
+--   behind-within                             and a row behind a letter has its LF
+--   written-high                              a written number has no byte below 45
 --   fields-free, row-free, letter-free        the texts have no LF
---   fields-short                              and few bytes
 --   numbers-read, letter-read                 they are read as the numbers
---   row-read, behind-read                     and where they stand in a file, with an LF behind them
+--   row-read                                  and where they stand in a file, with an LF behind them
 use mathlib.Core.Path.{_≡_, refl, sym, _∙_, ap}
 use mathlib.Core.Bool.{Bool, true, false, cond}
 use mathlib.Core.List.{List, [], _∷_, _++_, append-nil}
 use mathlib.Core.Option.{Option, none, some}
-use Prim.Native.Nat.{ℕ, zero, suc, _+_, _*_, _-_, _<_, _≤_, _^_}
+use Prim.Native.Nat.{ℕ, zero, suc, _+_, _*_, _<_, _≤_, _^_}
 use native.Mathlib.Numerals.{add-one}
 use native.Mathlib.Nat.{suc-mul}
 use native.Mathlib.Omega.{arith}
 use borrow.Author.Tests.{eq-eqb, ne-eqb, eqb-true, ltb-true, ltb-false}
 use lib.Dec.{eqb, ltb}
-use lib.IntN.{ℤ, pos, negsuc, natAbs}
+use lib.IntN.{ℤ, natAbs}
 use lib.ListN.{length, take, drop, length-append}
 use Rattle.text.specs.Parts.{bytesBefore, placeFrom, onFirst, parted}
 use Rattle.text.specs.Lines.{LF, lineAt}
@@ -28,15 +27,14 @@ use Rattle.text.specs.Fields.{TAB, fieldsOf, fieldAt, letterOf}
 use Rattle.text.specs.Numbers.{numeralWithin}
 use Rattle.text.specs.Rows.{before, numbersWithin, behindWithin, rowWithin, letteredWithin}
 use Rattle.text.specs.Decimal.{written}
-use Rattle.text.specs.Written.{signedField, lineEnd}
+use Rattle.text.specs.Written.{signedField}
 use Rattle.text.specs.declared.number.Number.{Number}
 use Rattle.text.specs.declared.number.Number.the-variants.{Value, Malformed}
 use Rattle.text.proofs.Spanning.{High, numeral-high}
-use Rattle.text.proofs.Sparing.{Free, free-both, free-high, row-written, behind-written}
+use Rattle.text.proofs.Sparing.{Free, free-both, free-high, row-written}
 use Rattle.text.proofs.Rowing.{split-at-byte, fields-tab, fields-plain, fields-more, fields-last, some-field}
 use Rattle.text.proofs.Lettering.{long-field}
-use Rattle.text.proofs.Stepping.{line-cut}
-use Rattle.text.proofs.ReadingBack.{reads-back, few-digits}
+use Rattle.text.proofs.ReadingBack.{reads-back}
 use Rattle.text.proofs.WritingBack.{writes-back, numeral-small, numeral-short}
 
 -- fields one after another; without the tab in front they are a row of numbers
@@ -193,9 +191,6 @@ module _ (most : ℕ) (few : most ≤ 20) (file : List ℕ) (at count : ℕ) (zs
     pub row-line : Row most count (lineAt file at) zs
     row-line = numbers-told most few count (lineAt file at) zs (row-found .1)
 
-    pub row-cut : take (end + 1 - at) (drop at file) ≡ signedRow zs ++ lineEnd
-    row-cut = line-cut file at row-within ∙ ap (λ (l : List ℕ). l ++ lineEnd) (row-line .text)
-
   module _ (letter : ℕ) (any : 0 < letter) (e : letteredWithin most file at letter count ≡ some zs) where
     behind-found : (ltb end (length file) ≡ true) × (behindWithin most letter count (lineAt file at) ≡ some zs)
     unfolding letteredWithin
@@ -204,27 +199,10 @@ module _ (most : ℕ) (few : most ≤ 20) (file : List ℕ) (at count : ℕ) (zs
     pub behind-within : end < length file
     behind-within = ltb-true end (length file) (behind-found .0)
 
-    pub behind-line : Lettered most letter count (lineAt file at) zs
-    behind-line = letter-told most letter count few any zs (lineAt file at) (behind-found .1)
-
-    pub behind-cut : take (end + 1 - at) (drop at file) ≡ (letter ∷ signedFields zs) ++ lineEnd
-    behind-cut = line-cut file at behind-within ∙ ap (λ (l : List ℕ). l ++ lineEnd) (behind-line .text)
-
 -- ---- the text of numbers
 module _ (k : ℕ) (l : k < 20) where
   pub written-high : (z : ℤ) → natAbs z < 10 ^ suc k → High (written z)
   written-high z h = numeral-high (suc k) (written z) z (reads-back k l z h)
-
-  pub written-short : (z : ℤ) → natAbs z < 10 ^ suc k → length (written z) ≤ suc k + 1
-  unfolding written
-  written-short (pos n) h = omega (arith, few-digits k n h)
-  written-short (negsuc n) h = omega (arith, few-digits k (suc n) h)
-
-  pub fields-short : (zs : List ℤ) → Sized (suc k) zs → length (signedFields zs) ≤ length zs * (suc k + 2)
-  unfolding Sized signedFields
-  fields-short [] s = omega arith
-  fields-short (z ∷ zs) s =
-      omega (arith, length-append (written z) (signedFields zs), written-short z (s .0), fields-short zs (s .1), suc-mul (length zs) (suc k + 2))
 
   pub fields-free : (zs : List ℤ) → Sized (suc k) zs → Free LF (signedFields zs)
   unfolding Sized signedFields bytesBefore
@@ -255,8 +233,3 @@ module _ (k : ℕ) (l : k < 20) where
     pub row-read : (z : ℤ) (zs : List ℤ) → Sized (suc k) (z ∷ zs) → drop at file ≡ signedRow (z ∷ zs) ++ (LF ∷ rest)
         → rowWithin (suc k) file at (suc (length zs)) ≡ some (z ∷ zs)
     row-read z zs s d = row-written file at (signedRow (z ∷ zs)) rest d (row-free (z ∷ zs) s) (suc k) (suc (length zs)) ∙ numbers-read z zs s
-
-    pub behind-read : (letter : ℕ) → (letter ≡ TAB → ⊥) → (letter ≡ LF → ⊥) → (zs : List ℤ) → Sized (suc k) zs
-        → drop at file ≡ (letter ∷ signedFields zs) ++ (LF ∷ rest) → letteredWithin (suc k) file at letter (length zs) ≡ some zs
-    behind-read letter t n zs s d =
-        behind-written file at (letter ∷ signedFields zs) rest d (letter-free letter n zs s) (suc k) letter (length zs) ∙ letter-read letter t zs s

@@ -5,7 +5,8 @@
 --   parts-dropped, parts-last              the parts of a text without the byte: none, or the text itself
 --   begins-all, begins-short               a text begins with no word's end; and with no word that goes on behind it
 --   begins-more, begins-other              one byte more of the word, by what stands there in the text
---   begins-length, begins-word             a word is no longer than a text that begins with it; a word and a byte, and what stands behind them
+--   begins-length, begins-split            a word is no longer than a text that begins with it, which is the word and what is left
+--   begins-word, begins-cut                a word and a byte, and what stands behind them; the first bytes of a text begin with a word where the text does
 use mathlib.Core.Path.{_≡_, refl, sym, ap, ap₂}
 use mathlib.Core.Bool.{Bool, true, false, cond}
 use mathlib.Core.List.{List, [], _∷_, _++_}

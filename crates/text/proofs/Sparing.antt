@@ -4,7 +4,7 @@
 --   before-free, part-first                 a search goes on behind such a text; it is the first part of a text
 --   before-cut, free-cut, line-free         the search in the first bytes of a text; what stands before a byte is without it, so a line without an LF
 --   found-place, found-within, found-line   a text without an LF, and an LF: where the LF is, that it is within the file, the line
---   row-written, behind-written             the numbers of that line, and those behind its letter
+--   row-written                             the numbers of that line
 use mathlib.Core.Path.{_≡_, refl, sym, _∙_, ap}
 use mathlib.Core.Bool.{Bool, true, false, cond}
 use mathlib.Core.List.{List, [], _∷_, _++_, append-nil}
@@ -18,7 +18,7 @@ use lib.Seq.{take-append-seam}
 use Rattle.text.specs.Parts.{bytesBefore, placeFrom, onFirst, parted}
 use Rattle.text.specs.Lines.{LF, lineAt}
 use Rattle.text.specs.Fields.{fieldsOf}
-use Rattle.text.specs.Rows.{numbersWithin, behindWithin, rowWithin, letteredWithin}
+use Rattle.text.specs.Rows.{numbersWithin, rowWithin}
 use Rattle.text.proofs.Parting.{before-le}
 use Rattle.text.proofs.Spanning.{High, before-high}
 
@@ -95,7 +95,3 @@ module _ (file : List ℕ) (at : ℕ) (line rest : List ℕ) (d : drop at file �
   pub row-written : (most count : ℕ) → rowWithin most file at count ≡ numbersWithin most count (fieldsOf line)
   unfolding rowWithin
   row-written most count = rw (lt-ltb (placeFrom LF file at) (length file) found-within, found-line)
-
-  pub behind-written : (most letter count : ℕ) → letteredWithin most file at letter count ≡ behindWithin most letter count line
-  unfolding letteredWithin
-  behind-written most letter count = rw (lt-ltb (placeFrom LF file at) (length file) found-within, found-line)

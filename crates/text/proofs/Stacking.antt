@@ -5,21 +5,19 @@
 --   lines-first, lines-stacked           the lines of a text that begins with a line, or with lines in their order
 --   line-before                          line h of such a text
 --   reached-stacked                      a walk that has come to the end of those lines
---   stacked-lines, stacked-count, stacked-no, stacked-bytes, stacked-ended   with nothing behind them: the text's lines, how many they are, each by its
---                                        number, their bytes, and that none is without its LF
+--   stacked-lines, stacked-count, stacked-no, stacked-bytes   with nothing behind them: the text's lines, how many they are, each by its number, and their
+--                                        bytes
 use mathlib.Core.Path.{_≡_, refl, sym, _∙_, ap}
-use mathlib.Core.Bool.{false}
 use mathlib.Core.List.{List, [], _∷_, _++_, append-assoc, append-nil}
 use Prim.Native.Nat.{ℕ, zero, suc, _+_, _<_, _≤_}
 use native.Mathlib.Nat.{add-zero}
 use native.Mathlib.Omega.{arith}
-use borrow.Author.Tests.{le-ltb}
 use lib.ListN.{length, getD, take, drop, length-append, List·getD-append}
 use lib.Seq.{append-snoc, take-append-seam, drop-append-seam, take-at, drop-at}
 use Rattle.exact.specs.Tabulate.{tabulate}
 use Rattle.exact.proofs.Filling.{tabulate-length, tabulate-at, tabulate-more}
 use Rattle.text.specs.Parts.{parted}
-use Rattle.text.specs.Lines.{LF, linesOf, linesIn, lineNo, bytesOf, unended}
+use Rattle.text.specs.Lines.{LF, linesOf, linesIn, lineNo, bytesOf}
 use Rattle.text.specs.Written.{lineEnd, inOrder}
 use Rattle.text.proofs.Sparing.{Free, part-first}
 use Rattle.text.proofs.Stepping.{Reached, bytes-append}
@@ -114,7 +112,3 @@ module _ (n : ℕ) (l : ℕ → List ℕ) (e : (h : ℕ) → h < n → Free LF (
 
   pub stacked-bytes : bytesOf (linesOf (stacked n l)) ≡ length (stacked n l)
   stacked-bytes = ap bytesOf stacked-lines ∙ bytes-stacked n l
-
-  pub stacked-ended : unended (stacked n l) ≡ false
-  unfolding unended
-  stacked-ended = le-ltb (bytesOf (linesOf (stacked n l))) (length (stacked n l)) (omega (arith, stacked-bytes))

@@ -7,20 +7,19 @@
 --   none-left, line-missing, bytes-reached       it has none: all lines lie before the start
 --   end-within                                   where a line is left, it has its LF
 --   reached-at, reached-all                      every line's start, and the end of the last one
---   lines-free, whole-text                       no line has an LF; a file without an unended line is its lines in their order, each with its LF
+--   lines-free                                   no line has an LF
 use mathlib.Core.Path.{_≡_, refl, sym, _∙_, ap, subst}
-use mathlib.Core.Bool.{false}
 use mathlib.Core.List.{List, [], _∷_, _++_}
 use Prim.Native.Nat.{ℕ, zero, suc, _+_, _-_, _<_, _≤_}
 use native.Mathlib.Numerals.{add-one}
 use native.Mathlib.Nat.{add-zero, le-refl}
 use native.Mathlib.Decide.{decLt}
 use native.Mathlib.Omega.{arith}
-use borrow.Author.Tests.{lt-ltb, ltb-false}
+use borrow.Author.Tests.{lt-ltb}
 use lib.ListN.{length, getD, take, drop, length-drop, List·getD-eq-default}
-use lib.Seq.{getD-drop, drop-drop, take-suc, take-add, take-append-add, take-all, take-length}
+use lib.Seq.{getD-drop, drop-drop, take-suc, take-add, take-append-add, take-length}
 use Rattle.text.specs.Parts.{bytesBefore, placeFrom}
-use Rattle.text.specs.Lines.{LF, lineAt, linesOf, linesIn, lineNo, bytesOf, unended}
+use Rattle.text.specs.Lines.{LF, lineAt, linesOf, linesIn, lineNo, bytesOf}
 use Rattle.text.specs.Written.{lineEnd, inOrder}
 use Rattle.text.proofs.Parting.{place-after}
 use Rattle.text.proofs.Splitting.{line-next, lines-whole, lines-rest}
@@ -159,7 +158,3 @@ module _ (file : List ℕ) where
       by-count : Dec (h < linesIn file) → Free LF (lineNo file h)
       by-count (yes l) = let b = reached-at h (omega arith) in rw (line-here b (end-within b l)) (line-free file (bytesOf (take h (linesOf file))))
       by-count (no l) = rw (no-line file h (omega arith))
-
-  pub whole-text : unended file ≡ false → file ≡ inOrder (linesIn file) (λ h. lineNo file h ++ lineEnd)
-  unfolding unended
-  whole-text e = sym (take-all (bytesOf (linesOf file)) file (ltb-false (bytesOf (linesOf file)) (length file) e)) ∙ reached-all .text

@@ -66,8 +66,8 @@ module _ (c : tie.After-take-correlates) where
     conditions-same : conditionsIn listing ≡ t .n
     conditions-same = sym (f .n-is) ∙ n-is
 
-    sizes : sized ≡ first (t .n) (correlateTooLarge t (direction start) listing)
-    sizes = sizes-are f t (direction start) m-is n-is sized (c .take-correlates .ensures .0)
+    sizes : sized ≡ first (t .n) (correlateTooLarge listing)
+    sizes = sizes-are f t m-is n-is sized (c .take-correlates .ensures .0)
 
     by-net : WellFormed listing (t .m) (t .n) (now (start .args .x))
     by-net = subst₂ (λ (m n : ℕ). WellFormed listing m n (now (start .args .x))) m-is n-is f
@@ -200,10 +200,10 @@ module _ (c : tie.After-first-condition) where
   k-first = c .first-condition .result
 
   k-differs-at : (listing : List ℕ) → WellFormed listing (start (taken compared) .args .m) (start (taken compared) .args .n) (now (start (taken compared) .args .x))
-      → k-first ≡ first (t (taken compared) .n) (conditionDiffers (t (taken compared)) (direction (start (taken compared))) listing)
+      → k-first ≡ first (t (taken compared) .n) (conditionDiffers (t (taken compared)) listing)
   k-differs-at listing f =
       let b = taken compared in
-      c .first-condition .ensures listing (direction (start b)) (by-net b listing f)
+      c .first-condition .ensures listing (by-net b listing f)
       (corrected-by (t b) (at (k b)) (ownK listing) (v compared) (u compared) (k-is b listing f (all-small compared)) (corrected compared all-alike))
 
 add-result-4 : tie.Need-add-result-4

@@ -75,9 +75,9 @@ same-length-2 : tie.Need-same-length-2
 same-length-2 c = search needs
 
 returns : tie.Need-returns
-returns c = λ listing direction f k.
+returns c = λ listing f k.
     let p = c .before .before .before .before in
-    k-differs f (t p) direction refl refl (r p) (misses p) (close p) (c .first-unlike .result)
+    k-differs f (t p) refl refl (r p) (misses p) (close p) (c .first-unlike .result)
     (first-open (t p) (ownK listing) (v p) (k .v-is) (close p) (left p .remainders .ensures .0)) (few p)
     (λ j l. left p .remainders .ensures .1 j l ∙ closing-is (t p) (ownK listing) (v p) (k .v-is) j)
     (λ j l. ap (λ (xs : List ℤ). at xs j) (p .print-remainders .ensures) ∙ tabulate-at (t p .n) _ j (pos 0) (omega (arith, l, few p)) ∙ missed-is (t p) (ownK listing) (u p) (k .u-is) j)

@@ -119,7 +119,7 @@ same-length-3 c = search needs
 returns : tie.Need-returns
 returns c =
     let a = c .before .before .before .before in let p = printed a in let s = start p in let direction = at (now (s .args .directions)) in (
-      (λ listing f same. v-differs f (t p) direction refl refl (u p) (turned a ++ rest a) (within p) (c .first-unlike .result) (past p (ownK listing) same) (few p)
+      (λ listing f same. v-differs f (t p) refl refl direction (u p) (turned a ++ rest a) (within p) (c .first-unlike .result) (past p (ownK listing) same) (few p)
           (u-is p (ownK listing) same)
           (λ i l. List·getD-append (turned a) (rest a) (pos 0) i (omega (arith, l, turned-long a))
           ∙ ap (λ (xs : List ℤ). at xs i) (a .adjust-directions .ensures)
