@@ -9,7 +9,7 @@ use Prim.Native.Nat.{ℕ}
 use native.Mathlib.Omega.{arith}
 use Rattle.exact.proofs.Unique.{only}
 use Rattle.reply.specs.declared.Refusal.{Refusal}
-use Rattle.reply.specs.declared.Refusal.the-variants.{Malformed, Count, OutOfRange, Coefficient, Misclosure, WeakRow, Correlate, Remainder, Correction, Sightings, Field, Faces, Initial, FacesApart, Spread, Nets, Sheet}
+use Rattle.reply.specs.declared.Refusal.the-variants.{Malformed, Count, OutOfRange, Coefficient, Misclosure, WeakRow, Correlate, Remainder, Correction, Sightings, Field, Faces, Initial, FacesApart, Spread, Nets, Sheet, NothingLeft}
 use Rattle.reply.specs.declared.Reply.{Reply}
 use Rattle.reply.specs.declared.Reply.the-variants.{Accepted, Refused}
 use Rattle.reply.specs.declared.Verdict.{Verdict}
@@ -52,6 +52,7 @@ no-refusal-is-0 (FacesApart position object) e = omega (arith, e)
 no-refusal-is-0 (Spread position object) e = omega (arith, e)
 no-refusal-is-0 (Nets net) e = omega (arith, e)
 no-refusal-is-0 (Sheet line) e = omega (arith, e)
+no-refusal-is-0 NothingLeft e = omega (arith, e)
 
 pub only-accepted-is-0 : (r : Reply) → verdictOf r .number ≡ 0 → r ≡ Accepted
 only-accepted-is-0 Accepted e = refl

@@ -1,7 +1,7 @@
 -- "Numbers of the refusals": the rules' table, one line for each case.
 use Prim.Native.Nat.{ℕ, _+_, _*_}
 use Rattle.reply.specs.declared.Refusal.{Refusal}
-use Rattle.reply.specs.declared.Refusal.the-variants.{Malformed, Count, OutOfRange, Coefficient, Misclosure, WeakRow, Correlate, Remainder, Correction, Sightings, Field, Faces, Initial, FacesApart, Spread, Nets, Sheet}
+use Rattle.reply.specs.declared.Refusal.the-variants.{Malformed, Count, OutOfRange, Coefficient, Misclosure, WeakRow, Correlate, Remainder, Correction, Sightings, Field, Faces, Initial, FacesApart, Spread, Nets, Sheet, NothingLeft}
 
 abbrev pub numberOf : Refusal → ℕ
 numberOf (Malformed line) = 1
@@ -21,6 +21,7 @@ numberOf (FacesApart position object) = 25
 numberOf (Spread position object) = 26
 numberOf (Nets net) = 30
 numberOf (Sheet line) = 31
+numberOf NothingLeft = 32
 
 abbrev pub placeOf : Refusal → ℕ
 placeOf (Malformed line) = line
@@ -40,3 +41,4 @@ placeOf (FacesApart position object) = 100 * position + object
 placeOf (Spread position object) = 100 * position + object
 placeOf (Nets net) = net
 placeOf (Sheet line) = line
+placeOf NothingLeft = 0

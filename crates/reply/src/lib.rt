@@ -40,6 +40,8 @@ pub enum Refusal {
     Nets(u64),
     // A line of another office's listing is not the one due: its line.
     Sheet(u64),
+    // Of the sightings that were to be rescued nothing is left.
+    NothingLeft,
 }
 
 // What an operation answers that leaves its results in lent lists.
@@ -92,6 +94,7 @@ pub fn number(r: Refusal) -> u64
         } => 26,
         Refusal::Nets(_) => 30,
         Refusal::Sheet(_) => 31,
+        Refusal::NothingLeft => 32,
     }
 }
 
@@ -117,6 +120,7 @@ pub fn place(r: Refusal) -> u64
         Refusal::Spread { position, object } => 100 * (position as u64) + object as u64,
         Refusal::Nets(net) => net,
         Refusal::Sheet(line) => line,
+        Refusal::NothingLeft => 0,
     }
 }
 

@@ -1,4 +1,4 @@
--- `reply::number` meets its contract: for each of the seventeen cases, which one it is, and then its number. Assumes nothing.
+-- `reply::number` meets its contract: for each of the eighteen cases, which one it is, and then its number. Assumes nothing.
 use borrow.Author.Needs.{needs}
 use Rattle.reply.proofs.number.Statement.{statement}
 use Rattle.reply.proofs.number.Tie as tie
@@ -9,4 +9,5 @@ number-spec = tie.close (tie.spec
     (λ c. search needs) (λ c. search needs) (λ c. search needs) (λ c. search needs) (λ c. search needs) (λ c. search needs) (λ c. search needs)
     (λ c. search needs) (λ c. search needs) (λ c. search needs) (λ c. search needs) (λ c. search needs) (λ c. search needs) (λ c. search needs)
     (λ c. search needs) (λ c. search needs) (λ c. search needs) (λ c. search needs) (λ c. search needs) (λ c. search needs) (λ c. search needs)
-    (λ c. search needs) (λ c. search needs) (λ c. search needs) (λ c. search needs) (λ c. search needs) (λ c. search needs))
+    (λ c. search needs) (λ c. search needs) (λ c. search needs) (λ c. search needs) (λ c. search needs) (λ c. search needs) (λ c. search needs)
+    (λ c. search needs))
