@@ -2,6 +2,7 @@ pub mod Sum
 pub mod Nearest
 pub mod Circle
 pub mod First
+pub mod Gather
 pub mod Tabulate
 pub mod Outside
 pub mod Same

@@ -6,3 +6,5 @@ pub mod Table
 pub mod Means
 pub mod Pairs
 pub mod Replies
+pub mod Rescue
+pub mod Steps

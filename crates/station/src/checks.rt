@@ -80,7 +80,7 @@ fn spread_fault(count: &[i64; 512], sums: &[i64; 512], i: usize, j: usize) -> bo
 }
 
 // The fault of a check at the k-th place of its order.
-fn fault_at(check: Check, count: &[i64; 512], sums: &[i64; 512], k: usize) -> bool
+pub fn fault_at(check: Check, count: &[i64; 512], sums: &[i64; 512], k: usize) -> bool
     requires { ⌜ (CountTable (now count) × (SumTable (now sums) × (k < 256))) ⌝ }
     ensures { λ r. ⌜ r ≡ fault check (now (count .entry)) (now (sums .entry)) k ⌝ }
 {

@@ -10,7 +10,7 @@ ghost use Rattle.station.specs.Means.{seen};
 ghost use Rattle.station.specs.Bounds.{InRange, CountTable};
 
 // The place in a table of a face, a position and an object as the list has them.
-fn slot_of(face: i64, position: i64, object: i64) -> usize
+pub fn slot_of(face: i64, position: i64, object: i64) -> usize
     requires { ⌜ (natAbs face ≤ 1) × (((1 ≤ natAbs position) × (natAbs position ≤ 16)) × ((1 ≤ natAbs object) × (natAbs object ≤ 16))) ⌝ }
     ensures { λ r. ⌜ r ≡ slot (natAbs face) (natAbs position - 1) (natAbs object - 1) ⌝ }
 {
