@@ -7,6 +7,7 @@ pub mod Deciding
 pub mod Accepting
 pub mod Pairing
 pub mod Counting
+pub mod Clearing
 pub mod Joining
 pub mod Rearranging
 pub mod Averaging

@@ -1,59 +1,59 @@
+-- `parting::keep` meets its contract: the first n places hold the field of the kept ones among the first h. Assumes nothing.
+use mathlib.Core.Path.{_≡_, refl, sym, _∙_, ap}
+use mathlib.Core.Bool.{not}
+use mathlib.Core.Logic.{⊎-elim}
+use Prim.Native.Nat.{ℕ, _+_, _-_, _≤_, _%_}
+use native.Mathlib.Omega.{arith}
+use borrow.Author.Needs.{needs}
+use lib.IntN.{ℤ, pos}
+use lib.ListN.{length, getD}
+use lib.Seq.{sets}
+use Rattle.exact.specs.Gather.{gather}
+use Rattle.station.specs.Steps.{free}
 use Rattle.station.proofs.parting.keep.Statement.{statement}
 use Rattle.station.proofs.parting.keep.Tie as tie
 use Rattle.station.proofs.parting.keep.Reads as reads
 use Rattle.station.proofs.parting.keep.Lts as lts
 
 abbrev Inv-loop : tie.InvT-loop
-Inv-loop reason field kept₀ n₀ h₀ kept n h = ?
+Inv-loop reason field kept₀ n₀ h₀ kept n h = (h ≤ length reason) × (kept ≡ sets kept₀ 0 (gather h (free reason) (λ i. getD field i (pos 0)))) × (n ≡ length (gather h (free reason) (λ i. getD field i (pos 0))))
 
 abbrev μ-loop : tie.MeasureT-loop
-μ-loop reason field kept₀ n₀ h₀ kept n h = ?
+μ-loop reason field kept₀ n₀ h₀ kept n h = length reason - h
 
--- src/parting.rt:50:5
 loop-holds : tie.Need-loop-holds Inv-loop μ-loop
 loop-holds c = ?
 
--- src/parting.rt:51:12
 shared-slice-read-if1 : tie.Need-shared-slice-read-if1 Inv-loop μ-loop
-shared-slice-read-if1 c = ?
+shared-slice-read-if1 c = search needs
 
--- src/parting.rt:52:23
 mul-kept : tie.Need-mul-kept Inv-loop μ-loop
-mul-kept c = ?
+mul-kept c = search needs
 
--- src/parting.rt:52:23
 shared-slice-copy-out-kept : tie.Need-shared-slice-copy-out-kept Inv-loop μ-loop
-shared-slice-copy-out-kept c = ?
+shared-slice-copy-out-kept c = search needs
 
--- src/parting.rt:52:13
 mul-t13 : tie.Need-mul-t13 Inv-loop μ-loop
-mul-t13 c = ?
+mul-t13 c = search needs
 
--- src/parting.rt:52:13
 slice-set-from-kept : tie.Need-slice-set-from-kept Inv-loop μ-loop
-slice-set-from-kept c = ?
+slice-set-from-kept c = search needs
 
--- src/parting.rt:53:13
 add-n : tie.Need-add-n Inv-loop μ-loop
-add-n c = ?
+add-n c = search needs
 
--- src/parting.rt:55:9
 add-h : tie.Need-add-h Inv-loop μ-loop
-add-h c = ?
+add-h c = search needs
 
--- src/parting.rt:50:5
 loop-less : tie.Need-loop-less Inv-loop μ-loop
-loop-less c = ?
+loop-less c = search needs
 
--- src/parting.rt:50:5
 loop-again : tie.Need-loop-again Inv-loop μ-loop
 loop-again c = ?
 
--- src/parting.rt:43:1
 same-length : tie.Need-same-length Inv-loop μ-loop
-same-length c = ?
+same-length c = search needs
 
--- src/parting.rt:43:1
 returns : tie.Need-returns Inv-loop μ-loop
 returns c = ?
 

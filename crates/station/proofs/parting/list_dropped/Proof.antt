@@ -1,71 +1,68 @@
+-- `parting::list_dropped` meets its contract: the first n places hold the dropped ones among the first h. Assumes nothing.
+use mathlib.Core.Path.{_≡_, refl, sym, _∙_, ap}
+use mathlib.Core.Bool.{not}
+use mathlib.Core.Logic.{⊎-elim}
+use Prim.Native.Nat.{ℕ, _+_, _-_, _≤_, _%_}
+use native.Mathlib.Omega.{arith}
+use borrow.Author.Needs.{needs}
+use lib.IntN.{ℤ, pos}
+use lib.ListN.{length, getD}
+use lib.Seq.{sets}
+use Rattle.exact.specs.Gather.{gather}
+use Rattle.station.specs.Steps.{free}
 use Rattle.station.proofs.parting.list_dropped.Statement.{statement}
 use Rattle.station.proofs.parting.list_dropped.Tie as tie
 use Rattle.station.proofs.parting.list_dropped.Reads as reads
 use Rattle.station.proofs.parting.list_dropped.Lts as lts
 
 abbrev Inv-loop : tie.InvT-loop
-Inv-loop reason ordinals₀ reasons₀ n₀ h₀ ordinals reasons n h = ?
+Inv-loop reason ordinals₀ reasons₀ n₀ h₀ ordinals reasons n h = (h ≤ length reason) × (ordinals ≡ sets ordinals₀ 0 (gather h (λ i. not (free reason i)) (λ i. i + 1))) × (reasons ≡ sets reasons₀ 0 (gather h (λ i. not (free reason i)) (λ i. getD reason i 0))) × (n ≡ length (gather h (λ i. not (free reason i)) (λ i. i + 1)))
 
 abbrev μ-loop : tie.MeasureT-loop
-μ-loop reason ordinals₀ reasons₀ n₀ h₀ ordinals reasons n h = ?
+μ-loop reason ordinals₀ reasons₀ n₀ h₀ ordinals reasons n h = length reason - h
 
--- src/parting.rt:69:5
 loop-holds : tie.Need-loop-holds Inv-loop μ-loop
 loop-holds c = ?
 
--- src/parting.rt:70:19
 shared-slice-read-why : tie.Need-shared-slice-read-why Inv-loop μ-loop
-shared-slice-read-why c = ?
+shared-slice-read-why c = search needs
 
--- src/parting.rt:72:28
 add-ordinals : tie.Need-add-ordinals Inv-loop μ-loop
-add-ordinals c = ?
+add-ordinals c = search needs
 
--- src/parting.rt:72:13
 mul-ordinals : tie.Need-mul-ordinals Inv-loop μ-loop
-mul-ordinals c = ?
+mul-ordinals c = search needs
 
--- src/parting.rt:72:13
 slice-write-ordinals : tie.Need-slice-write-ordinals Inv-loop μ-loop
-slice-write-ordinals c = ?
+slice-write-ordinals c = search needs
 
--- src/parting.rt:73:26
 cast-reasons : tie.Need-cast-reasons Inv-loop μ-loop
-cast-reasons c = ?
+cast-reasons c = search needs
 
--- src/parting.rt:73:13
 mul-reasons : tie.Need-mul-reasons Inv-loop μ-loop
-mul-reasons c = ?
+mul-reasons c = search needs
 
--- src/parting.rt:73:13
 slice-write-reasons : tie.Need-slice-write-reasons Inv-loop μ-loop
-slice-write-reasons c = ?
+slice-write-reasons c = search needs
 
--- src/parting.rt:74:13
 add-n : tie.Need-add-n Inv-loop μ-loop
-add-n c = ?
+add-n c = search needs
 
--- src/parting.rt:76:9
 add-h : tie.Need-add-h Inv-loop μ-loop
-add-h c = ?
+add-h c = search needs
 
--- src/parting.rt:69:5
 loop-less : tie.Need-loop-less Inv-loop μ-loop
-loop-less c = ?
+loop-less c = search needs
 
--- src/parting.rt:69:5
 loop-again : tie.Need-loop-again Inv-loop μ-loop
 loop-again c = ?
 
--- src/parting.rt:61:1
 same-length : tie.Need-same-length Inv-loop μ-loop
-same-length c = ?
+same-length c = search needs
 
--- src/parting.rt:61:1
 same-length-2 : tie.Need-same-length-2 Inv-loop μ-loop
-same-length-2 c = ?
+same-length-2 c = search needs
 
--- src/parting.rt:61:1
 returns : tie.Need-returns Inv-loop μ-loop
 returns c = ?
 
