@@ -2,6 +2,7 @@ pub mod Tests
 pub mod Figures
 pub mod Selecting
 pub mod Tallying
+pub mod Sifting
 pub mod Positions
 pub mod Deciding
 pub mod Accepting
