@@ -11,7 +11,7 @@
 --   kept-free, reason-none, reason-in        the reason is 0 where a sighting is kept, and 1 to 4 where it is dropped
 --   reason-most, reason-byte                 and 4 at most, whichever it is
 use mathlib.Core.Path.{_≡_, refl, sym, _∙_, ap, subst}
-use mathlib.Core.Bool.{Bool, true, false, not, cond, _&&_, and-false, and-true as and-yes}
+use mathlib.Core.Bool.{Bool, true, false, not, cond, _&&_}
 use mathlib.Core.List.{List}
 use Prim.Native.Nat.{ℕ, zero, suc, _+_, _/_, _%_, _<_, _≤_}
 use native.Mathlib.Decide.{decLt}
@@ -32,12 +32,12 @@ use Rattle.exact.proofs.Sum.{sum-ext, sum-zero}
 use Rattle.station.specs.Bounds.{InRange}
 use Rattle.station.specs.Sightings.{Book, sightings, positionAt, objectAt, faceAt, readingAt, isOf}
 use Rattle.station.specs.SumWhere.{sumWhere}
-use Rattle.station.specs.Table.{total, one, slot, entry, tableOf, counts, readings}
-use Rattle.station.specs.Means.{seen, facesFault, initialFault, apartFault}
+use Rattle.station.specs.Table.{total, one, tableOf, counts, readings}
 use Rattle.station.specs.Replies.{fault}
 use Rattle.station.specs.Rescue.{left, placeOf, stepCheck, spoilt, stays, isKept, isDropped, reason}
-use Rattle.station.specs.Steps.{free, noted, cleared, whyAfter}
+use Rattle.station.specs.Steps.{free, cleared, whyAfter}
 use Rattle.station.proofs.Selecting.{chosen}
+use Rattle.station.proofs.Clearing.{fault-gone, why-at, free-next}
 use Rattle.station.proofs.Tallying.{in-fields}
 use Rattle.station.proofs.Tests.{and-true}
 
@@ -153,27 +153,6 @@ stays-before b h m (suc k) l e = by-order (decLt k m) (stays-before b h m k)
     by-order (yes a) r = subst (λ (i : ℕ). stays i b h ≡ true) (here a) e
     by-order (no a) r = r (omega arith) (and-true (stays k b h) _ e .0)
 
--- a place where nothing is seen is not spoilt
-fault-unseen : (k : ℕ) (n r : List ℤ) (p : ℕ) → seen n (p / 16) (p % 16) ≡ false → fault (stepCheck k) n r p ≡ false
-unfolding stepCheck fault facesFault initialFault apartFault
-fault-unseen zero n r p e = rw e
-fault-unseen (suc zero) n r p e = rw e
-fault-unseen (suc (suc zero)) n r p e = rw e
-fault-unseen (suc (suc (suc k))) n r p e = rw e
-
--- nothing is seen at a place with a reason, once it is cleared
-unseen : (why : List ℕ) (n : List ℤ) (p : ℕ) → p < 256 → free why p ≡ false → seen (cleared why n) (p / 16) (p % 16) ≡ false
-unfolding seen cleared
-unseen why n p l e = rw (none 0 (omega arith), none 1 (omega arith))
-  where
-    none : (f : ℕ) → f < 2 → entry (cleared why n) f (p / 16) (p % 16) ≡ pos 0
-    none f lf =
-        tabulate-at 512 (λ k. cond (free why (k % 256)) (getD n k (pos 0)) (pos 0)) (slot f (p / 16) (p % 16)) (pos 0) (omega arith)
-        ∙ (λ t. cond ((ap (free why) back ∙ e) t) (getD n (slot f (p / 16) (p % 16)) (pos 0)) (pos 0))
-      where
-        back : slot f (p / 16) (p % 16) % 256 ≡ p
-        back = omega arith
-
 -- what the rule says of a sighting after k steps: the step that dropped it
 unfoldable reasonAfter : ℕ → Book → ℕ → ℕ
 reasonAfter k b h = cond (stays k b h) 0 (first k (λ m. not (stays (suc m) b h)) + 1)
@@ -215,30 +194,26 @@ module _ (b : Book) (s : InRange b) where
 
     module _ (h : ℕ) (l : h < sightings b) where
       why-next : getD (why (suc k)) (placeOf b h) 0 ≡ cond (spoilt (stepCheck k) (left b (stays k b)) (placeOf b h)) (suc k) (getD (why k) (placeOf b h) 0)
-      unfolding whyAfter noted
       why-next =
-          tabulate-at 256 (λ p. cond (fault (stepCheck k) (cleared (why k) (counts b)) (cleared (why k) (readings b)) p) (suc k) (getD (why k) p 0)) (placeOf b h) 0 (place-in b s h l)
+          why-at (counts b) (readings b) (placeOf b h) (place-in b s h l) k
           ∙ (λ t. cond (fault (stepCheck k) (tables-from .0 t) (tables-from .1 t) (placeOf b h)) (suc k) (getD (why k) (placeOf b h) 0))
 
       -- a sighting that is gone spoils nothing
       quiet-gone : stays k b h ≡ false → spoilt (stepCheck k) (left b (stays k b)) (placeOf b h) ≡ false
       quiet-gone e =
           (λ t. fault (stepCheck k) (sym (tables-from .0) t) (sym (tables-from .1) t) (placeOf b h))
-          ∙ fault-unseen k (cleared (why k) (counts b)) (cleared (why k) (readings b)) (placeOf b h)
-          (unseen (why k) (counts b) (placeOf b h) (place-in b s h l) (agree h l ∙ e))
+          ∙ fault-gone (why k) (counts b) (cleared (why k) (readings b)) (placeOf b h) (place-in b s h l) k (agree h l ∙ e)
 
-      free-next : free (why (suc k)) (placeOf b h) ≡ stays (suc k) b h
+      left-next : free (why (suc k)) (placeOf b h) ≡ stays (suc k) b h
       unfolding stays
-      free-next = ap (λ (i : ℕ). eqb i 0) why-next ∙ by-test (spoilt (stepCheck k) (left b (stays k b)) (placeOf b h))
-        where
-          by-test : (y : Bool) → eqb (cond y (suc k) (getD (why k) (placeOf b h) 0)) 0 ≡ (stays k b h && not y)
-          by-test true = ne-eqb (suc k) 0 (λ e. omega arith) ∙ sym (and-false (stays k b h))
-          by-test false = agree h l ∙ sym (and-yes (stays k b h))
+      left-next =
+          free-next (counts b) (readings b) (placeOf b h) (place-in b s h l) k
+          ∙ (λ t. agree h l t && not (fault (stepCheck k) (tables-from .0 t) (tables-from .1 t) (placeOf b h)))
 
   pub why-free : (k h : ℕ) → h < sightings b → free (whyAfter k (counts b) (readings b)) (placeOf b h) ≡ stays k b h
   unfolding whyAfter stays
   why-free zero h l = ap (λ (i : ℕ). eqb i 0) (getD-replicate 256 (placeOf b h) 0 0 (place-in b s h l))
-  why-free (suc k) h l = free-next k (why-free k) h l
+  why-free (suc k) h l = left-next k (why-free k) h l
 
   pub tables-after : (k : ℕ) →
       (cleared (whyAfter k (counts b) (readings b)) (counts b) ≡ counts (left b (stays k b))) × (cleared (whyAfter k (counts b) (readings b)) (readings b) ≡ readings (left b (stays k b)))
