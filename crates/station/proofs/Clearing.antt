@@ -1,116 +1,174 @@
--- The rescue's steps over the station's tables. Assumes nothing.
---   cleared-long, cleared-within        a cleared table keeps its length, and its numbers get no larger
---   cleared-none, cleared-on            without a reason nothing is cleared; what was cleared for fewer reasons is cleared for more
---   noted-long, noted-at, noted-keeps   a step notes 256 reasons, and no reason is lost
---   Stepped, stepped-none, stepped-more        the reasons and the tables after k steps: before the first, and after one more
---   stepped-fit                         they are what the next step asks for
-use mathlib.Core.Path.{_≡_, refl, sym, _∙_, ap}
-use mathlib.Core.Bool.{Bool, true, false, cond}
+-- The steps of the rescue on the tables. Assumes nothing.
+--   entry-cleared                     what a cleared table has of a face, a position and an object
+--   fault-gone                        a place with a reason is not spoilt, once the table is cleared: nothing is seen there
+--   why-at, free-next                 the reason of a place after one step more, and whether it has one
+--   free-before                       a place without a reason had none before
+--   settled                           after the four steps no place is spoilt, for any step
+use mathlib.Core.Path.{_≡_, refl, sym, _∙_, ap, subst}
+use mathlib.Core.Bool.{Bool, true, false, not, cond, _&&_, and-false, and-true as and-yes, and-not-self}
 use mathlib.Core.List.{List}
-use Prim.Native.Nat.{ℕ, zero, suc, _+_, _%_, _<_, _≤_}
+use Prim.Native.Nat.{ℕ, zero, suc, _/_, _%_, _<_, _≤_}
 use native.Mathlib.Decide.{decLt}
 use native.Mathlib.Omega.{arith}
-use borrow.Author.Tests.{eq-eqb, eqb-true}
-use lib.IntN.{ℤ, pos, natAbs}
-use lib.ListN.{length, getD, replicate, length-replicate, getD-replicate, List·getD-eq-default}
-use Rattle.exact.specs.Tabulate.{tabulate}
-use Rattle.exact.specs.Within.{Within}
-use Rattle.exact.proofs.Filling.{tabulate-length, tabulate-at, tabulate-ext, tabulate-is}
-use Rattle.station.specs.declared.checks.Check.{Check}
+use borrow.Author.Tests.{not-true, ne-eqb}
+use lib.Dec.{eqb, ltb}
+use lib.IntN.{ℤ, pos, natAbs, _+ℤ_, _-ℤ_}
+use lib.ListN.{getD}
+use lib.Signed.{ltZ}
+use Rattle.exact.specs.Same.{same}
+use Rattle.exact.proofs.Filling.{tabulate-at}
+use Rattle.station.specs.declared.checks.Check.the-variants.{PairsWhole, InitialSeen, FacesClose}
+use Rattle.station.specs.Table.{slot, entry}
+use Rattle.station.specs.Means.{halfC, centred, seen, facesFault, initialFault, s, apartFault}
 use Rattle.station.specs.Replies.{fault}
 use Rattle.station.specs.Rescue.{stepCheck}
 use Rattle.station.specs.Steps.{free, noted, cleared, whyAfter}
+use Rattle.station.proofs.Tests.{and-true}
 
 -- ---- a cleared table
-pub cleared-long : (why : List ℕ) (t : List ℤ) → length (cleared why t) ≡ 512
-unfolding cleared
-cleared-long why t = tabulate-length 512 _
-
-cleared-at : (why : List ℕ) (t : List ℤ) (k : ℕ) → k < 512 → getD (cleared why t) k (pos 0) ≡ cond (free why (k % 256)) (getD t k (pos 0)) (pos 0)
-unfolding cleared
-cleared-at why t k l = tabulate-at 512 _ k (pos 0) l
-
-pub cleared-within : (B : ℕ) (why : List ℕ) (t : List ℤ) → Within B t → Within B (cleared why t)
-cleared-within B why t h k = by-order (decLt k 512)
-  where
-    by-test : (b : Bool) → natAbs (cond b (getD t k (pos 0)) (pos 0)) ≤ B
-    by-test true = h k
-    by-test false = omega arith
-
-    by-order : Dec (k < 512) → natAbs (getD (cleared why t) k (pos 0)) ≤ B
-    by-order (yes l) = rw (cleared-at why t k l) (by-test (free why (k % 256)))
-    by-order (no l) = rw (List·getD-eq-default (cleared why t) (pos 0) {n = k} (omega (arith, cleared-long why t))) (omega arith)
-
-pub cleared-none : (t : List ℤ) → length t ≡ 512 → cleared (replicate 256 0) t ≡ t
-unfolding cleared
-cleared-none t e =
-    sym (tabulate-is (pos 0) 512 _ t e (λ k l. let z : free (replicate 256 0) (k % 256) ≡ true = eq-eqb _ 0 (getD-replicate 256 (k % 256) 0 0 (omega arith)) in λ i. cond (sym z i) (getD t k (pos 0)) (pos 0)))
-
--- what is cleared for some reasons is cleared for these and more
-pub cleared-on : (why more : List ℕ) (t : List ℤ) → ((k : ℕ) → k < 256 → free more k ≡ true → free why k ≡ true) → cleared more (cleared why t) ≡ cleared more t
-unfolding cleared
-cleared-on why more t h = tabulate-ext 512 _ _ (λ k l. (λ i. cond (free more (k % 256)) (cleared-at why t k l i) (pos 0)) ∙ by-test k (free more (k % 256)) refl)
-  where
-    by-test : (k : ℕ) (b : Bool) → free more (k % 256) ≡ b → cond b (cond (free why (k % 256)) (getD t k (pos 0)) (pos 0)) (pos 0) ≡ cond b (getD t k (pos 0)) (pos 0)
-    by-test k true e = λ i. cond (h (k % 256) (omega arith) e i) (getD t k (pos 0)) (pos 0)
-    by-test k false e = refl
-
--- ---- the reasons
-module _ (check : Check) (step : ℕ) (n r : List ℤ) (why : List ℕ) where
-  pub noted-long : length (noted check step n r why) ≡ 256
-  unfolding noted
-  noted-long = tabulate-length 256 _
-
-  pub noted-at : (k : ℕ) → k < 256 → getD (noted check step n r why) k 0 ≡ cond (fault check n r k) step (getD why k 0)
-  unfolding noted
-  noted-at k l = tabulate-at 256 _ k 0 l
-
-  pub noted-keeps : 1 ≤ step → (k : ℕ) → k < 256 → free (noted check step n r why) k ≡ true → free why k ≡ true
-  noted-keeps l k m e = by-test (fault check n r k) (sym (noted-at k m) ∙ eqb-true _ 0 e)
+module _ (why : List ℕ) (table : List ℤ) where
+  pub entry-cleared : (f i j : ℕ) → f < 2 → i < 16 → j < 16 → entry (cleared why table) f i j ≡ cond (free why (slot 0 i j)) (entry table f i j) (pos 0)
+  unfolding cleared
+  entry-cleared f i j lf li lj =
+      tabulate-at 512 (λ k. cond (free why (k % 256)) (getD table k (pos 0)) (pos 0)) (slot f i j) (pos 0) (omega arith)
+      ∙ ap (λ (p : ℕ). cond (free why p) (entry table f i j) (pos 0)) here
     where
-      by-test : (b : Bool) → cond b step (getD why k 0) ≡ 0 → free why k ≡ true
-      by-test true z = absurd (omega (arith, z))
-      by-test false z = eq-eqb _ 0 z
+      here : slot f i j % 256 ≡ slot 0 i j
+      here = omega arith
 
--- ---- after k steps
-pub record Stepped (n r : List ℤ) (k : ℕ) (count sums : List ℤ) (why : List ℕ) : Type 0 where
-  pub reasons-are : why ≡ whyAfter k n r
-  pub counts-are : count ≡ cleared why n
-  pub sums-are : sums ≡ cleared why r
+  module _ (i j : ℕ) (li : i < 16) (lj : j < 16) where
+    -- at a place without a reason it is as it was
+    as-it-was : free why (slot 0 i j) ≡ true → (f : ℕ) → f < 2 → entry (cleared why table) f i j ≡ entry table f i j
+    as-it-was e f lf = entry-cleared f i j lf li lj ∙ (λ t. cond (e t) (entry table f i j) (pos 0))
 
+    seen-free : free why (slot 0 i j) ≡ true → seen (cleared why table) i j ≡ seen table i j
+    unfolding seen
+    seen-free e = λ t. ltZ (pos 0) (as-it-was e 0 (omega arith) t +ℤ as-it-was e 1 (omega arith) t)
+
+    unseen : free why (slot 0 i j) ≡ false → seen (cleared why table) i j ≡ false
+    unfolding seen
+    unseen e = λ t. ltZ (pos 0) (gone 0 (omega arith) t +ℤ gone 1 (omega arith) t)
+      where
+        gone : (f : ℕ) → f < 2 → entry (cleared why table) f i j ≡ pos 0
+        gone f lf = entry-cleared f i j lf li lj ∙ (λ t. cond (e t) (entry table f i j) (pos 0))
+
+-- a place where nothing is seen is not spoilt
+fault-unseen : (k : ℕ) (n r : List ℤ) (p : ℕ) → seen n (p / 16) (p % 16) ≡ false → fault (stepCheck k) n r p ≡ false
+unfolding stepCheck fault facesFault initialFault apartFault
+fault-unseen zero n r p e = rw e
+fault-unseen (suc zero) n r p e = rw e
+fault-unseen (suc (suc zero)) n r p e = rw e
+fault-unseen (suc (suc (suc k))) n r p e = rw e
+
+-- a place is that of its position and object
+at-place : (p : ℕ) → slot 0 (p / 16) (p % 16) ≡ p
+at-place p = omega arith
+
+pub fault-gone : (why : List ℕ) (n r : List ℤ) (p : ℕ) → p < 256 → (k : ℕ) → free why p ≡ false → fault (stepCheck k) (cleared why n) r p ≡ false
+fault-gone why n r p l k e = fault-unseen k (cleared why n) r p (unseen why n (p / 16) (p % 16) (omega arith) (omega arith) (ap (free why) (at-place p) ∙ e))
+
+-- ---- one step more
 module _ (n r : List ℤ) where
-  pub stepped-none : length n ≡ 512 → length r ≡ 512 → (why : List ℕ) → why ≡ replicate 256 0 → Stepped n r 0 n r why
-  unfolding whyAfter
-  stepped-none ln lr why e = record {
-    reasons-are = e;
-    counts-are = sym (cleared-none n ln) ∙ ap (λ (w : List ℕ). cleared w n) (sym e);
-    sums-are = sym (cleared-none r lr) ∙ ap (λ (w : List ℕ). cleared w r) (sym e);
-  }
+  abbrev why : ℕ → List ℕ
+  why k = whyAfter k n r
 
-  pub stepped-more : (k : ℕ) {count sums count′ sums′ : List ℤ} {why why′ : List ℕ} → Stepped n r k count sums why →
-      why′ ≡ noted (stepCheck k) (suc k) count sums why → count′ ≡ cleared why′ count → sums′ ≡ cleared why′ sums → Stepped n r (suc k) count′ sums′ why′
-  unfolding whyAfter
-  stepped-more k {count} {sums} {count′} {sums′} {why} {why′} s e f g = record {
-    reasons-are = e ∙ (λ i. noted (stepCheck k) (suc k) ((s .counts-are ∙ ap (λ (w : List ℕ). cleared w n) (s .reasons-are)) i) ((s .sums-are ∙ ap (λ (w : List ℕ). cleared w r) (s .reasons-are)) i) (s .reasons-are i));
-    counts-are = f ∙ ap (cleared why′) (s .counts-are) ∙ cleared-on why why′ n keeps;
-    sums-are = g ∙ ap (cleared why′) (s .sums-are) ∙ cleared-on why why′ r keeps;
-  }
+  -- what a step finds at a place
+  abbrev found : ℕ → ℕ → Bool
+  found k p = fault (stepCheck k) (cleared (why k) n) (cleared (why k) r) p
+
+  module _ (p : ℕ) (l : p < 256) where
+    pub why-at : (k : ℕ) → getD (whyAfter (suc k) n r) p 0 ≡ cond (fault (stepCheck k) (cleared (whyAfter k n r) n) (cleared (whyAfter k n r) r) p) (suc k) (getD (whyAfter k n r) p 0)
+    unfolding whyAfter noted
+    why-at k = tabulate-at 256 (λ p. cond (found k p) (suc k) (getD (why k) p 0)) p 0 l
+
+    pub free-next : (k : ℕ) → free (whyAfter (suc k) n r) p ≡ (free (whyAfter k n r) p && not (fault (stepCheck k) (cleared (whyAfter k n r) n) (cleared (whyAfter k n r) r) p))
+    free-next k = ap (λ (i : ℕ). eqb i 0) (why-at k) ∙ by-test (found k p)
+      where
+        by-test : (y : Bool) → eqb (cond y (suc k) (getD (why k) p 0)) 0 ≡ (free (why k) p && not y)
+        by-test true = ne-eqb (suc k) 0 (λ e. omega arith) ∙ sym (and-false (free (why k) p))
+        by-test false = sym (and-yes (free (why k) p))
+
+    pub free-before : (m k : ℕ) → m ≤ k → free (whyAfter k n r) p ≡ true → free (whyAfter m n r) p ≡ true
+    free-before m zero lm e = subst (λ (i : ℕ). free (why i) p ≡ true) (none m lm) e
+      where
+        none : (m : ℕ) → m ≤ 0 → 0 ≡ m
+        none m lm = omega arith
+    free-before m (suc k) lm e = by-order (decLt k m) (free-before m k)
+      where
+        here : k < m → suc k ≡ m
+        here a = omega arith
+
+        by-order : Dec (k < m) → (m ≤ k → free (why k) p ≡ true → free (why m) p ≡ true) → free (why m) p ≡ true
+        by-order (yes a) rec = subst (λ (i : ℕ). free (why i) p ≡ true) (here a) e
+        by-order (no a) rec = rec (omega arith) (and-true (free (why k) p) _ (sym (free-next k) ∙ e) .0)
+
+    -- a place that has no reason after a step was not spoilt in it
+    not-found : (k : ℕ) → free (why (suc k)) p ≡ true → found k p ≡ false
+    not-found k e = not-true (found k p) (and-true (free (why k) p) _ (sym (free-next k) ∙ e) .1)
+
+    -- ---- 23 and 25 look at the place alone: a place that stays is as it was
+    module _ (k : ℕ) (e : free (why k) p ≡ true) where
+      here : free (why k) (slot 0 (p / 16) (p % 16)) ≡ true
+      here = ap (free (why k)) (at-place p) ∙ e
+
+      faces-free : fault PairsWhole (cleared (why k) n) (cleared (why k) r) p ≡ fault PairsWhole n r p
+      unfolding fault facesFault
+      faces-free = λ t.
+          seen-free (why k) n (p / 16) (p % 16) (omega arith) (omega arith) here t
+          && not (
+          same (as-it-was (why k) n (p / 16) (p % 16) (omega arith) (omega arith) here 0 (omega arith) t) (pos 1)
+          && same (as-it-was (why k) n (p / 16) (p % 16) (omega arith) (omega arith) here 1 (omega arith) t) (pos 1))
+
+      apart-free : fault FacesClose (cleared (why k) n) (cleared (why k) r) p ≡ fault FacesClose n r p
+      unfolding fault apartFault s
+      apart-free = λ t.
+          seen-free (why k) n (p / 16) (p % 16) (omega arith) (omega arith) here t
+          && ltb 60000 (natAbs (centred (
+          as-it-was (why k) r (p / 16) (p % 16) (omega arith) (omega arith) here 1 (omega arith) t
+          -ℤ as-it-was (why k) r (p / 16) (p % 16) (omega arith) (omega arith) here 0 (omega arith) t -ℤ halfC) halfC))
+
+  -- ---- 24 looks at object 1 too, which the fourth step itself never drops
+  own-initial : (i : ℕ) → found 3 (slot 0 i 0) ≡ false
+  unfolding stepCheck fault initialFault
+  own-initial i =
+      ap (λ (j : ℕ). seen (cleared (why 3) n) (slot 0 i 0 / 16) j && not (seen (cleared (why 3) n) (slot 0 i 0 / 16) 0)) first-object
+      ∙ and-not-self (seen (cleared (why 3) n) (slot 0 i 0 / 16) 0)
     where
-      keeps : (j : ℕ) → j < 256 → free why′ j ≡ true → free why j ≡ true
-      keeps j l t = noted-keeps (stepCheck k) (suc k) count sums why (omega arith) j l ((λ i. free (sym e i) j) ∙ t)
+      first-object : slot 0 i 0 % 16 ≡ 0
+      first-object = omega arith
 
--- what a step asks of the tables
-why-long : (k : ℕ) (n r : List ℤ) → length (whyAfter k n r) ≡ 256
-unfolding whyAfter
-why-long zero n r = length-replicate {A = ℕ} 256 0
-why-long (suc k) n r = noted-long (stepCheck k) (suc k) (cleared (whyAfter k n r) n) (cleared (whyAfter k n r) r) (whyAfter k n r)
+  initial-stays : (i : ℕ) → i < 16 → seen (cleared (why 4) n) i 0 ≡ seen (cleared (why 3) n) i 0
+  initial-stays i li = by-test (free (why 3) (slot 0 i 0)) refl
+    where
+      by-test : (x : Bool) → free (why 3) (slot 0 i 0) ≡ x → seen (cleared (why 4) n) i 0 ≡ seen (cleared (why 3) n) i 0
+      by-test true e =
+          seen-free (why 4) n i 0 li (omega arith) (free-next (slot 0 i 0) (omega arith) 3 ∙ (λ t. e t && not (own-initial i t)))
+          ∙ sym (seen-free (why 3) n i 0 li (omega arith) e)
+      by-test false e =
+          unseen (why 4) n i 0 li (omega arith) (free-next (slot 0 i 0) (omega arith) 3 ∙ (λ t. e t && not (found 3 (slot 0 i 0))))
+          ∙ sym (unseen (why 3) n i 0 li (omega arith) e)
 
-pub stepped-fit : {n r count sums : List ℤ} {k : ℕ} {why : List ℕ} → Within 512 n → Within 663552000000 r → Stepped n r k count sums why →
-    Within 512 count × Within 663552000000 sums × (length count ≡ 512) × (length sums ≡ 512) × (length why ≡ 256)
-stepped-fit {n} {r} {count} {sums} {k} {why} wn wr s = (
-  rw (s .counts-are) (cleared-within 512 why n wn),
-  rw (s .sums-are) (cleared-within 663552000000 why r wr),
-  ap length (s .counts-are) ∙ cleared-long why n,
-  ap length (s .sums-are) ∙ cleared-long why r,
-  ap length (s .reasons-are) ∙ why-long k n r,
-)
+  -- ---- after the four steps
+  module _ (p : ℕ) (l : p < 256) where
+    by-free : (k : ℕ) → (free (why 4) p ≡ true → fault (stepCheck k) (cleared (why 4) n) (cleared (why 4) r) p ≡ false) → fault (stepCheck k) (cleared (why 4) n) (cleared (why 4) r) p ≡ false
+    by-free k f = by-test (free (why 4) p) refl
+      where
+        by-test : (x : Bool) → free (why 4) p ≡ x → fault (stepCheck k) (cleared (why 4) n) (cleared (why 4) r) p ≡ false
+        by-test true e = f e
+        by-test false e = fault-gone (why 4) n (cleared (why 4) r) p l k e
+
+    initials-settled : free (why 4) p ≡ true → fault InitialSeen (cleared (why 4) n) (cleared (why 4) r) p ≡ false
+    unfolding stepCheck fault initialFault
+    initials-settled e = (λ t. same-seen t && not (initial-stays (p / 16) (omega arith) t)) ∙ not-found p l 3 e
+      where
+        same-seen : seen (cleared (why 4) n) (p / 16) (p % 16) ≡ seen (cleared (why 3) n) (p / 16) (p % 16)
+        same-seen =
+            seen-free (why 4) n (p / 16) (p % 16) (omega arith) (omega arith) (here p l 4 e)
+            ∙ sym (seen-free (why 3) n (p / 16) (p % 16) (omega arith) (omega arith) (here p l 3 (free-before p l 3 4 (omega arith) e)))
+
+    pub settled : (k : ℕ) → fault (stepCheck k) (cleared (whyAfter 4 n r) n) (cleared (whyAfter 4 n r) r) p ≡ false
+    unfolding stepCheck
+    settled zero = by-free 0 (λ e. faces-free p l 4 e ∙ sym (faces-free p l 0 (free-before p l 0 4 (omega arith) e)) ∙ not-found p l 0 (free-before p l 1 4 (omega arith) e))
+    settled (suc zero) = by-free 1 initials-settled
+    settled (suc (suc zero)) = by-free 2 (λ e. apart-free p l 4 e ∙ sym (apart-free p l 2 (free-before p l 2 4 (omega arith) e)) ∙ not-found p l 2 (free-before p l 3 4 (omega arith) e))
+    settled (suc (suc (suc k))) = by-free (suc (suc (suc k))) initials-settled

@@ -2,12 +2,14 @@ pub mod Tests
 pub mod Figures
 pub mod Selecting
 pub mod Tallying
+pub mod Clearing
+pub mod Sweeping
+pub mod Sifting
 pub mod Positions
 pub mod Deciding
 pub mod Accepting
 pub mod Pairing
 pub mod Counting
-pub mod Clearing
 pub mod Joining
 pub mod Rearranging
 pub mod Averaging
@@ -15,3 +17,4 @@ pub mod Directions
 pub mod Answering
 pub mod Uniqueness
 pub mod StationFigures
+pub mod Rescuing

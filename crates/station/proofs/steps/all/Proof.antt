@@ -3,7 +3,7 @@ use mathlib.Core.List.{List}
 use borrow.Author.Needs.{needs}
 use lib.IntN.{ℤ}
 use Rattle.station.specs.Rescue.{stepCheck}
-use Rattle.station.proofs.Clearing.{Stepped, stepped-none, stepped-more, stepped-fit}
+use Rattle.station.proofs.Sweeping.{Stepped, stepped-none, stepped-more, stepped-fit}
 use Rattle.station.proofs.steps.all.Statement.{statement}
 use Rattle.station.proofs.steps.all.Tie as tie
 
