@@ -11,13 +11,13 @@
 --   rank-in, nth-rank, rank-nth       each of them stands at one place: rank and nth lead back to each other
 --   sum-gathered                      a sum over them is the sum, over all, of those terms at which the test holds
 --   Gathered, gathered-none, gathered-taken, gathered-passed      a loop that stores them in the first places of a list: before the first number, and after
---                                     one more, whose value is stored or not
+--                                     one more, whose value is stored or not; gathered-as: the same under other names
 use mathlib.Core.Path.{_≡_, refl, sym, _∙_, ap, subst}
 use mathlib.Core.Bool.{Bool, true, false, not, cond}
 use mathlib.Core.List.{List, [], _∷_, _++_, append-nil}
 use Prim.Native.Nat.{ℕ, zero, suc, _+_, _<_, _≤_}
 use native.Mathlib.Decide.{decLt}
-use native.Mathlib.Nat.{le-refl}
+use native.Mathlib.Nat.{le-refl, zero-add}
 use native.Mathlib.Numerals.{add-one}
 use native.Mathlib.Omega.{arith}
 use lib.IntN.{ℤ, pos, _+ℤ_, +ℤ-idr}
@@ -240,7 +240,7 @@ module _ {A : Type 0} (test : ℕ → Bool) (f : ℕ → A) (xs : List A) where
     pub gathered-taken : test h ≡ true → (v : A) → v ≡ f h → Gathered test f (h + 1) xs (set ys n v) (n + 1)
     gathered-taken t v e = record {
       stored =
-          (λ i. set (g .stored i) (g .count i) (e i)) ∙ sets-append (gather h test f) (f h ∷ []) xs 0 ∙ ap (sets xs 0) (sym (gather-taken h test f t));
+          (λ i. set (g .stored i) ((g .count ∙ sym (zero-add (length (gather h test f)))) i) (e i)) ∙ sets-append (gather h test f) (f h ∷ []) xs 0 ∙ ap (sets xs 0) (sym (gather-taken h test f t));
       count = ap (λ (k : ℕ). k + 1) (g .count) ∙ sym (length-append (gather h test f) (f h ∷ [])) ∙ ap length (sym (gather-taken h test f t));
       few = omega (arith, g .few);
       long = length-set ys n v ∙ g .long;
@@ -253,3 +253,7 @@ module _ {A : Type 0} (test : ℕ → Bool) (f : ℕ → A) (xs : List A) where
       few = omega (arith, g .few);
       long = g .long;
     }
+
+-- the same list and number, under other names
+pub gathered-as : {A : Type 0} {test : ℕ → Bool} {f : ℕ → A} {h n n′ : ℕ} {xs ys ys′ : List A} → ys′ ≡ ys → n′ ≡ n → Gathered test f h xs ys n → Gathered test f h xs ys′ n′
+gathered-as {A} {test} {f} {h} {n} {n′} {xs} {ys} {ys′} p q g = subst (λ (l : List A). Gathered test f h xs l n′) (sym p) (subst (Gathered test f h xs ys) (sym q) g)

@@ -64,3 +64,99 @@ pub fn means(
     answer::write(&count, &sums, direction, pairs);
     Reply::Accepted
 }
+
+// Why each sighting of a spoiled list is dropped, 1 to 4 by the step that drops it, and 0 where it is kept, into a lent list of as many places; or why the
+// sightings are refused, and the list stays as it was.
+pub fn judge(
+    position: &[i64],
+    object: &[i64],
+    face: &[i64],
+    reading: &[i64],
+    reason: &mut [u8],
+) -> Reply
+    ensures { λ r. ⌜ Judges (book (now (position .entry)) (now (object .entry)) (now (face .entry)) (now (reading .entry))) (now (reason .entry)) r (now (reason .exit)) ⌝ }
+{
+    let n = position.len();
+    if !fields::lengths_fit(n, object.len(), face.len(), reading.len(), 16, 16) {
+        return Reply::Refused(Refusal::Sightings);
+    }
+    if reason.len() != n {
+        return Reply::Refused(Refusal::Sightings);
+    }
+    let h = fields::first_out_of_range(position, object, face, reading);
+    if h < n {
+        return Reply::Refused(Refusal::Field((h + 1) as u64));
+    }
+    let mut count = [0i64; 512];
+    let mut sums = [0i64; 512];
+    table::tally(position, object, face, reading, &mut count, &mut sums);
+    let mut why = [0u8; 256];
+    steps::all(&mut count, &mut sums, &mut why);
+    if n <= steps::first_kept(position, object, &why) {
+        return Reply::Refused(Refusal::NothingLeft);
+    }
+    steps::write_reasons(position, object, &why, reason);
+    Reply::Accepted
+}
+
+// Nothing is kept and nothing dropped.
+fn refused(why: Refusal) -> Rescued
+    ensures { λ r. ⌜ r ≡ record { reply = Refused why; kept = 0; dropped = 0 } ⌝ }
+{
+    Rescued {
+        reply: Reply::Refused(why),
+        kept: 0,
+        dropped: 0,
+    }
+}
+
+// The rescue of a spoiled list: the kept sightings in their old order, into four lent lists, and for each dropped one its ordinal and its reason, into two
+// more, each of as many places as there are sightings; or why the sightings are refused, and the lists stay as they were.
+pub fn rescue(
+    position: &[i64],
+    object: &[i64],
+    face: &[i64],
+    reading: &[i64],
+    kept_position: &mut [i64],
+    kept_object: &mut [i64],
+    kept_face: &mut [i64],
+    kept_reading: &mut [i64],
+    ordinals: &mut [u64],
+    reasons: &mut [u64],
+) -> Rescued
+    ensures { λ r. ⌜ Rescues (book (now (position .entry)) (now (object .entry)) (now (face .entry)) (now (reading .entry)))
+        (lent (now («kept_position» .entry)) (now («kept_object» .entry)) (now («kept_face» .entry)) (now («kept_reading» .entry)) (now (ordinals .entry)) (now (reasons .entry)))
+        r
+        (lent (now («kept_position» .exit)) (now («kept_object» .exit)) (now («kept_face» .exit)) (now («kept_reading» .exit)) (now (ordinals .exit)) (now (reasons .exit))) ⌝ }
+{
+    let n = position.len();
+    if !parting::rooms_fit(
+        n,
+        kept_position.len(),
+        kept_object.len(),
+        kept_face.len(),
+        kept_reading.len(),
+        ordinals.len(),
+        reasons.len(),
+    ) {
+        return refused(Refusal::Sightings);
+    }
+    if MOST < n {
+        return refused(Refusal::Sightings);
+    }
+    let mut reason = [0u8; MOST];
+    let reply = judge(position, object, face, reading, &mut reason[..n]);
+    if let Reply::Refused(why) = reply {
+        return refused(why);
+    }
+    parting::keep(&reason[..n], position, kept_position);
+    parting::keep(&reason[..n], object, kept_object);
+    parting::keep(&reason[..n], face, kept_face);
+    let kept = parting::keep(&reason[..n], reading, kept_reading);
+    let dropped = parting::list_dropped(&reason[..n], ordinals, reasons);
+    Rescued {
+        reply: Reply::Accepted,
+        kept,
+        dropped,
+    }
+}
