@@ -17,4 +17,5 @@ pub mod Directions
 pub mod Answering
 pub mod Uniqueness
 pub mod StationFigures
+pub mod Judging
 pub mod Rescuing
