@@ -16,4 +16,5 @@ pub mod Directions
 pub mod Answering
 pub mod Uniqueness
 pub mod StationFigures
+pub mod Sounding
 pub mod Rescuing
