@@ -18,3 +18,4 @@ pub mod Uniqueness
 pub mod StationFigures
 pub mod Sounding
 pub mod Rescuing
+pub mod Reordering

@@ -1,5 +1,6 @@
 -- What the rescue of a list of sightings keeps and drops. Assumes nothing.
 --   parted                  kept and dropped together are the list given, each once
+--   dropped-long, in-dropped        how many are dropped
 --   sound-whole             a list already sound under 23 to 25 is kept whole
 --   kept-sound              what is kept is sound: never refused with 22 to 25
 --   again                   a rescue of what is kept drops nothing
@@ -32,13 +33,13 @@ use Rattle.station.proofs.Sounding.{Clear, sound-clear, clear-sound, cl
 
 -- ---- each once
 module _ (b : Book) where
-  dropped-long : length (ordinals b) ≡ rank (isDropped b) (sightings b)
+  pub dropped-long : length (ordinals b) ≡ rank (isDropped b) (sightings b)
   dropped-long = gather-rank (isDropped b) (sightings b) (λ h. h + 1)
 
   in-kept : (m : ℕ) → m < sightings (kept b) → m < rank (isKept b) (sightings b)
   in-kept m l = omega (arith, left-long b (isKept b))
 
-  in-dropped : (m : ℕ) → m < length (ordinals b) → m < rank (isDropped b) (sightings b)
+  pub in-dropped : (m : ℕ) → m < length (ordinals b) → m < rank (isDropped b) (sightings b)
   in-dropped m l = omega (arith, dropped-long)
 
   reason-at : (m : ℕ) → m < length (ordinals b) → getD (reasons b) m 0 ≡ reason b (nth (isDropped b) (sightings b) m)
