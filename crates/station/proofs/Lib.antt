@@ -18,4 +18,6 @@ pub mod Answering
 pub mod Uniqueness
 pub mod StationFigures
 pub mod Judging
+pub mod Sounding
 pub mod Rescuing
+pub mod Reordering
