@@ -19,3 +19,4 @@ pub mod StationFigures
 pub mod Sounding
 pub mod Rescuing
 pub mod Reordering
+pub mod RescueFigures
