@@ -112,7 +112,7 @@ fn refused(why: Refusal) -> Rescued
     }
 }
 
-// The same with lists that fit, and one more to note the reasons in.
+// The rescue of lists that have the room that is due, with one more to note the reasons in.
 fn part(
     reason: &mut [u8],
     position: &[i64],
