@@ -13,3 +13,4 @@ pub mod LeastSquares
 pub mod Weights
 pub mod Searching
 pub mod Filling
+pub mod Gathering
