@@ -4,7 +4,7 @@
 --   first-before        whatever lies before it fails; all-failed: where none passes, all fail
 --   first-least         no number that passes the test is below it
 --   first-ext           of tests that agree below n; first-until: of tests that agree as long as all have failed
---   first-most, first-found      it is n at most
+--   first-most, first-found      it is n at most; first-more: one number more changes nothing where one before it passes
 --   first-either        of one test or another, where the first of the other is known
 --   from-failed, from-test, from-ext, from-none      a search that begins at j: whatever lies before j fails, from j on the test decides
 --   Failed, failed-none, failed-more       the loop's invariant: all below i fail
@@ -153,3 +153,10 @@ first-most (suc n) p = by-test (p 0) (first-most n (λ i. p (suc i)))
 
 pub first-found : {n stop : ℕ} (p : ℕ → Bool) → stop ≡ first n p → stop ≤ n
 first-found {n} {stop} p e = omega (arith, e, first-most n p)
+
+-- one number more, where one before it passes
+pub first-more : (n : ℕ) (p : ℕ → Bool) (i : ℕ) → i < n → p i ≡ true → first (suc n) p ≡ first n p
+unfolding first
+first-more zero p i l e = absurd (omega arith)
+first-more (suc n) p zero l e = rw e
+first-more (suc n) p (suc i) l e = ap (λ (k : ℕ). cond (p 0) 0 (suc k)) (first-more n (λ h. p (suc h)) i (omega arith) e)

@@ -2,6 +2,8 @@ pub mod Tests
 pub mod Figures
 pub mod Selecting
 pub mod Tallying
+pub mod Clearing
+pub mod Sifting
 pub mod Positions
 pub mod Deciding
 pub mod Accepting
@@ -14,3 +16,4 @@ pub mod Directions
 pub mod Answering
 pub mod Uniqueness
 pub mod StationFigures
+pub mod Rescuing

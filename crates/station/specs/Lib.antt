@@ -8,3 +8,4 @@ pub mod Pairs
 pub mod Replies
 pub mod Rescue
 pub mod Steps
+pub mod Parted
