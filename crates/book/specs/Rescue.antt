@@ -4,7 +4,7 @@ use mathlib.Core.Bool.{true, cond}
 use mathlib.Core.List.{List, [], _∷_, _++_}
 use Prim.Native.Nat.{ℕ, _+_, _≤_}
 use lib.Dec.{ltb}
-use lib.ListN.{length, take}
+use lib.ListN.{length, getD, take}
 use Rattle.exact.specs.Tabulate.{tabulate}
 use Rattle.reply.specs.declared.Refusal.the-variants.{Count, Sightings}
 use Rattle.reply.specs.declared.Reply.{Reply}
@@ -17,6 +17,7 @@ use Rattle.page.specs.declared.Listed.{Listed}
 use Rattle.page.specs.Lines.{countsEnd}
 use Rattle.page.specs.Page.{ListedBy, inRoom, printed, printedIn}
 use Rattle.station.specs.Rescue.{isKept, reason, rescueReply}
+use Rattle.station.specs.Steps.{free}
 use Rattle.book.specs.declared.spoiled.Judged.{Judged}
 use Rattle.book.specs.declared.parts.Part.{Part}
 use Rattle.book.specs.declared.parts.Part.the-variants.{Kept, Dropped}
@@ -63,7 +64,14 @@ rescueListing part file = printed (spoiledReply file) (partOf part file)
 unfoldable pub rescueListingIn : Part → (file : List ℕ) (room : ℕ) → List ℕ
 rescueListingIn part file room = printedIn (roomFor part) room (spoiledReply file) (partOf part file)
 
--- ---- what the reader of a spoiled book hands on: the reply, and of an accepted book the reasons, in the first places of a lent list
+-- ---- what inner functions hand each other: the lines of a book whose reasons are known, by number
+abbrev pub keptBy : (file reasons : List ℕ) (h : ℕ) → List ℕ
+keptBy file reasons h = cond (free reasons h) (lineNo file h ++ lineEnd) []
+
+abbrev pub droppedBy : (reasons : List ℕ) (h : ℕ) → List ℕ
+droppedBy reasons h = cond (free reasons h) [] (xLine (h + 1) (getD reasons h 0))
+
+-- what the reader of a spoiled book hands on: the reply, and of an accepted book the reasons, in the first places of a lent list
 pub record JudgedAs (file : List ℕ) (judged : Judged) (reasons : List ℕ) : Type 0 where
   pub answer : judged .reply ≡ spoiledReply file
   pub few : judged .sightings ≤ 512

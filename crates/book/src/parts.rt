@@ -1,17 +1,14 @@
 // The two parts of a spoiled book: the lines that are kept, as they stand in it, and a line for each sighting that is dropped.
 ghost use mathlib.Core.Path.{_≡_};
-ghost use mathlib.Core.Bool.{true, cond};
-ghost use mathlib.Core.List.{[], _++_};
 ghost use Prim.Native.Nat.{ℕ, _+_, _<_, _≤_};
 ghost use lib.ListN.{length, getD};
 ghost use Rattle.exact.specs.Tabulate.{tabulate};
 ghost use Rattle.reply.specs.declared.Reply.the-variants.{Accepted};
 ghost use Rattle.text.specs.Lines.{linesIn, lineNo};
-ghost use Rattle.text.specs.Written.{Wrote, lineEnd, inOrder};
+ghost use Rattle.text.specs.Written.{countField, Wrote, inOrder};
 ghost use Rattle.station.specs.Rescue.{reason};
-ghost use Rattle.station.specs.Steps.{free};
 ghost use Rattle.book.specs.Lines.{bookOf};
-ghost use Rattle.book.specs.Rescue.{xLine, roomFor, partOf, spoiledReply};
+ghost use Rattle.book.specs.Rescue.{xLine, keptBy, droppedBy, roomFor, partOf, spoiledReply};
 use text::LF;
 use text::TAB;
 use text::decimal;
@@ -43,8 +40,8 @@ pub fn room_for(part: Part) -> usize
 // The lines whose sightings have no reason, each as it stands in the book, from the start of the buffer.
 fn put_kept(out: &mut [u8], file: &[u8], reason: &[u8]) -> usize
     requires { ⌜ (10752 ≤ length (now out)) × (length (now reason) ≤ 512) × (length (now reason) ≡ linesIn (now file))
-        × ((h : ℕ) → h < linesIn (now file) → free (now reason) h ≡ true → length (lineNo (now file) h) ≤ 20) ⌝ }
-    ensures { λ r. ⌜ Wrote (now (out .entry)) 0 (inOrder (linesIn (now (file .entry))) (λ h. cond (free (now (reason .entry)) h) (lineNo (now (file .entry)) h ++ lineEnd) [])) (now (out .exit)) r ⌝ }
+        × ((h : ℕ) → h < linesIn (now file) → length (lineNo (now file) h) ≤ 20) ⌝ }
+    ensures { λ r. ⌜ Wrote (now (out .entry)) 0 (inOrder (length (now (reason .entry))) (keptBy (now (file .entry)) (now (reason .entry)))) (now (out .exit)) r ⌝ }
 {
     let mut next = 0;
     let mut start = 0;
@@ -60,23 +57,30 @@ fn put_kept(out: &mut [u8], file: &[u8], reason: &[u8]) -> usize
     next
 }
 
+// A tab and a count, in a buffer that has room for just these.
+fn put_field(out: &mut [u8], at: usize, n: u64) -> usize
+    requires { ⌜ at + length (countField n) ≤ length (now out) ⌝ }
+    ensures { λ r. ⌜ Wrote (now (out .entry)) at (countField n) (now (out .exit)) r ⌝ }
+{
+    let next = writer::put_byte(out, at, TAB);
+    decimal::put_digits(out, next, n)
+}
+
 // The line of a dropped sighting: X, ordinal, reason.
 fn put_line(out: &mut [u8], at: usize, ordinal: u64, reason: u64) -> usize
-    requires { ⌜ (at + 8 ≤ length (now out)) × (ordinal ≤ 512) × (reason < 10) ⌝ }
+    requires { ⌜ at + length (xLine ordinal reason) ≤ length (now out) ⌝ }
     ensures { λ r. ⌜ Wrote (now (out .entry)) at (xLine ordinal reason) (now (out .exit)) r ⌝ }
 {
     let head = writer::put_byte(out, at, b'X');
-    let first = writer::put_byte(out, head, TAB);
-    let numbered = decimal::put_digits(out, first, ordinal);
-    let second = writer::put_byte(out, numbered, TAB);
-    let told = decimal::put_digits(out, second, reason);
+    let numbered = put_field(out, head, ordinal);
+    let told = put_field(out, numbered, reason);
     writer::put_byte(out, told, LF)
 }
 
 // A line for each sighting that has a reason, from the start of the buffer.
 fn put_dropped(out: &mut [u8], reason: &[u8]) -> usize
-    requires { ⌜ (4096 ≤ length (now out)) × (length (now reason) ≤ 512) × ((h : ℕ) → getD (now reason) h 0 < 10) ⌝ }
-    ensures { λ r. ⌜ Wrote (now (out .entry)) 0 (inOrder (length (now (reason .entry))) (λ h. cond (free (now (reason .entry)) h) [] (xLine (h + 1) (getD (now (reason .entry)) h 0)))) (now (out .exit)) r ⌝ }
+    requires { ⌜ (4096 ≤ length (now out)) × (length (now reason) ≤ 512) × ((h : ℕ) → h < length (now reason) → getD (now reason) h 0 < 10) ⌝ }
+    ensures { λ r. ⌜ Wrote (now (out .entry)) 0 (inOrder (length (now (reason .entry))) (droppedBy (now (reason .entry)))) (now (out .exit)) r ⌝ }
 {
     let mut next = 0;
     let mut h = 0;
