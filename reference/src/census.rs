@@ -7,10 +7,11 @@ use std::fmt::Debug;
 use crate::adjustment::{Adjustment, Weakness};
 use crate::generate::{
     archive_case, book_case, line_case, network_case, number_case, precision_case, reports_case,
-    sheet_case, state_case, station_case, sum_case, table_case, terms_case, PrecisionCase, Rng,
-    SheetCase,
+    rescue_case, sheet_case, spoiled_book_case, state_case, station_case, sum_case, table_case,
+    terms_case, PrecisionCase, RescueCase, Rng, SheetCase,
 };
 use crate::refusal::{Refusal, CORRECTION, RANGE};
+use crate::rescue::{rescue, Rescued};
 use crate::sheet::{self, Answer, Fault};
 use crate::{adjustment, book, condition, lines, network, precision, reports, season, station};
 
@@ -33,6 +34,18 @@ pub struct Census {
     pub season_end: Replies,
     pub add_reports: Replies,
     pub texts_of_reports: Replies,
+    pub rescue: Replies,
+    /// Accepted lists by the reasons for which sightings of them are dropped, each list once
+    /// for each reason, and under 0 where none is.
+    pub rescue_reasons: Replies,
+    /// What the means of the kept sightings are refused with, 0 for accepted.
+    pub rescued_means: Replies,
+    /// Pairs of lists that are not refused by s, at its limits and just past them.
+    pub rescue_limits: Replies,
+    /// Accepted lists of 512 sightings, those of which over 256 are dropped, and those of
+    /// which one pair is left.
+    pub rescue_sizes: [usize; 3],
+    pub rescue_book: Replies,
     pub sheet: Replies,
     /// Sheets with yes and with no, by what the net is refused with when it is adjusted.
     pub sheets_yes: Replies,
@@ -102,6 +115,7 @@ pub fn take(seed: u64, cases: usize) -> Census {
     // What came later is drawn apart, so that the other inputs stay those they were.
     let mut later = Rng::new(!seed);
     let mut latest = Rng::new(seed.rotate_left(32));
+    let mut spoiled = Rng::new(!seed.rotate_left(32));
     for _ in 0..cases {
         count_station(&mut rng, &mut census);
         count_terms(&mut rng, &mut census);
@@ -113,6 +127,7 @@ pub fn take(seed: u64, cases: usize) -> Census {
         count_states(&mut later, &mut census);
         count_sums(&mut later, &mut census);
         count_sheet(&mut latest, &mut census);
+        count_rescue(&mut spoiled, &mut census);
         let case = line_case(&mut rng);
         let status = lines::line_status(&case.file, case.start);
         *census.line_statuses.entry(status).or_default() += 1;
@@ -256,6 +271,60 @@ fn count_book(rng: &mut Rng, census: &mut Census) {
             listing.starts_with(b"STA\t2\t"),
         ];
         add(&mut census.book_sizes, sizes);
+    }
+}
+
+fn count_rescue(rng: &mut Rng, census: &mut Census) {
+    let case = rescue_case(rng);
+    let RescueCase {
+        position,
+        object,
+        face,
+        reading,
+        lengths,
+    } = &case;
+    let reply = rescue(position, object, face, reading, *lengths);
+    count(&mut census.rescue, &reply);
+    if let Ok(rescued) = reply {
+        count_rescued(&case, &rescued, census);
+    }
+    let file = spoiled_book_case(rng).file;
+    let reply = book::rescue_book(&file, book::RESCUED_ROOM);
+    count(&mut census.rescue_book, &reply);
+}
+
+fn count_rescued(case: &RescueCase, rescued: &Rescued, census: &mut Census) {
+    let mut seen = |reason: i64| *census.rescue_reasons.entry(reason).or_default() += 1;
+    for reason in (1..=4).filter(|reason| rescued.reasons.contains(reason)) {
+        seen(reason as i64);
+    }
+    if rescued.reasons.is_empty() {
+        seen(0);
+    }
+    let means = station::station_means_i64(
+        &rescued.position,
+        &rescued.object,
+        &rescued.face,
+        &rescued.reading,
+        station::AnswerLengths::fitting(),
+    );
+    count(&mut census.rescued_means, &means);
+    let sizes = [
+        case.position.len() == 512,
+        rescued.ordinals.len() > 256,
+        rescued.position.len() == 2,
+    ];
+    add(&mut census.rescue_sizes, sizes);
+    let faces = |face: i64| (0..case.face.len()).filter(move |&index| case.face[index] == face);
+    for left in faces(0) {
+        let key = |index: usize| [case.position[index], case.object[index]];
+        for right in faces(1).filter(|&right| key(right) == key(left)) {
+            let [left, right] = [left, right].map(|index| i128::from(case.reading[index]));
+            let s = station::s_of(left, right) as i64;
+            if [60_000, 60_001].contains(&s.abs()) {
+                *census.rescue_limits.entry(s).or_default() += 1;
+            }
+        }
     }
 }
 
@@ -409,6 +478,7 @@ pub fn report(census: &Census) -> String {
     let [below, at, above] = census.squares;
     let [sightings, objects, pair] = census.book_sizes;
     let [longest, too_long] = census.book_lengths;
+    let [most, many, one] = census.rescue_sizes;
     let [empty, left, parts] = census.archives;
     let [start, stop, elsewhere] = census.states;
     let [one_less, held, more] = census.long_states;
@@ -427,6 +497,14 @@ pub fn report(census: &Census) -> String {
         describe("season end", &census.season_end),
         describe("add reports", &census.add_reports),
         describe("texts of reports", &census.texts_of_reports),
+        describe("rescue", &census.rescue),
+        describe("reasons of a rescue", &census.rescue_reasons),
+        describe("means of what is kept", &census.rescued_means),
+        describe("faces next to their limit", &census.rescue_limits),
+        format!(
+            "lists rescued: 512 sightings {most}, over 256 dropped {many}, one pair left {one}\n"
+        ),
+        describe("rescue of a book", &census.rescue_book),
         describe("sheet", &census.sheet),
         describe("sheets with yes, by the net", &census.sheets_yes),
         describe("sheets with no, by the net", &census.sheets_no),

@@ -5,6 +5,7 @@ mod book;
 mod network;
 mod pivot;
 mod precision;
+mod rescue;
 mod season;
 mod sheet;
 mod station;
@@ -15,6 +16,7 @@ mod text;
 pub use book::{book_case, BookCase};
 pub use network::{line_case, network_case, number_case, LineCase, NetworkCase, NumberCase};
 pub use precision::{precision_case, PrecisionCase};
+pub use rescue::{rescue_case, spoiled_book_case, RescueCase};
 pub use season::{
     archive_case, reports_case, state_case, sum_case, ArchiveCase, ReportsCase, StateCase, SumCase,
 };
@@ -226,6 +228,9 @@ mod tests {
             assert_eq!(sum_case(&mut one), sum_case(&mut other));
             assert_eq!(reports_case(&mut one), reports_case(&mut other));
             assert_eq!(sheet_case(&mut one), sheet_case(&mut other));
+            assert_eq!(rescue_case(&mut one), rescue_case(&mut other));
+            let spoiled = spoiled_book_case(&mut one);
+            assert_eq!(spoiled, spoiled_book_case(&mut other));
         }
     }
 

@@ -15,6 +15,7 @@ mod numeric;
 pub mod precision;
 pub mod refusal;
 pub mod reports;
+pub mod rescue;
 pub mod season;
 pub mod sheet;
 pub mod station;

@@ -37,6 +37,8 @@ pub const POSITIONS_APART: i64 = 26;
 pub const NET_PAST: i64 = 30;
 /// A listing that is no sheet in form.
 pub const SHEET: i64 = 31;
+/// A list of sightings of which a rescue would leave nothing.
+pub const NOTHING_LEFT: i64 = 32;
 
 /// Number and place; nothing else is handed back with a refusal.
 #[derive(Clone, Copy, Debug, PartialEq, Eq)]

@@ -11,9 +11,10 @@ use crate::refusal::{
 pub const OBJECTS: usize = 16;
 
 const MOST_SIGHTINGS: usize = 512;
-const MOST_FACES_APART: i128 = 60_000;
+pub(crate) const MOST_FACES_APART: i128 = 60_000;
 const MOST_POSITIONS_APART: i128 = 120_000;
-const INITIAL: i128 = 1;
+/// The object from which all directions of a position are counted.
+pub(crate) const INITIAL: i128 = 1;
 
 /// The lengths of the two lists that a caller lends for the answer.
 #[derive(Clone, Copy, Debug, PartialEq, Eq)]
@@ -64,7 +65,8 @@ pub fn station_means(
     reading: &[i128],
     lengths: AnswerLengths,
 ) -> Result<StationMeans, Refusal> {
-    check_lengths(&[position, object, face, reading], lengths)?;
+    let answers_fit = lengths == AnswerLengths::fitting();
+    check_lengths(&[position, object, face, reading], answers_fit)?;
     check_fields(position, object, face, reading)?;
     let readings = join_faces(position, object, face, reading);
     let pairs = check_pairs(&readings)?;
@@ -81,7 +83,6 @@ pub fn station_means_i64(
     reading: &[i64],
     lengths: AnswerLengths,
 ) -> Result<StationMeans, Refusal> {
-    let wide = |list: &[i64]| -> Vec<i128> { list.iter().map(|&x| i128::from(x)).collect() };
     station_means(
         &wide(position),
         &wide(object),
@@ -99,7 +100,6 @@ pub fn station_means_u64(
     reading: &[u64],
     lengths: AnswerLengths,
 ) -> Result<StationMeans, Refusal> {
-    let wide = |list: &[u64]| -> Vec<i128> { list.iter().map(|&x| i128::from(x)).collect() };
     station_means(
         &wide(position),
         &wide(object),
@@ -109,11 +109,17 @@ pub fn station_means_u64(
     )
 }
 
-fn check_lengths(lists: &[&[i128]; 4], lengths: AnswerLengths) -> Result<(), Refusal> {
+/// A list of narrower numbers, as the checks take it.
+pub(crate) fn wide<T: Copy + Into<i128>>(list: &[T]) -> Vec<i128> {
+    list.iter().map(|&x| x.into()).collect()
+}
+
+/// The three reasons of 21 at once, and lists for an answer that do not fit it.
+pub(crate) fn check_lengths(lists: &[&[i128]; 4], answers_fit: bool) -> Result<(), Refusal> {
     let count = lists[0].len();
     let sound = (1..=MOST_SIGHTINGS).contains(&count)
         && lists.iter().all(|list| list.len() == count)
-        && lengths == AnswerLengths::fitting();
+        && answers_fit;
     if sound {
         Ok(())
     } else {
@@ -121,7 +127,7 @@ fn check_lengths(lists: &[&[i128]; 4], lengths: AnswerLengths) -> Result<(), Ref
     }
 }
 
-fn check_fields(
+pub(crate) fn check_fields(
     position: &[i128],
     object: &[i128],
     face: &[i128],
@@ -165,13 +171,18 @@ fn check_pairs(readings: &BTreeMap<Sighted, Readings>) -> Result<BTreeMap<Sighte
     for (&sighted, readings) in readings {
         match (readings.left.as_slice(), readings.right.as_slice()) {
             (&[left], &[right]) => {
-                let s = about_zero(right - left - CIRCLE / 2, CIRCLE);
+                let s = s_of(left, right);
                 pairs.insert(sighted, Pair { left, s });
             }
             _ => return Err(refuse_at(FACES, sighted)),
         }
     }
     Ok(pairs)
+}
+
+/// How far the two faces of a pair are apart.
+pub(crate) fn s_of(left: i128, right: i128) -> i128 {
+    about_zero(right - left - CIRCLE / 2, CIRCLE)
 }
 
 fn check_initials(pairs: &BTreeMap<Sighted, Pair>) -> Result<(), Refusal> {

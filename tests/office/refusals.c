@@ -44,6 +44,11 @@ static list lend(const int64_t *numbers, size_t length)
     return l;
 }
 
+static uint64_t *counts(const list *l)
+{
+    return (uint64_t *)l->at;
+}
+
 static int unchanged(const list *lists, size_t first, size_t count, const size_t *lengths)
 {
     for (size_t j = first; j < count; j++)
@@ -111,6 +116,146 @@ static void station(void)
     CHECK(l[4].at[0] == 0 && l[4].at[1] == 144011000 && l[4].at[2] == 0 && l[4].at[15] == 0);
     CHECK(l[5].at[0] == 1 && l[5].at[1] == 1 && l[5].at[2] == 0 && l[5].at[15] == 0);
     give_back(l, 6);
+}
+
+/* ---- rescue of sightings: one position with a lone face, one whose initial has its faces apart, one without an initial */
+static size_t kept, dropped;
+
+static molsadriu_verdict rescue(const list *l)
+{
+    return molsadriu_rescue_sightings(l[0].at, l[0].length, l[1].at, l[1].length, l[2].at, l[2].length, l[3].at, l[3].length,
+                                      l[4].at, l[4].length, l[5].at, l[5].length, l[6].at, l[6].length, l[7].at, l[7].length,
+                                      counts(&l[8]), l[8].length, counts(&l[9]), l[9].length, &kept, &dropped);
+}
+
+/* A refusal leaves the answer lists and the two numbers as they were. */
+static void rescue_refuses(const list *l, uint64_t number, uint64_t place)
+{
+    size_t lengths[10];
+    for (size_t j = 0; j < 10; j++) lengths[j] = l[j].length;
+    kept = 4711;
+    dropped = 1147;
+    CHECK(is(rescue(l), number, place));
+    CHECK(unchanged(l, 4, 10, lengths) && kept == 4711 && dropped == 1147);
+}
+
+/* The sightings dropped, by the ordinal and the reason of each, and all others kept; the places behind them stay as they were. */
+static int rescues(list *l, const uint64_t (*expected)[2], size_t count)
+{
+    const size_t length = l[0].length;
+    int right = 1;
+    for (size_t j = 4; j < 10; j++) memcpy(l[j].at, l[j].before, length * sizeof(int64_t));
+    kept = dropped = 4711;
+    if (!is(rescue(l), 0, 0)) return 0;
+    for (size_t n = 0, gone = 0; n < length; n++) {
+        if (gone < count && expected[gone][0] == n + 1) {
+            gone++;
+            continue;
+        }
+        for (size_t j = 0; j < 4; j++) right &= l[4 + j].at[n - gone] == l[j].at[n];
+    }
+    for (size_t n = 0; n < count; n++) right &= counts(&l[8])[n] == expected[n][0] && counts(&l[9])[n] == expected[n][1];
+    for (size_t j = 4; j < 8; j++)
+        for (size_t n = length - count; n < length; n++) right &= l[j].at[n] == l[j].before[n];
+    for (size_t j = 8; j < 10; j++)
+        for (size_t n = count; n < length; n++) right &= l[j].at[n] == l[j].before[n];
+    return right && kept == length - count && dropped == count;
+}
+
+/* One pair, which is kept, and the same lone face over and over, which is dropped; so many sightings in all. */
+static void lone_faces(size_t count, uint64_t number)
+{
+    list l[10];
+    for (size_t j = 0; j < 10; j++) {
+        l[j].at = malloc(count * sizeof(int64_t));
+        l[j].length = count;
+        if (l[j].at == NULL) exit(2);
+        for (size_t n = 0; n < count; n++) l[j].at[n] = j < 2 ? 16 : -7;
+    }
+    for (size_t n = 0; n < count; n++) {
+        l[2].at[n] = n == 1;
+        l[3].at[n] = n == 1 ? 648060000 : 0;
+        if (n < 2) l[1].at[n] = 1;
+    }
+    kept = dropped = 4711;
+    CHECK(is(rescue(l), number, 0));
+    int right = number == 0 ? kept == 2 && dropped == count - 2 : kept == 4711 && dropped == 4711;
+    for (size_t n = 0; n < count; n++) {
+        int gone = number == 0 && n < count - 2, stays = number == 0 && n < 2;
+        right &= counts(&l[8])[n] == (gone ? n + 3 : (uint64_t)-7) && counts(&l[9])[n] == (gone ? 1 : (uint64_t)-7);
+        for (size_t j = 4; j < 8; j++) right &= l[j].at[n] == (stays ? l[j - 4].at[n] : -7);
+    }
+    CHECK(right);
+    give_back(l, 10);
+}
+
+static void rescue_of_lists(void)
+{
+    const int64_t position[11] = {1, 2, 3, 1, 1, 1, 2, 2, 3, 1, 2}, object[11] = {1, 1, 2, 2, 3, 1, 2, 1, 2, 2, 2};
+    const int64_t face[11] = {0, 0, 0, 0, 0, 1, 1, 1, 1, 1, 0};
+    const int64_t reading[11] = {0, 0, 0, 144010000, 5, 648004000, 648000000, 648060001, 648000000, 792016000, 0};
+    const int64_t other[11] = {-7, -7, -7, -7, -7, -7, -7, -7, -7, -7, -7};
+    const uint64_t all_four[7][2] = {{2, 3}, {3, 2}, {5, 1}, {7, 4}, {8, 3}, {9, 2}, {11, 4}}, agreeing[3][2] = {{3, 2}, {5, 1}, {9, 2}};
+    const uint64_t doubled[7][2] = {{1, 1}, {3, 2}, {4, 2}, {5, 1}, {6, 1}, {9, 2}, {10, 2}};
+    const int64_t limits[2][2] = {{648060000, 648060001}, {647940000, 647939999}};
+    list l[10] = {lend(position, 11), lend(object, 11), lend(face, 11), lend(reading, 11), lend(other, 11),
+                  lend(other, 11),    lend(other, 11),  lend(other, 11), lend(other, 11),  lend(other, 11)};
+    const size_t right[10] = {11, 11, 11, 11, 11, 11, 11, 11, 11, 11};
+    kept = dropped = 4711;
+    wrong_lengths(rescue, l, 10, 4, 21);
+    CHECK(kept == 4711 && dropped == 4711);
+    CHECK(is(molsadriu_rescue_sightings(NULL, 0, NULL, 0, NULL, 0, NULL, 0, NULL, 0, NULL, 0, NULL, 0, NULL, 0, NULL, 0, NULL, 0,
+                                        &kept, &dropped), 21, 0));
+    CHECK(kept == 4711 && dropped == 4711);
+    for (size_t j = 0; j < 4; j++)
+        for (size_t n = 0; n < 11; n++)
+            for (size_t e = 0; e < 2; e++) {
+                l[j].at[n] = ends[e];
+                rescue_refuses(l, 22, n + 1);
+                /* a length before a field */
+                l[9].length = 10;
+                rescue_refuses(l, 21, 0);
+                l[9].length = 11;
+                l[j].at[n] = l[j].before[n];
+            }
+    /* all four reasons; and both sides of 60,000, by the right face of the initial in position 2 */
+    CHECK(rescues(l, all_four, 7));
+    for (size_t sign = 0; sign < 2; sign++) {
+        l[3].at[7] = limits[sign][0];
+        CHECK(rescues(l, agreeing, 3));
+        l[3].at[7] = limits[sign][1];
+        CHECK(rescues(l, all_four, 7));
+    }
+    /* what is doubled in position 1 takes the whole of it: nothing is left, or position 2 alone */
+    for (size_t j = 4; j < 10; j++) memcpy(l[j].at, other, sizeof other);
+    l[2].at[5] = 0;
+    l[3].at[7] = 648060001;
+    rescue_refuses(l, 32, 0);
+    l[2].at[4] = 2;
+    rescue_refuses(l, 22, 5);
+    l[2].at[4] = 0;
+    l[3].at[7] = 648060000;
+    CHECK(rescues(l, doubled, 7));
+    l[2].at[5] = 1;
+    l[3].at[7] = reading[7];
+    CHECK(unchanged(l, 0, 4, right));
+    give_back(l, 10);
+    /* lists that are only read may be the same: one pair, position and object alike, kept whole */
+    const int64_t ones[2] = {1, 1}, both[2] = {0, 1}, readings[2] = {0, 648000000};
+    list same[10] = {lend(ones, 2),  lend(ones, 2),  lend(both, 2),  lend(readings, 2), lend(other, 2),
+                     lend(other, 2), lend(other, 2), lend(other, 2), lend(other, 2),    lend(other, 2)};
+    int64_t *own = same[1].at;
+    same[1].at = same[0].at;
+    CHECK(rescues(same, NULL, 0));
+    same[1].at = own;
+    give_back(same, 10);
+    /* one sighting is a list, of which nothing is left; 512 are the most */
+    list one[10];
+    for (size_t j = 0; j < 10; j++) one[j] = lend(j < 2 ? ones : j < 4 ? both : other, 1);
+    rescue_refuses(one, 32, 0);
+    give_back(one, 10);
+    lone_faces(MOLSADRIU_SIGHTINGS, 0);
+    lone_faces(MOLSADRIU_SIGHTINGS + 1, 21);
 }
 
 /* ---- one condition's terms: the first condition of figure 3, and a side condition */
@@ -436,7 +581,9 @@ typedef struct {
 
 static const operation adjusting = {molsadriu_adjust_file, MOLSADRIU_LISTING, 2},
                        estimating = {molsadriu_probable_file, MOLSADRIU_PROBABLE_LISTING, 2},
-                       averaging = {molsadriu_station_book, MOLSADRIU_STATION_LISTING, 21};
+                       averaging = {molsadriu_station_book, MOLSADRIU_STATION_LISTING, 21},
+                       rescuing = {molsadriu_rescue_book, MOLSADRIU_RESCUED_BOOK, 21},
+                       dropping = {molsadriu_dropped_book, MOLSADRIU_DROPPED_LISTING, 21};
 
 /* A file in a block of exactly its length. */
 static uint8_t *copy(const char *text)
@@ -745,16 +892,68 @@ static void book(void)
     refused_file(&averaging, many, 1, MOLSADRIU_SIGHTINGS + 2);
 }
 
+/* ---- a sighting book that is rescued */
+/* A book with its kept lines, and the list of those that are dropped. */
+static void rescued_book(const char *text, const char *lines_kept, const char *list_of_dropped)
+{
+    accepted_file(&rescuing, text, lines_kept);
+    accepted_file(&dropping, text, list_of_dropped);
+}
+
+/* A book that both operations refuse alike. */
+static void lost_book(const char *text, uint64_t number, uint64_t place)
+{
+    refused_file(&rescuing, text, number, place);
+    refused_file(&dropping, text, number, place);
+}
+
+static void rescue_of_books(void)
+{
+    static const char sound[] = "S\t1\t1\t0\t0\nS\t1\t1\t1\t648004000\nS\t1\t2\t0\t144010000\nS\t1\t2\t1\t792016000\n";
+    static const char pair[] = "S\t16\t1\t1\t1295999999\nS\t16\t1\t0\t648059999\n", lone[] = "S\t16\t16\t1\t1295999999\n";
+    static char many[sizeof pair + MOLSADRIU_SIGHTINGS * (sizeof lone - 1) + 2], lines_dropped[MOLSADRIU_DROPPED_LISTING + 1];
+    size_t length;
+    rescued_book(sound, sound, "");
+    /* all four reasons, in lines of any order */
+    rescued_book("S\t1\t1\t0\t0\nS\t2\t1\t0\t0\nS\t3\t2\t0\t0\nS\t1\t2\t0\t144010000\nS\t1\t3\t0\t5\nS\t1\t1\t1\t648004000\n"
+                 "S\t2\t2\t1\t648000000\nS\t2\t1\t1\t648060001\nS\t3\t2\t1\t648000000\nS\t1\t2\t1\t792016000\nS\t2\t2\t0\t0\n",
+                 "S\t1\t1\t0\t0\nS\t1\t2\t0\t144010000\nS\t1\t1\t1\t648004000\nS\t1\t2\t1\t792016000\n",
+                 "X\t2\t3\nX\t3\t2\nX\t5\t1\nX\t7\t4\nX\t8\t3\nX\t9\t2\nX\t11\t4\n");
+    /* the room of one is not that of the other, nor that of the means */
+    uint8_t *file = copy(sound);
+    CHECK(refuses(&rescuing, file, strlen(sound), MOLSADRIU_DROPPED_LISTING, 21, 0));
+    CHECK(refuses(&dropping, file, strlen(sound), MOLSADRIU_STATION_LISTING, 21, 0));
+    free(file);
+    /* every number of the table that a rescue can have */
+    lost_book("S\t1\t1\t0\t0\nX\n", 1, 2);
+    lost_book("S\t1\t1\t0\t0\n\n", 1, 2);
+    lost_book("S\t17\t1\t0\t0\nS\t1\t1\t0\t0", 1, 2);
+    lost_book("X\t1\t1\n", 1, 1);
+    lost_book("S\t1\t1\t0\t0\nS\t1\t1\t1\t1296000000\n", 22, 2);
+    lost_book("S\t1\t1\t0\t0\n", 32, 0);
+    lost_book("S\t1\t2\t0\t0\nS\t1\t2\t1\t648000000\n", 32, 0);
+    lost_book("S\t1\t1\t0\t0\nS\t1\t1\t1\t648060001\n", 32, 0);
+    lost_book("S\t1\t1\t0\t0\nS\t1\t1\t1\t648060001\nS\t1\t2\t0\t0\nS\t1\t2\t1\t648000000\n", 32, 0);
+    /* one pair and 510 lone faces, the longest lines that there are; one more; and a line behind these that is none */
+    strcpy(many, pair);
+    length = 0;
+    for (size_t n = 3; n <= MOLSADRIU_SIGHTINGS; n++) {
+        strcat(many, lone);
+        length += (size_t)snprintf(lines_dropped + length, sizeof lines_dropped - length, "X\t%zu\t1\n", n);
+    }
+    rescued_book(many, pair, lines_dropped);
+    strcat(many, lone);
+    lost_book(many, 21, 0);
+    strcat(many, "X\n");
+    lost_book(many, 1, MOLSADRIU_SIGHTINGS + 2);
+    lost_book(many + strlen(pair), 1, MOLSADRIU_SIGHTINGS);
+}
+
 /* ---- a season's archive: the state of a stream in three lists, the bytes held beside totals and place */
 static uint8_t *held, held_before[MOLSADRIU_HELD];
 static size_t held_length;
 static const uint8_t *part;
 static size_t part_length;
-
-static uint64_t *counts(const list *l)
-{
-    return (uint64_t *)l->at;
-}
 
 static molsadriu_verdict begin(const list *l)
 {
@@ -1082,6 +1281,7 @@ static void seasons(void)
 int main(void)
 {
     station();
+    rescue_of_lists();
     terms();
     table();
     precision();
@@ -1090,6 +1290,7 @@ int main(void)
     network();
     sheets();
     book();
+    rescue_of_books();
     seasons();
     printf("%u checks, %u failed\n", checks, failures);
     return failures != 0;

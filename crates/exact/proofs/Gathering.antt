@@ -10,21 +10,23 @@
 --   gather-at                         the value at place m is that of the number there
 --   rank-in, nth-rank, rank-nth       each of them stands at one place: rank and nth lead back to each other
 --   sum-gathered                      a sum over them is the sum, over all, of those terms at which the test holds
+--   Gathered, gathered-none, gathered-taken, gathered-passed      a loop that stores them in the first places of a list: before the first number, and after
+--                                     one more, whose value is stored or not; gathered-as: the same under other names
 use mathlib.Core.Path.{_≡_, refl, sym, _∙_, ap, subst}
 use mathlib.Core.Bool.{Bool, true, false, not, cond}
 use mathlib.Core.List.{List, [], _∷_, _++_, append-nil}
 use Prim.Native.Nat.{ℕ, zero, suc, _+_, _<_, _≤_}
 use native.Mathlib.Decide.{decLt}
-use native.Mathlib.Nat.{le-refl}
+use native.Mathlib.Nat.{le-refl, zero-add}
 use native.Mathlib.Numerals.{add-one}
 use native.Mathlib.Omega.{arith}
 use lib.IntN.{ℤ, pos, _+ℤ_, +ℤ-idr}
-use lib.ListN.{length, getD, length-append, List·getD-append}
-use lib.Seq.{getD-append-seam}
+use lib.ListN.{length, getD, set, length-append, length-set, List·getD-append}
+use lib.Seq.{sets, getD-append-seam}
 use Rattle.exact.specs.Gather.{gather}
 use Rattle.exact.specs.Sum.{sum}
 use Rattle.exact.specs.Tabulate.{tabulate}
-use Rattle.exact.proofs.Filling.{tabulate-more}
+use Rattle.exact.proofs.Filling.{tabulate-more, sets-append}
 use Rattle.exact.proofs.Sum.{sum-none, sum-next, sum-ext}
 
 -- ---- one more number
@@ -221,3 +223,37 @@ module _ (t : ℕ → Bool) where
       by-test false e r =
           ap (λ (k : ℕ). sum k (λ m. v (nth t (suc n) m))) (rank-same t n e) ∙ so-far ∙ r
           ∙ sym (+ℤ-idr (sum n (λ h. cond (t h) (v h) (pos 0)))) ∙ (λ i. sum n (λ h. cond (t h) (v h) (pos 0)) +ℤ cond (sym e i) (v n) (pos 0))
+
+-- ---- a loop that stores them, one after another, in the first places of a list: after h numbers xs has become ys, with n of them
+pub record Gathered {A : Type 0} (test : ℕ → Bool) (f : ℕ → A) (h : ℕ) (xs ys : List A) (n : ℕ) : Type 0 where
+  pub stored : ys ≡ sets xs 0 (gather h test f)
+  pub count : n ≡ length (gather h test f)
+  pub few : n ≤ h
+  pub long : length ys ≡ length xs
+
+module _ {A : Type 0} (test : ℕ → Bool) (f : ℕ → A) (xs : List A) where
+  pub gathered-none : Gathered test f 0 xs xs 0
+  unfolding gather
+  gathered-none = record { stored = refl; count = refl; few = omega arith; long = refl }
+
+  module _ (h n : ℕ) (ys : List A) (g : Gathered test f h xs ys n) where
+    pub gathered-taken : test h ≡ true → (v : A) → v ≡ f h → Gathered test f (h + 1) xs (set ys n v) (n + 1)
+    gathered-taken t v e = record {
+      stored =
+          (λ i. set (g .stored i) ((g .count ∙ sym (zero-add (length (gather h test f)))) i) (e i)) ∙ sets-append (gather h test f) (f h ∷ []) xs 0 ∙ ap (sets xs 0) (sym (gather-taken h test f t));
+      count = ap (λ (k : ℕ). k + 1) (g .count) ∙ sym (length-append (gather h test f) (f h ∷ [])) ∙ ap length (sym (gather-taken h test f t));
+      few = omega (arith, g .few);
+      long = length-set ys n v ∙ g .long;
+    }
+
+    pub gathered-passed : test h ≡ false → Gathered test f (h + 1) xs ys n
+    gathered-passed t = record {
+      stored = g .stored ∙ ap (sets xs 0) (sym (gather-passed h test f t));
+      count = g .count ∙ ap length (sym (gather-passed h test f t));
+      few = omega (arith, g .few);
+      long = g .long;
+    }
+
+-- the same list and number, under other names
+pub gathered-as : {A : Type 0} {test : ℕ → Bool} {f : ℕ → A} {h n n′ : ℕ} {xs ys ys′ : List A} → ys′ ≡ ys → n′ ≡ n → Gathered test f h xs ys n → Gathered test f h xs ys′ n′
+gathered-as {A} {test} {f} {h} {n} {n′} {xs} {ys} {ys′} p q g = subst (λ (l : List A). Gathered test f h xs l n′) (sym p) (subst (Gathered test f h xs ys) (sym q) g)

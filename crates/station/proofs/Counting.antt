@@ -1,4 +1,5 @@
 -- Every sighting of an accepted list is counted in one P. Assumes nothing.
+--   sum-ones                one for each of n
 --   twice-the-pairs         twice the sum of all P is the number of sightings
 use mathlib.Core.Path.{_≡_, refl, sym, _∙_, ap}
 use mathlib.Core.Bool.{Bool, true, false, cond, _&&_}
@@ -24,7 +25,7 @@ use Rattle.station.proofs.Selecting.{chosen, where-at}
 use Rattle.station.proofs.Tallying.{InFields, in-fields}
 
 -- one for each of n
-sum-ones : (n : ℕ) → sum n one ≡ pos n
+pub sum-ones : (n : ℕ) → sum n one ≡ pos n
 sum-ones zero = sum-none one
 sum-ones (suc n) = sum-next n one ∙ ap (λ (z : ℤ). z +ℤ pos 1) (sum-ones n) ∙ ap pos (add-one n)
 

@@ -3,6 +3,7 @@ pub mod Figures
 pub mod Selecting
 pub mod Tallying
 pub mod Clearing
+pub mod Sweeping
 pub mod Sifting
 pub mod Positions
 pub mod Deciding
@@ -16,4 +17,7 @@ pub mod Directions
 pub mod Answering
 pub mod Uniqueness
 pub mod StationFigures
+pub mod Judging
+pub mod Sounding
 pub mod Rescuing
+pub mod Reordering

@@ -2,6 +2,7 @@
 --   sum-rearranged          a sum keeps its value when its terms are rearranged
 --   counts-rearranged, readings-rearranged      so do the station's two tables
 --   turned                  a rearrangement is one the other way round too
+--   sound-moved, fit-same   fields in range stay so, and so does the test of the lengths; Fields, fields-of: a list is at fault in a field, or in none
 --   order-free              of two orders of the same sightings, the replies and both lists are equal, unless the place of the refusal is an ordinal
 --   field-stays             and that refusal keeps its number
 use mathlib.Core.Path.{_≡_, refl, sym, _∙_, ap}
@@ -94,20 +95,20 @@ module _ {b b′ : Book} (q : Rearranged b b′) where
       here h l = omega (arith, q .positions-long)
 
   -- fields in range stay in range
-  sound-moved : Failed (fieldFault b) (sightings b) → Failed (fieldFault b′) (sightings b′)
+  pub sound-moved : Failed (fieldFault b) (sightings b) → Failed (fieldFault b′) (sightings b′)
   sound-moved s h l = let m : h < sightings b = omega (arith, q .positions-long) in fault-moved h m ∙ s (q .from h) (q .from-in h m)
 
   -- the test of the lengths is the same
-  fit-same : (d p : ℕ) → fit b′ d p ≡ fit b d p
+  pub fit-same : (d p : ℕ) → fit b′ d p ≡ fit b d p
   fit-same d p = λ t. lengthsFit (q .positions-long t) (q .objects-long t) (q .faces-long t) (q .readings-long t) d p
 
 -- ---- the reply
 -- a list is refused for a field, or every field is in range
-data Fields (b : Book) : Type 0 where
+pub data Fields (b : Book) : Type 0 where
   at-fault : first (sightings b) (fieldFault b) < sightings b → Fields b
   all-in : Failed (fieldFault b) (sightings b) → Fields b
 
-fields-of : (b : Book) → Fields b
+pub fields-of : (b : Book) → Fields b
 fields-of b = by-order (decLt (first (sightings b) (fieldFault b)) (sightings b))
   where
     by-order : Dec (first (sightings b) (fieldFault b) < sightings b) → Fields b

@@ -13,10 +13,12 @@ mod table;
 use reply::Refusal;
 use reply::Reply;
 ghost use mathlib.Core.Path.{_≡_};
+ghost use mathlib.Core.Bool.{true};
+ghost use lib.ListN.{length};
 ghost use Rattle.reply.specs.declared.Reply.the-variants.{Refused};
 ghost use Rattle.station.specs.Sightings.{book};
 ghost use Rattle.station.specs.Replies.{Answers};
-ghost use Rattle.station.specs.Rescue.{lent, Rescues, Judges};
+ghost use Rattle.station.specs.Rescue.{lent, rooms, Rescues, Judges};
 
 // The most sightings of a station.
 pub const MOST: usize = 512;
@@ -110,6 +112,43 @@ fn refused(why: Refusal) -> Rescued
     }
 }
 
+// The same with lists that fit, and one more to note the reasons in.
+fn part(
+    reason: &mut [u8],
+    position: &[i64],
+    object: &[i64],
+    face: &[i64],
+    reading: &[i64],
+    kept_position: &mut [i64],
+    kept_object: &mut [i64],
+    kept_face: &mut [i64],
+    kept_reading: &mut [i64],
+    ordinals: &mut [u64],
+    reasons: &mut [u64],
+) -> Rescued
+    requires { ⌜ (rooms (book (now position) (now object) (now face) (now reading))
+        (lent (now «kept_position») (now «kept_object») (now «kept_face») (now «kept_reading») (now ordinals) (now reasons)) ≡ true) × (length (now reason) ≡ length (now position)) ⌝ }
+    ensures { λ r. ⌜ Rescues (book (now (position .entry)) (now (object .entry)) (now (face .entry)) (now (reading .entry)))
+        (lent (now («kept_position» .entry)) (now («kept_object» .entry)) (now («kept_face» .entry)) (now («kept_reading» .entry)) (now (ordinals .entry)) (now (reasons .entry)))
+        r
+        (lent (now («kept_position» .exit)) (now («kept_object» .exit)) (now («kept_face» .exit)) (now («kept_reading» .exit)) (now (ordinals .exit)) (now (reasons .exit))) ⌝ }
+{
+    let reply = judge(position, object, face, reading, reason);
+    if let Reply::Refused(why) = reply {
+        return refused(why);
+    }
+    parting::keep(reason, position, kept_position);
+    parting::keep(reason, object, kept_object);
+    parting::keep(reason, face, kept_face);
+    let kept = parting::keep(reason, reading, kept_reading);
+    let dropped = parting::list_dropped(reason, ordinals, reasons);
+    Rescued {
+        reply: Reply::Accepted,
+        kept,
+        dropped,
+    }
+}
+
 // The rescue of a spoiled list: the kept sightings in their old order, into four lent lists, and for each dropped one its ordinal and its reason, into two
 // more, each of as many places as there are sightings; or why the sightings are refused, and the lists stay as they were.
 pub fn rescue(
@@ -145,18 +184,17 @@ pub fn rescue(
         return refused(Refusal::Sightings);
     }
     let mut reason = [0u8; MOST];
-    let reply = judge(position, object, face, reading, &mut reason[..n]);
-    if let Reply::Refused(why) = reply {
-        return refused(why);
-    }
-    parting::keep(&reason[..n], position, kept_position);
-    parting::keep(&reason[..n], object, kept_object);
-    parting::keep(&reason[..n], face, kept_face);
-    let kept = parting::keep(&reason[..n], reading, kept_reading);
-    let dropped = parting::list_dropped(&reason[..n], ordinals, reasons);
-    Rescued {
-        reply: Reply::Accepted,
-        kept,
-        dropped,
-    }
+    part(
+        &mut reason[..n],
+        position,
+        object,
+        face,
+        reading,
+        kept_position,
+        kept_object,
+        kept_face,
+        kept_reading,
+        ordinals,
+        reasons,
+    )
 }

@@ -57,6 +57,13 @@ pub fn keep(reason: &[u8], field: &[i64], kept: &mut [i64]) -> usize
     n
 }
 
+// A reason as the lent lists have it.
+fn wide(reason: u8) -> u64
+    ensures { λ r. ⌜ r ≡ reason ⌝ }
+{
+    reason as u64
+}
+
 // The ordinals and the reasons of the others, in the same way.
 pub fn list_dropped(reason: &[u8], ordinals: &mut [u64], reasons: &mut [u64]) -> usize
     requires { ⌜ (length (now ordinals) ≡ length (now reason)) × (length (now reasons) ≡ length (now reason)) ⌝ }
@@ -70,7 +77,7 @@ pub fn list_dropped(reason: &[u8], ordinals: &mut [u64], reasons: &mut [u64]) ->
         let why = reason[h];
         if why != 0 {
             ordinals[n] = (h + 1) as u64;
-            reasons[n] = why as u64;
+            reasons[n] = wide(why);
             n += 1;
         }
         h += 1;

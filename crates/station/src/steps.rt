@@ -5,6 +5,7 @@ use crate::checks::Check;
 use crate::checks::fault_at;
 use crate::table::slot_of;
 ghost use mathlib.Core.Path.{_≡_};
+ghost use Prim.Native.Nat.{_<_};
 ghost use lib.ListN.{length, getD, replicate};
 ghost use Rattle.exact.specs.First.{first};
 ghost use Rattle.exact.specs.Tabulate.{tabulate};
@@ -14,7 +15,7 @@ ghost use Rattle.station.specs.Bounds.{CountTable, SumTable};
 
 // Notes the step at each place that its check finds at fault.
 fn note(check: Check, step: u8, count: &[i64; 512], sums: &[i64; 512], why: &mut [u8; 256])
-    requires { ⌜ (CountTable (now count) × SumTable (now sums)) ⌝ }
+    requires { ⌜ (CountTable (now count) × SumTable (now sums) × (length (now why) ≡ 256)) ⌝ }
     ensures { λ _. ⌜ now (why .exit) ≡ noted check step (now (count .entry)) (now (sums .entry)) (now (why .entry)) ⌝ }
 {
     for k in 0..256 {
@@ -26,6 +27,7 @@ fn note(check: Check, step: u8, count: &[i64; 512], sums: &[i64; 512], why: &mut
 
 // Clears from a table what has a reason.
 fn clear(why: &[u8; 256], table: &mut [i64; 512])
+    requires { ⌜ length (now table) ≡ 512 ⌝ }
     ensures { λ _. ⌜ now (table .exit) ≡ cleared (now (why .entry)) (now (table .entry)) ⌝ }
 {
     for k in 0..512 {
@@ -43,7 +45,7 @@ fn step(
     sums: &mut [i64; 512],
     why: &mut [u8; 256],
 )
-    requires { ⌜ (CountTable (now count) × SumTable (now sums)) ⌝ }
+    requires { ⌜ (CountTable (now count) × SumTable (now sums) × (length (now count) ≡ 512) × (length (now sums) ≡ 512) × (length (now why) ≡ 256)) ⌝ }
     ensures reasons { λ _. ⌜ now (why .exit) ≡ noted check number (now (count .entry)) (now (sums .entry)) (now (why .entry)) ⌝ }
     ensures counts { λ _. ⌜ now (count .exit) ≡ cleared (now (why .exit)) (now (count .entry)) ⌝ }
     ensures sums { λ _. ⌜ now (sums .exit) ≡ cleared (now (why .exit)) (now (sums .entry)) ⌝ }
@@ -55,13 +57,21 @@ fn step(
 
 // The four steps.
 pub fn all(count: &mut [i64; 512], sums: &mut [i64; 512], why: &mut [u8; 256])
-    requires { ⌜ (CountTable (now count) × SumTable (now sums) × (now why ≡ replicate 256 0)) ⌝ }
+    requires { ⌜ (CountTable (now count) × SumTable (now sums) × (length (now count) ≡ 512) × (length (now sums) ≡ 512) × (now why ≡ replicate 256 0)) ⌝ }
     ensures { λ _. ⌜ now (why .exit) ≡ whyAfter 4 (now (count .entry)) (now (sums .entry)) ⌝ }
 {
     step(Check::PairsWhole, 1, count, sums, why);
     step(Check::InitialSeen, 2, count, sums, why);
     step(Check::FacesClose, 3, count, sums, why);
     step(Check::InitialSeen, 4, count, sums, why);
+}
+
+// The place of the position and object of the sighting at h.
+fn place_of(position: &[i64], object: &[i64], h: usize) -> usize
+    requires { ⌜ Placed (now position) (now object) × (h < length (now position)) ⌝ }
+    ensures { λ r. ⌜ (r ≡ placeIn (now (position .entry)) (now (object .entry)) h) × (r < 256) ⌝ }
+{
+    slot_of(0, position[h], object[h])
 }
 
 // The first sighting that stays, counted from 0; the length of the list where there is none.
@@ -71,7 +81,7 @@ pub fn first_kept(position: &[i64], object: &[i64], why: &[u8; 256]) -> usize
 {
     let mut h = 0;
     while h < position.len() {
-        if why[slot_of(0, position[h], object[h])] == 0 {
+        if why[place_of(position, object, h)] == 0 {
             return h;
         }
         h += 1;
@@ -86,7 +96,7 @@ pub fn write_reasons(position: &[i64], object: &[i64], why: &[u8; 256], reason: 
 {
     let mut h = 0;
     while h < position.len() {
-        reason[h] = why[slot_of(0, position[h], object[h])];
+        reason[h] = why[place_of(position, object, h)];
         h += 1;
     }
 }

@@ -1,5 +1,4 @@
 -- Bytes written one part after another. Assumes nothing.
---   sets-append                         a run of stores, and one after it, are one run
 --   wrote-length, rewrote, read-signed  the buffer keeps its length; the same bytes; a signed number is what the machine reads
 --   one-wrote                           the same bytes at the same place leave one buffer
 --   then                                what was written, and what was written after it, are written together
@@ -16,22 +15,19 @@ use mathlib.Core.Path.{_≡_, refl, sym, _∙_, ap, subst}
 use mathlib.Core.Bool.{Bool, true, false, cond}
 use mathlib.Core.List.{List, [], _∷_, _++_}
 use Prim.Native.Nat.{ℕ, zero, suc, _+_, _*_, _/_, _%_, _≤_, _<_}
-use native.Mathlib.Nat.{add-zero, add-suc, suc-add, suc-mul, mul-le-mul-right}
+use native.Mathlib.Nat.{suc-mul, mul-le-mul-right}
 use native.Mathlib.Numerals.{add-one}
 use native.Mathlib.Omega.{arith}
 use lib.Dec.{ltb}
-use lib.ListN.{length, getD, set, take, drop, length-append}
+use lib.ListN.{length, getD, take, drop, length-append}
 use lib.Seq.{sets, length-sets, sets-eq, take-suc, take-append-le, take-all}
 use lib.IntN.{ℤ, pos, negsuc}
 use mir.Syntax.{w64}
 use mir.Val.{SFits, toZ, ofZ}
 use Rattle.exact.proofs.Bound.{read}
+use Rattle.exact.proofs.Filling.{sets-append}
 use Rattle.text.specs.Decimal.{digits, digitsOf, written}
 use Rattle.text.specs.Written.{signedField, countField, inOrder, Wrote}
-
-pub sets-append : (xs ys l : List ℕ) (i : ℕ) → sets (sets l i xs) (i + length xs) ys ≡ sets l i (xs ++ ys)
-sets-append [] ys l i = rw (add-zero i)
-sets-append (x ∷ xs) ys l i = rw (add-suc i (length xs), ← suc-add i (length xs)) (sets-append xs ys (set l i x) (suc i))
 
 pub then : {a b c : List ℕ} {at p q : ℕ} {xs ys : List ℕ} → Wrote a at xs b p → Wrote b p ys c q → Wrote a at (xs ++ ys) c q
 then {a} {b} {c} {at} {p} {q} {xs} {ys} f g = record {

@@ -22,29 +22,40 @@ pub fn book_case(rng: &mut Rng) -> BookCase {
             damage_sightings(rng, &mut sightings);
         }
     }
-    let mut text = String::new();
-    for [position, object, face, reading] in sightings {
-        text += &format!("S\t{position}\t{object}\t{face}\t{reading}\n");
-    }
-    let mut file = text.into_bytes();
-    if damaged && rng.chance(35) {
-        let mut lines = read_lines(&file);
-        for _ in 0..rng.pick(&[1, 1, 1, 2, 3]) {
-            damage_lines(rng, &mut lines);
-        }
-        file = write_lines(&lines);
-    }
-    if damaged && rng.chance(14) {
-        for _ in 0..rng.pick(&[1, 1, 1, 2, 3]) {
-            damage_bytes(rng, &mut file, &[b"\n\n", b"S\t1", b"S\t1\t1\t0\t0", b"."]);
-        }
+    let mut file = write_sightings(&sightings);
+    if damaged {
+        damage_file(rng, &mut file);
     }
     BookCase { file }
 }
 
+pub(super) fn write_sightings(sightings: &[Sighting]) -> Vec<u8> {
+    let mut text = String::new();
+    for [position, object, face, reading] in sightings {
+        text += &format!("S\t{position}\t{object}\t{face}\t{reading}\n");
+    }
+    text.into_bytes()
+}
+
+/// Damages the lines or the bytes of a book, or leaves it as it is.
+pub(super) fn damage_file(rng: &mut Rng, file: &mut Vec<u8>) {
+    if rng.chance(35) {
+        let mut lines = read_lines(file);
+        for _ in 0..rng.pick(&[1, 1, 1, 2, 3]) {
+            damage_lines(rng, &mut lines);
+        }
+        *file = write_lines(&lines);
+    }
+    if rng.chance(14) {
+        for _ in 0..rng.pick(&[1, 1, 1, 2, 3]) {
+            damage_bytes(rng, file, &[b"\n\n", b"S\t1", b"S\t1\t1\t0\t0", b"."]);
+        }
+    }
+}
+
 /// Sound sightings, or a few that need not be. Most of the fullest lists are drawn again,
 /// since they take long and are much alike.
-fn draw_sightings(rng: &mut Rng) -> Vec<Sighting> {
+pub(super) fn draw_sightings(rng: &mut Rng) -> Vec<Sighting> {
     if rng.chance(10) {
         return few_sightings(rng);
     }

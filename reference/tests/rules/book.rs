@@ -16,7 +16,7 @@ fn reply(book: &str) -> String {
 }
 
 /// Sightings as the lines of a book.
-fn lines(sightings: &[[i64; 4]]) -> String {
+pub fn lines(sightings: &[[i64; 4]]) -> String {
     let line = |[position, object, face, reading]: &[i64; 4]| {
         format!("S {position} {object} {face} {reading}\n")
     };
@@ -28,12 +28,12 @@ fn reply_of(pairs: &[[i64; 4]]) -> String {
     reply(&book_of(pairs))
 }
 
-fn book_of(pairs: &[[i64; 4]]) -> String {
+pub fn book_of(pairs: &[[i64; 4]]) -> String {
     let both = |&[position, object, left, s]: &[i64; 4]| lines(&pair(position, object, left, s));
     pairs.iter().map(both).collect()
 }
 
-const FIGURE_9: &str = "\
+pub const FIGURE_9: &str = "\
 S 1 1 0 0
 S 1 1 1 648004000
 S 1 2 0 144010000
@@ -41,7 +41,7 @@ S 1 2 1 792016000
 ";
 
 /// Every object in every position on both faces: 512 lines.
-fn fullest() -> String {
+pub fn fullest() -> String {
     let objects = (1..=16).flat_map(|position| (1..=16).map(move |object| (position, object)));
     objects
         .map(|(position, object)| {
@@ -245,7 +245,7 @@ fn refusal_1_last_line_without_its_lf() {
 }
 
 /// So many bytes of well-formed lines, the last one with more digits than the others.
-fn well_formed(length: usize) -> String {
+pub fn well_formed(length: usize) -> String {
     let usual = "S 1 1 0 0\n";
     let count = length / usual.len() - 1;
     let digits = length - count * usual.len() - "S 1 1 0 \n".len();

@@ -3,7 +3,7 @@
 use super::*;
 use reference::census::{self, Replies};
 use reference::generate::Rng;
-use reference::{book, precision, reports, season, sheet};
+use reference::{book, precision, reports, rescue, season, sheet};
 
 fn assert_frequent(name: &str, replies: &Replies, numbers: &[i64], cases: usize) {
     for number in numbers {
@@ -38,6 +38,18 @@ fn every_reply_occurs_often() {
     assert_eq!(census.probable_file, census.network);
     let book = [0, 1, 2, 21, 22, 23, 24, 25, 26];
     assert_frequent("book", &census.book, &book, cases);
+    assert_frequent("rescue", &census.rescue, &[0, 21, 22, 32], cases);
+    let reasons = &census.rescue_reasons;
+    assert_frequent("reasons of a rescue", reasons, &[0, 1, 2, 3, 4], cases);
+    assert_frequent("what is kept", &census.rescued_means, &[0, 26], cases);
+    assert_eq!(census.rescue_limits.len(), 4);
+    assert!(census
+        .rescue_limits
+        .values()
+        .all(|count| 50 * count >= cases));
+    assert!(census.rescue_sizes.iter().all(|&count| count > 0));
+    let book = [0, 1, 2, 21, 22, 32];
+    assert_frequent("rescue of a book", &census.rescue_book, &book, cases);
     assert_frequent("season next", &census.season_next, &[0, 2, 3], cases);
     assert_frequent("season end", &census.season_end, &[0, 2, 3, 30], cases);
     assert_frequent("add reports", &census.add_reports, &[0, 2, 3, 30], cases);
@@ -178,6 +190,8 @@ fn no_input_panics() {
         let _ = precision::probable_error(&directions, &q, n);
         let fitting = station::AnswerLengths::fitting();
         let _ = station::station_means_i64(&kinds, &values, &d, &i, fitting);
+        let lengths = [rng.pick(&[kinds.len(), 0, usize::MAX]); rescue::ANSWERS];
+        let _ = rescue::rescue(&kinds, &values, &d, &i, lengths);
         let bytes: Vec<u8> = (0..rng.below(60))
             .map(|_| rng.range(0, 255) as u8)
             .collect();
@@ -187,6 +201,8 @@ fn no_input_panics() {
         let _ = network::margins(&bytes);
         let _ = network::blunder(&bytes);
         let _ = book::listing(&bytes);
+        let _ = book::rescued_listing(&bytes);
+        let _ = book::dropped_listing(&bytes);
         let _ = reports::report(&bytes);
         let _ = reports::add_reports(&bytes);
         let _ = sheet::listing(&bytes, &bytes);

@@ -1,5 +1,6 @@
 //! The rules as tests: the ten figures, every refusal, the readings of open points, the
-//! sighting book, the season report, the check of a sheet, and what the generator reaches.
+//! sighting book and its rescue, the season report, the check of a sheet, and what the
+//! generator reaches.
 
 mod book;
 mod census;
@@ -8,6 +9,7 @@ mod precision;
 mod readings;
 mod refusals;
 mod reports;
+mod rescue;
 mod season;
 mod sheet;
 

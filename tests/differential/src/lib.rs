@@ -7,5 +7,6 @@ pub mod lent;
 pub mod molsadriu;
 pub mod net;
 pub mod operations;
+pub mod rescue;
 pub mod season;
 pub mod sheet;

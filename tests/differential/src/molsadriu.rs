@@ -11,6 +11,13 @@ pub const PROBABLE_LISTING: usize = 6_606;
 /// The header's MOLSADRIU_STATION_LISTING: bytes that hold the listing of any sighting book.
 pub const STATION_LISTING: usize = 1_136;
 
+/// The header's MOLSADRIU_RESCUED_BOOK: bytes that hold the kept lines of any sighting book.
+pub const RESCUED_BOOK: usize = 10_752;
+
+/// The header's MOLSADRIU_DROPPED_LISTING: bytes that hold the list of the dropped sightings
+/// of any sighting book.
+pub const DROPPED_LISTING: usize = 4_096;
+
 /// The header's MOLSADRIU_REFUSED_LINE: bytes that hold any REFUSED line.
 pub const REFUSED_LINE: usize = 52;
 
@@ -129,6 +136,47 @@ extern "C" {
     ) -> Verdict;
 
     fn molsadriu_station_book(
+        file: *const u8,
+        file_length: usize,
+        out: *mut u8,
+        out_room: usize,
+        length: *mut usize,
+    ) -> Verdict;
+
+    fn molsadriu_rescue_sightings(
+        position: *const i64,
+        position_length: usize,
+        object: *const i64,
+        object_length: usize,
+        face: *const i64,
+        face_length: usize,
+        reading: *const i64,
+        reading_length: usize,
+        kept_position: *mut i64,
+        kept_position_room: usize,
+        kept_object: *mut i64,
+        kept_object_room: usize,
+        kept_face: *mut i64,
+        kept_face_room: usize,
+        kept_reading: *mut i64,
+        kept_reading_room: usize,
+        ordinals: *mut u64,
+        ordinals_room: usize,
+        reasons: *mut u64,
+        reasons_room: usize,
+        kept: *mut usize,
+        dropped: *mut usize,
+    ) -> Verdict;
+
+    fn molsadriu_rescue_book(
+        file: *const u8,
+        file_length: usize,
+        out: *mut u8,
+        out_room: usize,
+        length: *mut usize,
+    ) -> Verdict;
+
+    fn molsadriu_dropped_book(
         file: *const u8,
         file_length: usize,
         out: *mut u8,
@@ -337,6 +385,41 @@ pub fn probable_error(n: usize, [u, q, mean, probable]: &mut [Numbers; 4]) -> Ve
 
 pub type Counts = Lent<u64>;
 
+/// Lists in the header's order: position, object, face, reading, the four of the kept
+/// sightings; ordinals, reasons; then how many are kept and dropped, of just one place each.
+pub fn rescue_sightings(
+    [p, o, f, r, kept_p, kept_o, kept_f, kept_r]: &mut [Numbers; 8],
+    [ordinals, reasons, kept, dropped]: &mut [Counts; 4],
+) -> Verdict {
+    assert_eq!([kept.length(), dropped.length()], [1, 1]);
+    unsafe {
+        molsadriu_rescue_sightings(
+            p.pointer(),
+            p.length(),
+            o.pointer(),
+            o.length(),
+            f.pointer(),
+            f.length(),
+            r.pointer(),
+            r.length(),
+            kept_p.pointer(),
+            kept_p.length(),
+            kept_o.pointer(),
+            kept_o.length(),
+            kept_f.pointer(),
+            kept_f.length(),
+            kept_r.pointer(),
+            kept_r.length(),
+            ordinals.pointer(),
+            ordinals.length(),
+            reasons.pointer(),
+            reasons.length(),
+            kept.pointer().cast(),
+            dropped.pointer().cast(),
+        )
+    }
+}
+
 pub fn report(archive: &mut Lent<u8>, totals: &mut Counts) -> Verdict {
     unsafe {
         molsadriu_report(
@@ -458,6 +541,32 @@ pub fn station_book(file: &mut Lent<u8>, out: &mut Lent<u8>, length: &mut Number
     assert_eq!(length.length(), 1);
     unsafe {
         molsadriu_station_book(
+            file.pointer(),
+            file.length(),
+            out.pointer(),
+            out.length(),
+            length.pointer().cast(),
+        )
+    }
+}
+
+pub fn rescue_book(file: &mut Lent<u8>, out: &mut Lent<u8>, length: &mut Numbers) -> Verdict {
+    assert_eq!(length.length(), 1);
+    unsafe {
+        molsadriu_rescue_book(
+            file.pointer(),
+            file.length(),
+            out.pointer(),
+            out.length(),
+            length.pointer().cast(),
+        )
+    }
+}
+
+pub fn dropped_book(file: &mut Lent<u8>, out: &mut Lent<u8>, length: &mut Numbers) -> Verdict {
+    assert_eq!(length.length(), 1);
+    unsafe {
+        molsadriu_dropped_book(
             file.pointer(),
             file.length(),
             out.pointer(),

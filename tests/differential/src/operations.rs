@@ -48,11 +48,11 @@ impl<C> Drawn<C> {
         Drawn { case, null }
     }
 
-    fn holding(&self, values: &[i64]) -> Lent<i64> {
+    pub(crate) fn holding(&self, values: &[i64]) -> Lent<i64> {
         Lent::holding(values).or_null(self.null)
     }
 
-    fn blank(&self, length: usize) -> Lent<i64> {
+    pub(crate) fn blank(&self, length: usize) -> Lent<i64> {
         Lent::blank(length).or_null(self.null)
     }
 
@@ -66,7 +66,7 @@ impl<C> Drawn<C> {
 }
 
 /// A list of any length and of any numbers, in one case of thirty in place of a drawn one.
-fn wild(rng: &mut Rng, most: usize) -> Vec<i64> {
+pub(crate) fn wild(rng: &mut Rng, most: usize) -> Vec<i64> {
     let ends = [i64::MIN, i64::MAX, i64::MIN + 1, 0, 1, -1, 80, 70, 76, 82];
     let length = rng.below(most + 1);
     let number = |rng: &mut Rng| match rng.below(2) {
@@ -434,7 +434,11 @@ fn file_lists(drawn: &Drawn<FileCase>) -> [Lent<u8>; 2] {
 }
 
 /// A file of one kind, seldom one of any bytes, and room about the `least` that it asks.
-fn draw_file(rng: &mut Rng, draw: fn(&mut Rng) -> Vec<u8>, least: usize) -> Drawn<FileCase> {
+pub(crate) fn draw_file(
+    rng: &mut Rng,
+    draw: fn(&mut Rng) -> Vec<u8>,
+    least: usize,
+) -> Drawn<FileCase> {
     let mut file = draw(rng);
     if is_wild(rng) {
         file = wild_bytes(rng);
@@ -459,7 +463,7 @@ fn draw_room(rng: &mut Rng, least: usize) -> usize {
 }
 
 /// What an operation of the library leaves behind of a file.
-fn of_file(drawn: &Drawn<FileCase>, operation: OnFile) -> Outcome {
+pub(crate) fn of_file(drawn: &Drawn<FileCase>, operation: OnFile) -> Outcome {
     let [mut file, mut out] = file_lists(drawn);
     let mut length = Lent::blank(1);
     let verdict = operation(&mut file, &mut out, &mut length);
@@ -471,7 +475,10 @@ fn of_file(drawn: &Drawn<FileCase>, operation: OnFile) -> Outcome {
 
 /// The outcome by the reference: a listing in the first bytes of the buffer, and its
 /// length; refused, both as they were.
-fn expected_of_file(drawn: &Drawn<FileCase>, reply: Result<Vec<u8>, Refusal>) -> Outcome {
+pub(crate) fn expected_of_file(
+    drawn: &Drawn<FileCase>,
+    reply: Result<Vec<u8>, Refusal>,
+) -> Outcome {
     let [file, mut out] = file_lists(drawn);
     let reply = reply.map(|listing| {
         out.put(&listing);

@@ -10,6 +10,7 @@ use differential::operations::{
     AdjustFile, AdjustTable, Coefficients, Line, LineStatusAt, ListFile, Misclosure, ProbableError,
     ProbableFile, RefusedLine, StationBook, StationMeans,
 };
+use differential::rescue::{DroppedBook, RescueBook, RescueSightings};
 use differential::season::{AddReports, Begin, End, Next, Report, Season};
 use differential::sheet::CheckSheet;
 
@@ -47,6 +48,9 @@ fn reply(words: &[&str]) -> Option<bool> {
         row::<ProbableError>(),
         row::<ProbableFile>(),
         row::<StationBook>(),
+        row::<RescueSightings>(),
+        row::<RescueBook>(),
+        row::<DroppedBook>(),
         row::<Report>(),
         row::<Season>(),
         row::<Begin>(),

@@ -1,61 +1,73 @@
+-- `parting::keep` meets its contract: the first n places hold the field of the kept ones among the first h. Assumes nothing.
+use mathlib.Core.Path.{_≡_, subst}
+use mathlib.Core.Bool.{not}
+use mathlib.Core.Logic.{⊎-elim}
+use Prim.Native.Nat.{ℕ, _+_, _-_, _≤_, _%_}
+use native.Mathlib.Omega.{arith}
+use borrow.Author.Needs.{needs}
+use borrow.Author.Tests.{eq-eqb, ne-eqb}
+use lib.IntN.{ℤ, pos}
+use lib.ListN.{length, getD}
+use Rattle.exact.proofs.Bound.{read-at}
+use Rattle.exact.proofs.Gathering.{Gathered, gathered-none, gathered-taken, gathered-passed, gathered-as}
+use Rattle.station.specs.Steps.{free}
 use Rattle.station.proofs.parting.keep.Statement.{statement}
 use Rattle.station.proofs.parting.keep.Tie as tie
 use Rattle.station.proofs.parting.keep.Reads as reads
 use Rattle.station.proofs.parting.keep.Lts as lts
 
 abbrev Inv-loop : tie.InvT-loop
-Inv-loop reason field kept₀ n₀ h₀ kept n h = ?
+Inv-loop reason field kept₀ n₀ h₀ kept n h = (h ≤ length reason) × Gathered (free reason) (λ i. getD field i (pos 0)) h kept₀ kept n
 
 abbrev μ-loop : tie.MeasureT-loop
-μ-loop reason field kept₀ n₀ h₀ kept n h = ?
+μ-loop reason field kept₀ n₀ h₀ kept n h = length reason - h
 
--- src/parting.rt:50:5
 loop-holds : tie.Need-loop-holds Inv-loop μ-loop
-loop-holds c = ?
+loop-holds c = (omega arith, gathered-none _ _ (c .args .kept .now))
 
--- src/parting.rt:51:12
 shared-slice-read-if1 : tie.Need-shared-slice-read-if1 Inv-loop μ-loop
-shared-slice-read-if1 c = ?
+shared-slice-read-if1 c = search needs
 
--- src/parting.rt:52:23
 mul-kept : tie.Need-mul-kept Inv-loop μ-loop
-mul-kept c = ?
+mul-kept c = search needs
 
--- src/parting.rt:52:23
 shared-slice-copy-out-kept : tie.Need-shared-slice-copy-out-kept Inv-loop μ-loop
-shared-slice-copy-out-kept c = ?
+shared-slice-copy-out-kept c = search needs
 
--- src/parting.rt:52:13
 mul-t13 : tie.Need-mul-t13 Inv-loop μ-loop
-mul-t13 c = ?
+mul-t13 c = search needs
 
--- src/parting.rt:52:13
 slice-set-from-kept : tie.Need-slice-set-from-kept Inv-loop μ-loop
-slice-set-from-kept c = ?
+slice-set-from-kept c = search needs
 
--- src/parting.rt:53:13
 add-n : tie.Need-add-n Inv-loop μ-loop
-add-n c = ?
+add-n c = search needs
 
--- src/parting.rt:55:9
 add-h : tie.Need-add-h Inv-loop μ-loop
-add-h c = ?
+add-h c = search needs
 
--- src/parting.rt:50:5
 loop-less : tie.Need-loop-less Inv-loop μ-loop
-loop-less c = ?
+loop-less c = search needs
 
--- src/parting.rt:50:5
 loop-again : tie.Need-loop-again Inv-loop μ-loop
-loop-again c = ?
+loop-again c =
+    let l = c .before .before .before in let a = l .before .args in let g = l .loop .inv .1 in
+    let t = free (a .reason .now) in let f : ℕ → ℤ = λ i. getD (a .field .now) i (pos 0) in (
+      omega arith,
+      ⊎-elim
+          (λ w. gathered-as (w .2) (w .3) (gathered-taken t f (a .kept .now) (l .loop .h) (l .loop .n) (l .loop .kept) g (eq-eqb _ 0 (w .0 .taken)) _ (read-at (f (l .loop .h)) (w .1 .given))))
+          (λ w. gathered-as (w .1) (w .2) (gathered-passed t f (a .kept .now) (l .loop .h) (l .loop .n) (l .loop .kept) g (ne-eqb _ 0 (w .0 .left))))
+          (c .if1 .came),
+    )
 
--- src/parting.rt:43:1
 same-length : tie.Need-same-length Inv-loop μ-loop
-same-length c = ?
+same-length c = search needs
 
--- src/parting.rt:43:1
 returns : tie.Need-returns Inv-loop μ-loop
-returns c = ?
+returns c =
+    let l = c .before in let a = l .before .args in let e : l .loop .h ≡ length (a .reason .now) = omega arith in
+    let g = subst (λ (h : ℕ). Gathered (free (a .reason .now)) (λ i. getD (a .field .now) i (pos 0)) h (a .kept .now) (l .loop .kept) (l .loop .n)) e (l .loop .inv .1) in
+    (g .stored, g .count)
 
 pub keep-spec : {M : Type 1} → statement M
 keep-spec =

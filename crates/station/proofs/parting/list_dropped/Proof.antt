@@ -1,73 +1,87 @@
+-- `parting::list_dropped` meets its contract: the first n places hold the dropped ones among the first h. Assumes nothing.
+use mathlib.Core.Path.{_≡_, refl, ap, subst}
+use mathlib.Core.Bool.{Bool, not}
+use mathlib.Core.Logic.{⊎-elim}
+use Prim.Native.Nat.{ℕ, _+_, _-_, _≤_, _%_}
+use native.Mathlib.Omega.{arith}
+use borrow.Author.Needs.{needs}
+use borrow.Author.Tests.{eq-eqb, ne-eqb}
+use lib.IntN.{ℤ, pos}
+use lib.ListN.{length, getD}
+use Rattle.exact.proofs.Gathering.{Gathered, gathered-none, gathered-taken, gathered-passed, gathered-as}
+use Rattle.station.specs.Steps.{free}
 use Rattle.station.proofs.parting.list_dropped.Statement.{statement}
 use Rattle.station.proofs.parting.list_dropped.Tie as tie
 use Rattle.station.proofs.parting.list_dropped.Reads as reads
 use Rattle.station.proofs.parting.list_dropped.Lts as lts
 
 abbrev Inv-loop : tie.InvT-loop
-Inv-loop reason ordinals₀ reasons₀ n₀ h₀ ordinals reasons n h = ?
+Inv-loop reason ordinals₀ reasons₀ n₀ h₀ ordinals reasons n h = (h ≤ length reason) × Gathered (λ i. not (free reason i)) (λ i. i + 1) h ordinals₀ ordinals n × Gathered (λ i. not (free reason i)) (λ i. getD reason i 0) h reasons₀ reasons n
 
 abbrev μ-loop : tie.MeasureT-loop
-μ-loop reason ordinals₀ reasons₀ n₀ h₀ ordinals reasons n h = ?
+μ-loop reason ordinals₀ reasons₀ n₀ h₀ ordinals reasons n h = length reason - h
 
--- src/parting.rt:69:5
 loop-holds : tie.Need-loop-holds Inv-loop μ-loop
-loop-holds c = ?
+loop-holds c = (omega arith, gathered-none _ _ (c .before .before .before .args .ordinals .now), gathered-none _ _ (c .before .before .before .args .reasons .now))
 
--- src/parting.rt:70:19
 shared-slice-read-why : tie.Need-shared-slice-read-why Inv-loop μ-loop
-shared-slice-read-why c = ?
+shared-slice-read-why c = search needs
 
--- src/parting.rt:72:28
 add-ordinals : tie.Need-add-ordinals Inv-loop μ-loop
-add-ordinals c = ?
+add-ordinals c = search needs
 
--- src/parting.rt:72:13
 mul-ordinals : tie.Need-mul-ordinals Inv-loop μ-loop
-mul-ordinals c = ?
+mul-ordinals c = search needs
 
--- src/parting.rt:72:13
 slice-write-ordinals : tie.Need-slice-write-ordinals Inv-loop μ-loop
-slice-write-ordinals c = ?
+slice-write-ordinals c = search needs
 
--- src/parting.rt:73:26
-cast-reasons : tie.Need-cast-reasons Inv-loop μ-loop
-cast-reasons c = ?
+wide-requires : tie.Need-wide-requires Inv-loop μ-loop
+wide-requires c κs = search needs
 
--- src/parting.rt:73:13
 mul-reasons : tie.Need-mul-reasons Inv-loop μ-loop
-mul-reasons c = ?
+mul-reasons c = search needs
 
--- src/parting.rt:73:13
 slice-write-reasons : tie.Need-slice-write-reasons Inv-loop μ-loop
-slice-write-reasons c = ?
+slice-write-reasons c = search needs
 
--- src/parting.rt:74:13
 add-n : tie.Need-add-n Inv-loop μ-loop
-add-n c = ?
+add-n c = search needs
 
--- src/parting.rt:76:9
 add-h : tie.Need-add-h Inv-loop μ-loop
-add-h c = ?
+add-h c = search needs
 
--- src/parting.rt:69:5
 loop-less : tie.Need-loop-less Inv-loop μ-loop
-loop-less c = ?
+loop-less c = search needs
 
--- src/parting.rt:69:5
 loop-again : tie.Need-loop-again Inv-loop μ-loop
-loop-again c = ?
+loop-again c =
+    let l = c .before .before .before in let a = l .before .before .before .before .args in let g = l .loop .inv in
+    let t : ℕ → Bool = λ i. not (free (a .reason .now) i) in let f : ℕ → ℕ = λ i. getD (a .reason .now) i 0 in (
+      omega arith,
+      ⊎-elim
+          (λ w. gathered-as (w .2) (w .4) (gathered-taken t (λ i. i + 1) (a .ordinals .now) (l .loop .h) (l .loop .n) (l .loop .ordinals) (g .1) (ap not (ne-eqb _ 0 (w .0 .taken))) _ refl))
+          (λ w. gathered-as (w .1) (w .3) (gathered-passed t (λ i. i + 1) (a .ordinals .now) (l .loop .h) (l .loop .n) (l .loop .ordinals) (g .1) (ap not (eq-eqb _ 0 (w .0 .left)))))
+          (c .if1 .came),
+      ⊎-elim
+          (λ w. gathered-as (w .3) (w .4) (gathered-taken t f (a .reasons .now) (l .loop .h) (l .loop .n) (l .loop .reasons) (g .2) (ap not (ne-eqb _ 0 (w .0 .taken))) _ (w .1 .ensures)))
+          (λ w. gathered-as (w .2) (w .3) (gathered-passed t f (a .reasons .now) (l .loop .h) (l .loop .n) (l .loop .reasons) (g .2) (ap not (eq-eqb _ 0 (w .0 .left)))))
+          (c .if1 .came),
+    )
 
--- src/parting.rt:61:1
 same-length : tie.Need-same-length Inv-loop μ-loop
-same-length c = ?
+same-length c = search needs
 
--- src/parting.rt:61:1
 same-length-2 : tie.Need-same-length-2 Inv-loop μ-loop
-same-length-2 c = ?
+same-length-2 c = search needs
 
--- src/parting.rt:61:1
 returns : tie.Need-returns Inv-loop μ-loop
-returns c = ?
+returns c =
+    let l = c .before in let a = l .before .before .before .before .args in let e : l .loop .h ≡ length (a .reason .now) = omega arith in
+    let t : ℕ → Bool = λ i. not (free (a .reason .now) i) in
+    let g = subst (λ (h : ℕ). Gathered t (λ i. i + 1) h (a .ordinals .now) (l .loop .ordinals) (l .loop .n)) e (l .loop .inv .1) in
+    let k = subst (λ (h : ℕ). Gathered t (λ i. getD (a .reason .now) i 0) h (a .reasons .now) (l .loop .reasons) (l .loop .n)) e (l .loop .inv .2) in
+    (g .stored, (k .stored, g .count))
 
 pub list-dropped-spec : {M : Type 1} → statement M
 list-dropped-spec =
@@ -80,7 +94,7 @@ list-dropped-spec =
     add-ordinals
     mul-ordinals
     slice-write-ordinals
-    cast-reasons
+    wide-requires
     mul-reasons
     slice-write-reasons
     add-n

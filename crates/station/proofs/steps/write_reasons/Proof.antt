@@ -1,66 +1,65 @@
+-- `steps::write_reasons` meets its contract: below h the reasons are written. Assumes nothing.
+use mathlib.Core.Path.{_≡_, refl, sym, _∙_, ap, subst}
+use mathlib.Core.Bool.{Bool, true, false, cond}
+use mathlib.Core.List.{List}
+use Prim.Native.Nat.{ℕ, _+_, _-_, _≤_}
+use native.Mathlib.Omega.{arith}
+use borrow.Author.Needs.{needs}
+use borrow.Author.Tests.{eq-eqb, ne-eqb}
+use lib.IntN.{ℤ, pos}
+use lib.ListN.{length, getD}
+use Rattle.exact.proofs.Filling.{Filled, filled-none, filled-more, filled-all}
+use Rattle.station.specs.Rescue.{placeIn}
 use Rattle.station.proofs.steps.write_reasons.Statement.{statement}
 use Rattle.station.proofs.steps.write_reasons.Tie as tie
 use Rattle.station.proofs.steps.write_reasons.Reads as reads
 use Rattle.station.proofs.steps.write_reasons.Lts as lts
-use Rattle.station.proofs.table.slot_of.Reads as slot-of-reads
+use Rattle.station.proofs.steps.place_of.Reads as place-of-reads
+
+-- the reason of the sighting at place i
+abbrev reason-of : List ℤ → List ℤ → List ℕ → ℕ → ℕ
+reason-of position object why i = getD why (placeIn position object i) 0
 
 abbrev Inv-loop : tie.InvT-loop
-Inv-loop position object why reason₀ h₀ reason h = ?
+Inv-loop position object why reason₀ h₀ reason h = (h ≤ length position) × Filled 0 (reason-of position object why) 0 h reason₀ reason
 
 abbrev μ-loop : tie.MeasureT-loop
-μ-loop position object why reason₀ h₀ reason h = ?
+μ-loop position object why reason₀ h₀ reason h = length position - h
 
--- src/steps.rt:88:5
 loop-holds : tie.Need-loop-holds Inv-loop μ-loop
-loop-holds c = ?
+loop-holds c = (omega arith, filled-none 0 _ 0 (c .before .args .reason .now))
 
--- src/steps.rt:89:36
-mul-slot-of : tie.Need-mul-slot-of Inv-loop μ-loop
-mul-slot-of c = ?
+place-of-requires : tie.Need-place-of-requires Inv-loop μ-loop
+place-of-requires c κs = search needs
 
--- src/steps.rt:89:36
-shared-slice-copy-out-slot-of : tie.Need-shared-slice-copy-out-slot-of Inv-loop μ-loop
-shared-slice-copy-out-slot-of c = ?
-
--- src/steps.rt:89:49
-mul-slot-of-2 : tie.Need-mul-slot-of-2 Inv-loop μ-loop
-mul-slot-of-2 c = ?
-
--- src/steps.rt:89:49
-shared-slice-copy-out-slot-of-2 : tie.Need-shared-slice-copy-out-slot-of-2 Inv-loop μ-loop
-shared-slice-copy-out-slot-of-2 c = ?
-
--- src/steps.rt:89:25
-slot-of-requires : tie.Need-slot-of-requires Inv-loop μ-loop
-slot-of-requires c κs = ?
-
--- src/steps.rt:89:21
 element-copy-out-reason : tie.Need-element-copy-out-reason Inv-loop μ-loop
-element-copy-out-reason c = ?
+element-copy-out-reason c = search needs
 
--- src/steps.rt:89:9
 slice-write-reason : tie.Need-slice-write-reason Inv-loop μ-loop
-slice-write-reason c = ?
+slice-write-reason c = search needs
 
--- src/steps.rt:90:9
 add-h : tie.Need-add-h Inv-loop μ-loop
-add-h c = ?
+add-h c = search needs
 
--- src/steps.rt:88:5
 loop-less : tie.Need-loop-less Inv-loop μ-loop
-loop-less c = ?
+loop-less c = search needs
 
--- src/steps.rt:88:5
 loop-again : tie.Need-loop-again Inv-loop μ-loop
-loop-again c = ?
+loop-again c =
+    let l = c .before .before .before in let a = l .before .before .args in (
+      omega arith,
+      filled-more 0 (reason-of (a .position .now) (a .object .now) (a .why .now)) 0 (l .loop .h) (a .reason .now) (l .loop .reason) _ (omega (arith, l .before .before .pre .1)) (l .loop .inv .1)
+          (ap (λ (k : ℕ). getD (a .why .now) k 0) (c .before .place-of .ensures .0)),
+    )
 
--- src/steps.rt:83:1
 same-length : tie.Need-same-length Inv-loop μ-loop
-same-length c = ?
+same-length c = search needs
 
--- src/steps.rt:83:1
 returns : tie.Need-returns Inv-loop μ-loop
-returns c = ?
+returns c =
+    let l = c .before in let a = l .before .before .args in let e : l .loop .h ≡ length (a .position .now) = omega arith in
+    filled-all 0 (reason-of (a .position .now) (a .object .now) (a .why .now)) (length (a .position .now)) (a .reason .now) (l .loop .reason) (l .before .before .pre .1)
+    (subst (λ (h : ℕ). Filled 0 (reason-of (a .position .now) (a .object .now) (a .why .now)) 0 h (a .reason .now) (l .loop .reason)) e (l .loop .inv .1))
 
 pub write-reasons-spec : {M : Type 1} → statement M
 write-reasons-spec =
@@ -69,11 +68,7 @@ write-reasons-spec =
     Inv-loop
     μ-loop
     loop-holds
-    mul-slot-of
-    shared-slice-copy-out-slot-of
-    mul-slot-of-2
-    shared-slice-copy-out-slot-of-2
-    slot-of-requires
+    place-of-requires
     element-copy-out-reason
     slice-write-reason
     add-h
