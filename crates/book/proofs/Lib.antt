@@ -6,3 +6,4 @@ pub mod Figures
 pub mod Accepting
 pub mod Parting
 pub mod Judging
+pub mod Rescuing
