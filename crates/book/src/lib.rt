@@ -1,7 +1,10 @@
 // The sighting book of a station: its lines (`entries`), the means of its sightings by `station`, and the listing of these (`lines`). `means` answers the
-// reply and lists an accepted book; `list` above it is for programs.
+// reply and lists an accepted book; `list` above it is for programs. A spoiled book is judged (`spoiled`) and parted (`parts`): `rescue` answers the
+// reply and lists what is kept or what is dropped of it, and `list_rescued` is for programs.
 mod entries;
 mod lines;
+pub mod parts;
+mod spoiled;
 
 ghost use Prim.Native.Nat.{_≤_};
 ghost use lib.ListN.{length};
@@ -11,10 +14,13 @@ ghost use Rattle.station.specs.Sightings.{book};
 ghost use Rattle.station.specs.Replies.{replyOf};
 ghost use Rattle.book.specs.Listing.{stationListing};
 ghost use Rattle.book.specs.File.{MeansOf, listingIn};
+ghost use Rattle.book.specs.Rescue.{RescuedOf, rescueListingIn};
 use entries::Entries;
 use page::Listed;
+use parts::Part;
 use reply::Refusal;
 use reply::Reply;
+use station::MOST;
 
 // The longest listing: that of 16 objects, with the longest numbers.
 pub const LISTING: usize = 1136;
@@ -64,10 +70,10 @@ pub fn means(file: &[u8], out: &mut [u8]) -> Listed
             length: 0,
         };
     }
-    let mut position = [0i64; entries::MOST];
-    let mut object = [0i64; entries::MOST];
-    let mut face = [0i64; entries::MOST];
-    let mut reading = [0i64; entries::MOST];
+    let mut position = [0i64; MOST];
+    let mut object = [0i64; MOST];
+    let mut face = [0i64; MOST];
+    let mut reading = [0i64; MOST];
     let read = entries::read(file, &mut position, &mut object, &mut face, &mut reading);
     match read {
         Entries::Broken(line) => Listed {
@@ -75,7 +81,7 @@ pub fn means(file: &[u8], out: &mut [u8]) -> Listed
             length: 0,
         },
         Entries::Sightings(n) => {
-            if entries::MOST < n {
+            if MOST < n {
                 return Listed {
                     reply: Reply::Refused(Refusal::Sightings),
                     length: 0,
@@ -96,5 +102,45 @@ pub fn list(file: &[u8], out: &mut [u8]) -> usize
         return 0;
     }
     let listed = means(file, out);
+    page::print(listed, out)
+}
+
+// One part of a spoiled sighting book: the lines that are kept, or a line for each sighting that is dropped. They go into the lent buffer, which must have
+// room for that part of any book (`parts::room_for`); a refusal leaves it as it was.
+pub fn rescue(part: Part, file: &[u8], out: &mut [u8]) -> Listed
+    ensures { λ r. ⌜ RescuedOf part (now (file .entry)) (now (out .entry)) r (now (out .exit)) ⌝ }
+{
+    if out.len() < parts::room_for(part) {
+        return Listed {
+            reply: Reply::Refused(Refusal::Sightings),
+            length: 0,
+        };
+    }
+    let mut reason = [0u8; MOST];
+    let judged = spoiled::judge(file, &mut reason);
+    let reply = judged.reply;
+    if let Reply::Refused(why) = reply {
+        return Listed {
+            reply: Reply::Refused(why),
+            length: 0,
+        };
+    }
+    let length = parts::put(part, out, file, &reason[..judged.sightings]);
+    Listed {
+        reply: Reply::Accepted,
+        length,
+    }
+}
+
+// The same of any book, or the line of its refusal; how many bytes it has. A buffer without room for that part of any book stays as it was, and the answer
+// is 0.
+pub fn list_rescued(part: Part, file: &[u8], out: &mut [u8]) -> usize
+    ensures listing { λ r. ⌜ Wrote (now (out .entry)) 0 (rescueListingIn part (now (file .entry)) (length (now (out .entry)))) (now (out .exit)) r ⌝ }
+    ensures within { λ r. ⌜ r ≤ length (now (out .entry)) ⌝ }
+{
+    if out.len() < parts::room_for(part) {
+        return 0;
+    }
+    let listed = rescue(part, file, out);
     page::print(listed, out)
 }
