@@ -44,7 +44,7 @@ use Rattle.book.proofs.Parting.{kept-most, dropped-most, many-reasons, 
 -- ---- the reader of a spoiled book
 module _ (file : List ℕ) where
   judged-refused : {reasons : List ℕ} (why : Refusal) → length reasons ≡ 512 → spoiledReply file ≡ Refused why → JudgedAs file (record { reply = Refused why; sightings = 0 }) reasons
-  judged-refused why long e = record { answer = sym e; few = omega arith; count = λ a. never why a; reasons-are = λ a. never why a; long = long }
+  judged-refused why long e = record { answer = sym e; few = omega arith; reasons-are = λ a. never why a; long = long }
 
   pub judged-long : {reasons : List ℕ} → length reasons ≡ 512 → 65535 < length file → JudgedAs file (record { reply = Refused (Count 0); sightings = 0 }) reasons
   unfolding spoiledReply
@@ -78,7 +78,6 @@ module _ (file : List ℕ) where
           record {
             answer = j .replied ∙ ap₂ rescueReply own fits ∙ sym (by-rescue file l (e .passed));
             few = m;
-            count = λ a. e .count;
             reasons-are = λ a. take-at after (drop n reasons) n (same ∙ room) ∙ told a;
             long = omega (arith, length-append after (drop n reasons), length-drop n reasons, same, room, long, m);
           }

@@ -80,6 +80,5 @@ droppedBy reasons h = cond (free reasons h) [] (xLine (h + 1) (getD reasons h 0)
 pub record JudgedAs (file : List ℕ) (judged : Judged) (reasons : List ℕ) : Type 0 where
   pub answer : judged .reply ≡ spoiledReply file
   pub few : judged .sightings ≤ 512
-  pub count : judged .reply ≡ Accepted → judged .sightings ≡ linesIn file
   pub reasons-are : judged .reply ≡ Accepted → take (judged .sightings) reasons ≡ tabulate (linesIn file) (reason (bookOf file))
   pub long : length reasons ≡ 512
