@@ -3,3 +3,5 @@ pub mod Composing
 pub mod Filing
 pub mod Ordering
 pub mod Figures
+pub mod Accepting
+pub mod Parting

@@ -3,3 +3,4 @@ pub mod Order
 pub mod Inner
 pub mod Listing
 pub mod File
+pub mod Rescue

@@ -1,7 +1,10 @@
 // The sighting book of a station: its lines (`entries`), the means of its sightings by `station`, and the listing of these (`lines`). `means` answers the
-// reply and lists an accepted book; `list` above it is for programs.
+// reply and lists an accepted book; `list` above it is for programs. A spoiled book is judged (`spoiled`) and parted (`parts`): `rescue` answers the
+// reply and lists what is kept or what is dropped of it, and `list_rescued` is for programs.
 mod entries;
 mod lines;
+pub mod parts;
+mod spoiled;
 
 ghost use Prim.Native.Nat.{_≤_};
 ghost use lib.ListN.{length};
@@ -11,8 +14,10 @@ ghost use Rattle.station.specs.Sightings.{book};
 ghost use Rattle.station.specs.Replies.{replyOf};
 ghost use Rattle.book.specs.Listing.{stationListing};
 ghost use Rattle.book.specs.File.{MeansOf, listingIn};
+ghost use Rattle.book.specs.Rescue.{RescuedOf, rescueListingIn};
 use entries::Entries;
 use page::Listed;
+use parts::Part;
 use reply::Refusal;
 use reply::Reply;
 
@@ -96,5 +101,45 @@ pub fn list(file: &[u8], out: &mut [u8]) -> usize
         return 0;
     }
     let listed = means(file, out);
+    page::print(listed, out)
+}
+
+// One part of a spoiled sighting book: the lines that are kept, or a line for each sighting that is dropped. They go into the lent buffer, which must have
+// room for that part of any book (`parts::room_for`); a refusal leaves it as it was.
+pub fn rescue(part: Part, file: &[u8], out: &mut [u8]) -> Listed
+    ensures { λ r. ⌜ RescuedOf part (now (file .entry)) (now (out .entry)) r (now (out .exit)) ⌝ }
+{
+    if out.len() < parts::room_for(part) {
+        return Listed {
+            reply: Reply::Refused(Refusal::Sightings),
+            length: 0,
+        };
+    }
+    let mut reason = [0u8; station::MOST];
+    let judged = spoiled::judge(file, &mut reason);
+    let reply = judged.reply;
+    if let Reply::Refused(why) = reply {
+        return Listed {
+            reply: Reply::Refused(why),
+            length: 0,
+        };
+    }
+    let length = parts::put(part, out, file, &reason[..judged.sightings]);
+    Listed {
+        reply: Reply::Accepted,
+        length,
+    }
+}
+
+// The same of any book, or the line of its refusal; how many bytes it has. A buffer without room for that part of any book stays as it was, and the answer
+// is 0.
+pub fn list_rescued(part: Part, file: &[u8], out: &mut [u8]) -> usize
+    ensures listing { λ r. ⌜ Wrote (now (out .entry)) 0 (rescueListingIn part (now (file .entry)) (length (now (out .entry)))) (now (out .exit)) r ⌝ }
+    ensures within { λ r. ⌜ r ≤ length (now (out .entry)) ⌝ }
+{
+    if out.len() < parts::room_for(part) {
+        return 0;
+    }
+    let listed = rescue(part, file, out);
     page::print(listed, out)
 }

@@ -40,6 +40,7 @@ use Rattle.text.proofs.Parting.{begins-split}
 use Rattle.text.proofs.Sparing.{Free, free-both, line-free}
 use Rattle.text.proofs.Stepping.{no-line, line-split, reached-at}
 use Rattle.text.proofs.Stacking.{stacked, order-ext, order-both, lines-first, stacked-count, stacked-no, stacked-bytes}
+use Rattle.text.proofs.Rowing.{not-missing}
 use Rattle.text.proofs.Lining.{signedFields, signedRow, Sized, Row, row-line, Lettered, letter-told, row-free, letter-free, letter-read, row-read}
 use Rattle.listing.specs.Listing.{adjLine, vLine, kLine, vLineOf, kLineOf, acceptedListing}
 use Rattle.sheet.specs.Form.{adjHead, headingOf, headingAmiss, countNo, directionsIn, conditionsIn, letterDue, fieldsDue, numberDue, numbered, dueAt, rowNo, malformed, goesOn, formReply, fieldNo, ownU, ownAdjusted, ownK, ownR, ownQ}
@@ -214,12 +215,8 @@ pub record Formed (listing : List ℕ) : Type 0 where
 
 -- a line that is not malformed has its numbers
 pub row-found : (listing : List ℕ) (i : ℕ) → malformed listing i ≡ false → rowNo listing i ≡ some (rowValues (rowNo listing i) [])
-unfolding malformed rowValues
-row-found listing i e = by-row (rowNo listing i) e
-  where
-    by-row : (o : Option (List ℤ)) → missing o ≡ false → o ≡ some (rowValues o [])
-    by-row (some zs) f = refl
-    by-row none f = not-both f
+unfolding malformed
+row-found listing i e = not-missing (rowNo listing i) e
 
 module _ (listing : List ℕ) (e : formReply listing ≡ Accepted) where
   abbrev m : ℕ

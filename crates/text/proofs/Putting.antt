@@ -7,8 +7,10 @@
 --   digits-most, written-most           a number takes at most 20 digits, and a minus
 --   come, come-within, come-on          how far the writing has come
 --   count-on, signed-on                 a field takes at most 22 places
---   lines-more, lines-most              one more line; lines of at most so many bytes
---   lines-none, lines-on, lines-room    the lines so far, one more, and room for it
+--   lines-more                          one more line
+--   lines-within, lines-most            lines of at most so many bytes: those below n, and all
+--   lines-none, lines-on                the lines so far, and one more
+--   room-within, lines-room             room for one more
 use mathlib.Core.Path.{_≡_, refl, sym, _∙_, ap, subst}
 use mathlib.Core.Bool.{Bool, true, false, cond}
 use mathlib.Core.List.{List, [], _∷_, _++_}
@@ -107,10 +109,14 @@ pub lines-more : (n : ℕ) (line : ℕ → List ℕ) → inOrder (n + 1) line �
 unfolding inOrder
 lines-more n line = rw (add-one n)
 
-pub lines-most : (n most : ℕ) (line : ℕ → List ℕ) → ((i : ℕ) → length (line i) ≤ most) → length (inOrder n line) ≤ n * most
+pub lines-within : (n most : ℕ) (line : ℕ → List ℕ) → ((i : ℕ) → i < n → length (line i) ≤ most) → length (inOrder n line) ≤ n * most
 unfolding inOrder
-lines-most zero most line h = omega arith
-lines-most (suc n) most line h = omega (arith, length-append (inOrder n line) (line n), lines-most n most line h, h n, suc-mul n most)
+lines-within zero most line h = omega arith
+lines-within (suc n) most line h =
+    omega (arith, length-append (inOrder n line) (line n), lines-within n most line (λ i l. h i (omega arith)), h n (omega arith), suc-mul n most)
+
+pub lines-most : (n most : ℕ) (line : ℕ → List ℕ) → ((i : ℕ) → length (line i) ≤ most) → length (inOrder n line) ≤ n * most
+lines-most n most line h = lines-within n most line (λ i l. h i)
 
 -- the lines so far, and one more
 pub lines-none : (a : List ℕ) (at : ℕ) (line : ℕ → List ℕ) → Wrote a at (inOrder 0 line) a at
@@ -123,7 +129,13 @@ pub lines-on :
 lines-on n line f g = rw (lines-more n line) (then f g)
 
 -- room for one more line
+pub room-within :
+    {a b : List ℕ} {at p : ℕ} (n i most : ℕ) (line : ℕ → List ℕ) → ((j : ℕ) → j < n → length (line j) ≤ most) → at + n * most ≤ length a → i < n →
+    Wrote a at (inOrder i line) b p → p + most ≤ length b
+room-within n i most line small room h w =
+    omega (arith, room, w .place, wrote-length w, lines-within i most line (λ j l. small j (omega arith)), mul-le-mul-right most h, suc-mul i most)
+
 pub lines-room :
     {a b : List ℕ} {at p : ℕ} (n i most : ℕ) (line : ℕ → List ℕ) → ((j : ℕ) → length (line j) ≤ most) → at + n * most ≤ length a → i < n →
     Wrote a at (inOrder i line) b p → p + most ≤ length b
-lines-room n i most line small room h w = omega (arith, room, w .place, wrote-length w, lines-most i most line small, mul-le-mul-right most h, suc-mul i most)
+lines-room n i most line small = room-within n i most line (λ j l. small j)

@@ -1,6 +1,6 @@
 -- The written numbers read back as themselves. Assumes nothing.
 --   reads-digits      the digits of a number below 10 ^ 20 have its value
---   few-digits        a number below 10 ^ k has at most k of them
+--   few-digits        a number below 10 ^ k has at most k of them; few-written: it is written with at most k bytes, where it is not below 0
 --   leading           the first digit of a number above 0 is no 0
 --   reads-back        a written number of at most so many digits, 20 or fewer, is the number that the files' rule reads
 use mathlib.Core.Path.{_≡_, refl, sym, _∙_, ap}
@@ -63,6 +63,10 @@ few (suc f) (suc k) n h = few-step f (suc k) n (ltb n 10) refl h (λ g. few f k 
 pub few-digits : (k n : ℕ) → n < 10 ^ suc k → length (digitsOf n) ≤ suc k
 unfolding digitsOf
 few-digits k n h = few 20 k n h
+
+pub few-written : (k : ℕ) (z : ℤ) → z ≡ pos (natAbs z) → natAbs z < 10 ^ suc k → length (written z) ≤ suc k
+unfolding written
+few-written k z e h = rw e (few-digits k (natAbs z) h)
 
 -- ---- the first of them
 leads : (xs ys : List ℕ) → 49 ≤ getD xs 0 0 → 49 ≤ getD (xs ++ ys) 0 0

@@ -8,6 +8,7 @@
 --   row-more, row-last                  one number more, and the last
 --   row-some, row-none                  the answer, by the row
 --   told-some, told-none, row-told, no-row-told   the row, by the answer
+--   not-missing                         a row that is not missing has its numbers
 use mathlib.Core.Path.{_≡_, refl, sym, _∙_, ap}
 use mathlib.Core.Bool.{Bool, true, false, cond}
 use mathlib.Core.List.{List, [], _∷_, _++_}
@@ -24,7 +25,7 @@ use Rattle.text.specs.Parts.{bytesBefore, placeFrom, onFirst, parted}
 use Rattle.text.specs.Lines.{LF, lineAt}
 use Rattle.text.specs.Fields.{TAB, fieldsOf}
 use Rattle.text.specs.Numbers.{numeralWithin, upTo, numberTo}
-use Rattle.text.specs.Rows.{before, numbersWithin, rowWithin, endOf, rowEnd, rowValues}
+use Rattle.text.specs.Rows.{before, numbersWithin, rowWithin, endOf, rowEnd, rowValues, missing}
 use Rattle.text.specs.declared.number.Number.{Number}
 use Rattle.text.specs.declared.number.Number.the-variants.{Value, Malformed}
 use Rattle.text.specs.declared.row.RowEnd.{RowEnd}
@@ -281,3 +282,8 @@ module _ (most : ℕ) (file : List ℕ) (start count : ℕ) where
   pub no-row-told : rowEnd most file start count ≡ NoRow → rowWithin most file start count ≡ none
   unfolding rowEnd
   no-row-told e = told-none (rowWithin most file start count) (placeFrom LF file start + 1) e
+
+pub not-missing : (o : Option (List ℤ)) → missing o ≡ false → o ≡ some (rowValues o [])
+unfolding rowValues
+not-missing (some zs) e = refl
+not-missing none e = let z : _≡_ {A = ℕ} 0 1 = cc in absurd (omega arith)
