@@ -21,3 +21,4 @@ pub mod Judging
 pub mod Sounding
 pub mod Rescuing
 pub mod Reordering
+pub mod RescueFigures

@@ -9,8 +9,8 @@ use mathlib.Core.Bool.{Bool, true, false, not, cond, _&&_}
 use mathlib.Core.Logic.{_⊎_, inl, inr}
 use Prim.Native.Nat.{ℕ, zero, suc, _+_, _-_, _<_}
 use native.Mathlib.Omega.{arith}
-use lib.IntN.{ℤ, pos, natAbs}
-use lib.ListN.{length, getD}
+use lib.IntN.{pos, natAbs}
+use lib.ListN.{getD}
 use Rattle.exact.specs.First.{first}
 use Rattle.exact.specs.Gather.{gather}
 use Rattle.exact.specs.Sum.{sum}
@@ -23,9 +23,9 @@ use Rattle.reply.specs.declared.Reply.the-variants.{Accepted, Refused}
 use Rattle.reply.proofs.Checking.{refuse-none, refuse-first}
 use Rattle.station.specs.Sightings.{Book, sightings, positionAt, objectAt, faceAt, readingAt, fieldFault}
 use Rattle.station.specs.Rearrangement.{Rearranged}
-use Rattle.station.specs.Table.{one, slot, counts, readings}
+use Rattle.station.specs.Table.{one, slot}
 use Rattle.station.specs.Replies.{fault, lengthsReply, fieldsReply}
-use Rattle.station.specs.Rescue.{left, placeOf, stepCheck, stays, isKept, isDropped, reason, kept, ordinals, reasons, nothingLeft, rescueReply}
+use Rattle.station.specs.Rescue.{left, placeOf, stepCheck, stays, isKept, isDropped, reason, kept, ordinals, nothingLeft, rescueReply}
 use Rattle.station.specs.Parted.{DroppedAlike}
 use Rattle.station.proofs.Counting.{sum-ones}
 use Rattle.station.proofs.Rearranging.{sum-rearranged, counts-rearranged, readings-rearranged, turned, sound-moved, fit-same, Fields, at-fault, all-in, fields-of}

@@ -6,17 +6,14 @@ use Prim.Native.Nat.{ℕ}
 use borrow.Author.Needs.{needs}
 use borrow.Author.Tests.{eq-eqb, ne-eqb}
 use lib.Dec.{eqb}
-use lib.IntN.{ℤ}
 use lib.ListN.{length, getD}
 use Rattle.exact.specs.First.{first}
 use Rattle.exact.specs.Within.{Within}
 use Rattle.exact.proofs.Filling.{tabulate-length, tabulate-ext}
-use Rattle.reply.specs.Checks.{leaves}
-use Rattle.reply.specs.declared.Reply.{Reply}
 use Rattle.station.specs.Bounds.{InRange}
 use Rattle.station.specs.Sightings.{Book, book, sightings}
 use Rattle.station.specs.Table.{counts, readings}
-use Rattle.station.specs.Rescue.{placeIn, placeOf, isKept, reason, rescueReply, Judges}
+use Rattle.station.specs.Rescue.{placeOf, isKept, reason}
 use Rattle.station.specs.Steps.{free, whyAfter}
 use Rattle.station.proofs.Deciding.{LengthsFit, lengths-fit, fit, in-range}
 use Rattle.station.proofs.Tests.{refuted, upheld}

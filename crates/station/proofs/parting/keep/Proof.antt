@@ -1,8 +1,7 @@
 -- `parting::keep` meets its contract: the first n places hold the field of the kept ones among the first h. Assumes nothing.
 use mathlib.Core.Path.{_≡_, subst}
-use mathlib.Core.Bool.{not}
 use mathlib.Core.Logic.{⊎-elim}
-use Prim.Native.Nat.{ℕ, _+_, _-_, _≤_, _%_}
+use Prim.Native.Nat.{ℕ, _-_, _≤_}
 use native.Mathlib.Omega.{arith}
 use borrow.Author.Needs.{needs}
 use borrow.Author.Tests.{eq-eqb, ne-eqb}
@@ -13,8 +12,6 @@ use Rattle.exact.proofs.Gathering.{Gathered, gathered-none, gathered-taken, gat
 use Rattle.station.specs.Steps.{free}
 use Rattle.station.proofs.parting.keep.Statement.{statement}
 use Rattle.station.proofs.parting.keep.Tie as tie
-use Rattle.station.proofs.parting.keep.Reads as reads
-use Rattle.station.proofs.parting.keep.Lts as lts
 
 abbrev Inv-loop : tie.InvT-loop
 Inv-loop reason field kept₀ n₀ h₀ kept n h = (h ≤ length reason) × Gathered (free reason) (λ i. getD field i (pos 0)) h kept₀ kept n

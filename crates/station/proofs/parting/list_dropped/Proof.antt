@@ -2,18 +2,15 @@
 use mathlib.Core.Path.{_≡_, refl, ap, subst}
 use mathlib.Core.Bool.{Bool, not}
 use mathlib.Core.Logic.{⊎-elim}
-use Prim.Native.Nat.{ℕ, _+_, _-_, _≤_, _%_}
+use Prim.Native.Nat.{ℕ, _+_, _-_, _≤_}
 use native.Mathlib.Omega.{arith}
 use borrow.Author.Needs.{needs}
 use borrow.Author.Tests.{eq-eqb, ne-eqb}
-use lib.IntN.{ℤ, pos}
 use lib.ListN.{length, getD}
 use Rattle.exact.proofs.Gathering.{Gathered, gathered-none, gathered-taken, gathered-passed, gathered-as}
 use Rattle.station.specs.Steps.{free}
 use Rattle.station.proofs.parting.list_dropped.Statement.{statement}
 use Rattle.station.proofs.parting.list_dropped.Tie as tie
-use Rattle.station.proofs.parting.list_dropped.Reads as reads
-use Rattle.station.proofs.parting.list_dropped.Lts as lts
 
 abbrev Inv-loop : tie.InvT-loop
 Inv-loop reason ordinals₀ reasons₀ n₀ h₀ ordinals reasons n h = (h ≤ length reason) × Gathered (λ i. not (free reason i)) (λ i. i + 1) h ordinals₀ ordinals n × Gathered (λ i. not (free reason i)) (λ i. getD reason i 0) h reasons₀ reasons n

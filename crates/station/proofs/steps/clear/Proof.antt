@@ -1,5 +1,5 @@
 -- `steps::clear` meets its contract: below k the table is cleared, from k on it is as it was. Assumes nothing.
-use mathlib.Core.Path.{_≡_, sym, _∙_, subst}
+use mathlib.Core.Path.{_≡_, sym, subst}
 use mathlib.Core.Bool.{Bool, true, false, cond}
 use mathlib.Core.List.{List}
 use mathlib.Core.Logic.{⊎-elim}
@@ -8,13 +8,11 @@ use native.Mathlib.Omega.{arith}
 use borrow.Author.Needs.{needs}
 use borrow.Author.Tests.{eq-eqb, ne-eqb}
 use lib.IntN.{ℤ, pos}
-use lib.ListN.{length, getD}
+use lib.ListN.{getD}
 use Rattle.exact.proofs.Filling.{Filled, filled-none, filled-more, filled-same, filled-all}
 use Rattle.station.specs.Steps.{free, cleared}
 use Rattle.station.proofs.steps.clear.Statement.{statement}
 use Rattle.station.proofs.steps.clear.Tie as tie
-use Rattle.station.proofs.steps.clear.Reads as reads
-use Rattle.station.proofs.steps.clear.Lts as lts
 
 -- the number at place i afterwards
 abbrev after : List ℕ → List ℤ → ℕ → ℤ

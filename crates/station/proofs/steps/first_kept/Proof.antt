@@ -1,21 +1,18 @@
 -- `steps::first_kept` meets its contract: every sighting before h has a reason. Assumes nothing.
-use mathlib.Core.Path.{_≡_, refl, sym, _∙_, ap, subst}
-use mathlib.Core.Bool.{Bool, true, false, cond}
+use mathlib.Core.Path.{_≡_, sym, _∙_, ap, subst}
+use mathlib.Core.Bool.{Bool}
 use mathlib.Core.List.{List}
-use Prim.Native.Nat.{ℕ, _+_, _-_, _≤_}
+use Prim.Native.Nat.{ℕ, _-_, _≤_}
 use native.Mathlib.Omega.{arith}
 use borrow.Author.Needs.{needs}
 use borrow.Author.Tests.{eq-eqb, ne-eqb}
-use lib.IntN.{ℤ, pos}
+use lib.IntN.{ℤ}
 use lib.ListN.{length, getD}
 use Rattle.exact.proofs.Searching.{Failed, failed-none, failed-more, first-at, first-none}
 use Rattle.station.specs.Rescue.{placeIn}
 use Rattle.station.specs.Steps.{free}
 use Rattle.station.proofs.steps.first_kept.Statement.{statement}
 use Rattle.station.proofs.steps.first_kept.Tie as tie
-use Rattle.station.proofs.steps.first_kept.Reads as reads
-use Rattle.station.proofs.steps.first_kept.Lts as lts
-use Rattle.station.proofs.steps.place_of.Reads as place-of-reads
 
 -- the sighting at place i has no reason
 abbrev test : List ℤ → List ℤ → List ℕ → ℕ → Bool

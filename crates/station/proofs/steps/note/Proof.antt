@@ -6,17 +6,14 @@ use mathlib.Core.Logic.{⊎-elim}
 use Prim.Native.Nat.{ℕ, _+_, _-_, _≤_}
 use native.Mathlib.Omega.{arith}
 use borrow.Author.Needs.{needs}
-use lib.IntN.{ℤ, pos}
-use lib.ListN.{length, getD}
+use lib.IntN.{ℤ}
+use lib.ListN.{getD}
 use Rattle.exact.proofs.Filling.{Filled, filled-none, filled-more, filled-same, filled-all}
 use Rattle.station.specs.declared.checks.Check.{Check}
 use Rattle.station.specs.Replies.{fault}
 use Rattle.station.specs.Steps.{noted}
 use Rattle.station.proofs.steps.note.Statement.{statement}
 use Rattle.station.proofs.steps.note.Tie as tie
-use Rattle.station.proofs.steps.note.Reads as reads
-use Rattle.station.proofs.steps.note.Lts as lts
-use Rattle.station.proofs.checks.fault_at.Reads as fault-at-reads
 
 -- the reason at place i afterwards
 abbrev after : Check → ℕ → List ℤ → List ℤ → List ℕ → ℕ → ℕ

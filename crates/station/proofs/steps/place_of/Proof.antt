@@ -1,6 +1,6 @@
 -- `steps::place_of` meets its contract: position and object fit the machine's numbers. Assumes nothing.
 use mathlib.Core.Path.{_≡_, _∙_}
-use Prim.Native.Nat.{ℕ, _-_, _<_}
+use Prim.Native.Nat.{_-_}
 use native.Mathlib.Omega.{arith}
 use borrow.Author.Needs.{needs}
 use lib.IntN.{ℤ, pos, natAbs}
@@ -8,7 +8,6 @@ use lib.ListN.{getD}
 use mir.Syntax.{w64}
 use mir.Val.{SFits}
 use Rattle.exact.proofs.Bound.{fits-within, read}
-use Rattle.station.specs.Rescue.{placeIn}
 use Rattle.station.specs.Table.{slot}
 use Rattle.station.proofs.steps.place_of.Statement.{statement}
 use Rattle.station.proofs.steps.place_of.Tie as tie

@@ -1,20 +1,15 @@
 -- `steps::write_reasons` meets its contract: below h the reasons are written. Assumes nothing.
-use mathlib.Core.Path.{_≡_, refl, sym, _∙_, ap, subst}
-use mathlib.Core.Bool.{Bool, true, false, cond}
+use mathlib.Core.Path.{_≡_, ap, subst}
 use mathlib.Core.List.{List}
-use Prim.Native.Nat.{ℕ, _+_, _-_, _≤_}
+use Prim.Native.Nat.{ℕ, _-_, _≤_}
 use native.Mathlib.Omega.{arith}
 use borrow.Author.Needs.{needs}
-use borrow.Author.Tests.{eq-eqb, ne-eqb}
-use lib.IntN.{ℤ, pos}
+use lib.IntN.{ℤ}
 use lib.ListN.{length, getD}
 use Rattle.exact.proofs.Filling.{Filled, filled-none, filled-more, filled-all}
 use Rattle.station.specs.Rescue.{placeIn}
 use Rattle.station.proofs.steps.write_reasons.Statement.{statement}
 use Rattle.station.proofs.steps.write_reasons.Tie as tie
-use Rattle.station.proofs.steps.write_reasons.Reads as reads
-use Rattle.station.proofs.steps.write_reasons.Lts as lts
-use Rattle.station.proofs.steps.place_of.Reads as place-of-reads
 
 -- the reason of the sighting at place i
 abbrev reason-of : List ℤ → List ℤ → List ℕ → ℕ → ℕ
