@@ -1,7 +1,7 @@
 -- What a spoiled book that is accepted has passed. Assumes nothing.
 --   lines-sound, lines-ended      a book whose lines pass: each is a sighting, and no byte stands behind them
 --   lines-passed                  and the other way round
---   row-of, field-at              the numbers of such a line, and the same as the fields of its sighting
+--   row-of, field-at, sighted     the numbers of such a line, and the same as the fields of its sighting; as many sightings as lines
 --   spoiled-passed                the checks of a spoiled book that is accepted
 --   some-lines, few-lines         it has 1 to 512 lines,
 --   in-range, line-short          each with every field in its range, and so of at most 20 bytes
@@ -78,6 +78,11 @@ module _ (file : List ℕ) where
   unfolding fieldNo
   field-at k h l = tabulate-at (linesIn file) (fieldNo k file) h (pos 0) l
 
+  -- as many sightings as lines
+  pub sighted : sightings (bookOf file) ≡ linesIn file
+  unfolding bookOf
+  sighted = tabulate-length (linesIn file) (fieldNo 0 file)
+
   -- ---- a spoiled book
   pub spoiled-passed : spoiledReply file ≡ Accepted → (length file ≤ 65535) × (linesReply file ≡ Accepted) × (rescueReply (bookOf file) true ≡ Accepted)
   unfolding spoiledReply
@@ -87,11 +92,6 @@ module _ (file : List ℕ) where
       (ltb-false 65535 (length file) (if-accepted (ltb 65535 (length file)) (Count 0) (a .0)), b .0, b .1)
 
   module _ (e : spoiledReply file ≡ Accepted) where
-    -- as many sightings as lines
-    sighted : sightings (bookOf file) ≡ linesIn file
-    unfolding bookOf
-    sighted = tabulate-length (linesIn file) (fieldNo 0 file)
-
     lengths : LengthsFit (sightings (bookOf file)) (length (bookOf file .object)) (length (bookOf file .face)) (length (bookOf file .reading)) 16 16
     unfolding rescueReply
     lengths =

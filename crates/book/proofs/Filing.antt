@@ -1,6 +1,7 @@
 -- The promises of the operations on a sighting book. Assumes nothing.
 --   station-listed                           the listing of sightings that `station` has accepted
 --   book-passed, by-station                  what an accepted book has passed; the reply to one whose lines are sightings
+--   misfit                                   a book of too many lines
 --   book-joined                              joined-rightly of every accepted book
 --   listing-small                            no book's listing has more than 1,136 bytes
 --   too-short, too-long, broken, too-many, listed-as   `means` keeps its promise: with a buffer that is too short, of a book that is too long, has a malformed
@@ -9,6 +10,7 @@
 --   no-listing, listed-by                    `list` keeps its promise: with a buffer that is too short, and by the answer of `means`
 --   one-answer, one-listing                  two answers that keep a promise are equal, and leave equal buffers: of `means` and of `list`
 use mathlib.Core.Path.{_≡_, sym, _∙_, ap, ap₂}
+use mathlib.Core.Bool.{false}
 use mathlib.Core.List.{List}
 use Prim.Native.Nat.{ℕ, _<_, _≤_}
 use native.Mathlib.Omega.{arith}
@@ -35,7 +37,7 @@ use Rattle.station.specs.Table.{counts, readings}
 use Rattle.station.specs.Means.{directions, pairCounts}
 use Rattle.station.specs.Pairs.{JoinedRightly}
 use Rattle.station.specs.Replies.{replyOf, Answers}
-use Rattle.station.proofs.Deciding.{reply-lengths}
+use Rattle.station.proofs.Deciding.{fit, reply-lengths}
 use Rattle.station.proofs.Joining.{joined-rightly}
 use Rattle.book.specs.Lines.{fieldNo, bookOf, linesReply, bookReply}
 use Rattle.book.specs.Listing.{meansLines, stationListing}
@@ -78,11 +80,15 @@ module _ (file : List ℕ) where
     pub by-station : linesReply file ≡ Accepted → bookReply file ≡ replyOf (bookOf file) 16 16
     by-station e = by-lines ∙ rw e
 
-  over : 512 < linesIn file → replyOf (bookOf file) 16 16 ≡ Refused Sightings
+  -- over 512 lines
+  pub misfit : 512 < linesIn file → fit (bookOf file) 16 16 ≡ false
   unfolding bookOf lengthsFit
-  over m =
+  misfit m =
       let n : sightings (bookOf file) ≡ linesIn file = tabulate-length (linesIn file) (fieldNo 0 file) in
-      reply-lengths (bookOf file) 16 16 (rw (n, le-leb 1 (linesIn file) (omega (arith, m)), lt-leb (linesIn file) 512 m))
+      rw (n, le-leb 1 (linesIn file) (omega (arith, m)), lt-leb (linesIn file) 512 m)
+
+  over : 512 < linesIn file → replyOf (bookOf file) 16 16 ≡ Refused Sightings
+  over m = reply-lengths (bookOf file) 16 16 (misfit m)
 
   -- ---- `means`
   module _ (before : List ℕ) where

@@ -5,3 +5,4 @@ pub mod Ordering
 pub mod Figures
 pub mod Accepting
 pub mod Parting
+pub mod Judging

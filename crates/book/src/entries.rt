@@ -4,12 +4,10 @@ ghost use Prim.Native.Nat.{_≤_};
 ghost use lib.IntN.{pos};
 ghost use lib.ListN.{length, getD, set};
 ghost use Rattle.book.specs.Inner.{EnteredAs};
+use station::MOST;
 use text::MOST_DIGITS;
 use text::row;
 use text::row::RowEnd;
-
-// The most sightings of a station.
-pub const MOST: usize = 512;
 
 // How many sightings a book has, or the line that is malformed.
 pub enum Entries {

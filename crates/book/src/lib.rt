@@ -20,6 +20,7 @@ use page::Listed;
 use parts::Part;
 use reply::Refusal;
 use reply::Reply;
+use station::MOST;
 
 // The longest listing: that of 16 objects, with the longest numbers.
 pub const LISTING: usize = 1136;
@@ -69,10 +70,10 @@ pub fn means(file: &[u8], out: &mut [u8]) -> Listed
             length: 0,
         };
     }
-    let mut position = [0i64; entries::MOST];
-    let mut object = [0i64; entries::MOST];
-    let mut face = [0i64; entries::MOST];
-    let mut reading = [0i64; entries::MOST];
+    let mut position = [0i64; MOST];
+    let mut object = [0i64; MOST];
+    let mut face = [0i64; MOST];
+    let mut reading = [0i64; MOST];
     let read = entries::read(file, &mut position, &mut object, &mut face, &mut reading);
     match read {
         Entries::Broken(line) => Listed {
@@ -80,7 +81,7 @@ pub fn means(file: &[u8], out: &mut [u8]) -> Listed
             length: 0,
         },
         Entries::Sightings(n) => {
-            if entries::MOST < n {
+            if MOST < n {
                 return Listed {
                     reply: Reply::Refused(Refusal::Sightings),
                     length: 0,
@@ -115,7 +116,7 @@ pub fn rescue(part: Part, file: &[u8], out: &mut [u8]) -> Listed
             length: 0,
         };
     }
-    let mut reason = [0u8; station::MOST];
+    let mut reason = [0u8; MOST];
     let judged = spoiled::judge(file, &mut reason);
     let reply = judged.reply;
     if let Reply::Refused(why) = reply {
