@@ -2,55 +2,41 @@
 --   lines-sound, lines-ended      a book whose lines pass: each is a sighting, and no byte stands behind them
 --   lines-passed                  and the other way round
 --   row-of, field-at, sighted     the numbers of such a line, and the same as the fields of its sighting; as many sightings as lines
---   spoiled-passed                the checks of a spoiled book that is accepted
---   some-lines, few-lines         it has 1 to 512 lines,
---   in-range, line-short          each with every field in its range, and so of at most 20 bytes
-use mathlib.Core.Path.{_≡_, ap}
-use mathlib.Core.Bool.{true, false, not}
+--   sightingText, line-text       such a line is the text of its sighting
+--   spoiled-passed, by-rescue     the checks of a spoiled book that is accepted; the reply to one whose lines are sightings
+--   few-lines, line-short         it has at most 512 lines, each of at most 20 bytes
+use mathlib.Core.Path.{_≡_, _∙_, ap}
+use mathlib.Core.Bool.{true, false}
 use mathlib.Core.List.{List, [], _∷_}
-use Prim.Native.Nat.{ℕ, suc, _+_, _<_, _≤_, _^_}
+use Prim.Native.Nat.{ℕ, _+_, _<_, _≤_}
 use native.Mathlib.Omega.{arith}
-use borrow.Author.Tests.{ltb-false, not-false}
+use borrow.Author.Tests.{le-ltb, ltb-false}
 use lib.Dec.{ltb}
-use lib.IntN.{ℤ, pos, natAbs}
+use lib.IntN.{ℤ, pos}
 use lib.ListN.{length, getD, length-append}
 use Rattle.exact.proofs.Filling.{tabulate-length, tabulate-at}
 use Rattle.exact.proofs.Searching.{Failed}
-use Rattle.reply.specs.declared.Refusal.the-variants.{Malformed, Count, Sightings, Field, NothingLeft}
+use Rattle.reply.specs.declared.Refusal.the-variants.{Malformed, Count}
 use Rattle.reply.specs.declared.Reply.the-variants.{Accepted}
 use Rattle.reply.specs.Checks.{refuseIf, refuseFirst, _andThen_}
 use Rattle.reply.proofs.Checking.{both-accepted, if-accepted, none-refused, refuse-none}
 use Rattle.text.specs.Decimal.{written}
 use Rattle.text.specs.Lines.{linesIn, lineNo, unended}
 use Rattle.text.specs.Rows.{rowValues}
-use Rattle.text.proofs.Lining.{signedFields, letter-told}
+use Rattle.text.proofs.Lining.{signedFields, four-of, letter-told}
 use Rattle.text.proofs.ReadingBack.{few-written}
 use Rattle.text.proofs.Rowing.{not-missing}
-use Rattle.station.specs.Sightings.{sightings, fieldFault}
-use Rattle.station.specs.Replies.{lengthsReply, fieldsReply}
-use Rattle.station.specs.Rescue.{nothingLeft, rescueReply}
-use Rattle.station.proofs.Deciding.{LengthsFit, lengths-fit, fit}
+use Rattle.station.specs.Bounds.{InRange}
+use Rattle.station.specs.Sightings.{Book, sightings, positionAt, objectAt, faceAt, readingAt}
+use Rattle.station.specs.Rescue.{rescueReply}
+use Rattle.station.proofs.Sounding.{rescue-in}
 use Rattle.station.proofs.Tallying.{in-fields}
 use Rattle.book.specs.Lines.{letter-S, sightingOf, fieldNo, column, malformed, bookOf, linesReply}
 use Rattle.book.specs.Rescue.{spoiledReply}
 
--- ---- the bytes of four numbers
-four-short : (zs : List ℤ) → length zs ≡ 4 → length (written (getD zs 0 (pos 0))) ≤ 2 → length (written (getD zs 1 (pos 0))) ≤ 2 → length (written (getD zs 2 (pos 0))) ≤ 1
-    → length (written (getD zs 3 (pos 0))) ≤ 10 → length (signedFields zs) ≤ 19
-unfolding signedFields
-four-short (p ∷ o ∷ f ∷ r ∷ []) e a b c d =
-    omega (
-      arith,
-      length-append (written p) (signedFields (o ∷ f ∷ r ∷ [])),
-      length-append (written o) (signedFields (f ∷ r ∷ [])),
-      length-append (written f) (signedFields (r ∷ [])),
-      length-append (written r) (signedFields []),
-    )
-four-short [] e a b c d = absurd (omega (arith, e))
-four-short (p ∷ []) e a b c d = absurd (omega (arith, e))
-four-short (p ∷ o ∷ []) e a b c d = absurd (omega (arith, e))
-four-short (p ∷ o ∷ f ∷ []) e a b c d = absurd (omega (arith, e))
-four-short (p ∷ o ∷ f ∷ r ∷ x ∷ zs) e a b c d = absurd (omega (arith, e))
+-- the text of the sighting at place h of a list
+abbrev pub sightingText : Book → ℕ → List ℕ
+sightingText b h = letter-S ∷ signedFields (positionAt b h ∷ objectAt b h ∷ faceAt b h ∷ readingAt b h ∷ [])
 
 module _ (file : List ℕ) where
   -- ---- lines
@@ -83,6 +69,14 @@ module _ (file : List ℕ) where
   unfolding bookOf
   sighted = tabulate-length (linesIn file) (fieldNo 0 file)
 
+  -- a line that is read as a sighting is that sighting's text
+  pub line-text : linesReply file ≡ Accepted → (h : ℕ) → h < linesIn file → lineNo file h ≡ sightingText (bookOf file) h
+  unfolding bookOf malformed sightingOf
+  line-text e h l =
+      let zs = row-of h in let line = lineNo file h in
+      let told = letter-told 11 letter-S 4 (omega arith) (omega arith) zs line (not-missing (sightingOf line) (lines-sound e h l)) in
+      told .text ∙ ap (λ (ys : List ℤ). letter-S ∷ signedFields ys) (four-of zs (told .many)) ∙ rw (field-at 0 h l, field-at 1 h l, field-at 2 h l, field-at 3 h l)
+
   -- ---- a spoiled book
   pub spoiled-passed : spoiledReply file ≡ Accepted → (length file ≤ 65535) × (linesReply file ≡ Accepted) × (rescueReply (bookOf file) true ≡ Accepted)
   unfolding spoiledReply
@@ -91,35 +85,32 @@ module _ (file : List ℕ) where
       let b = both-accepted (linesReply file) (rescueReply (bookOf file) true) (a .1) in
       (ltb-false 65535 (length file) (if-accepted (ltb 65535 (length file)) (Count 0) (a .0)), b .0, b .1)
 
-  module _ (e : spoiledReply file ≡ Accepted) where
-    lengths : LengthsFit (sightings (bookOf file)) (length (bookOf file .object)) (length (bookOf file .face)) (length (bookOf file .reading)) 16 16
-    unfolding rescueReply
-    lengths =
-        let b = bookOf file in
-        let fits = both-accepted (lengthsReply b 16 16) (fieldsReply b andThen refuseIf (nothingLeft b) NothingLeft) (spoiled-passed e .2) .0 in
-        lengths-fit (sightings b) (length (b .object)) (length (b .face)) (length (b .reading)) 16 16 (not-false (fit b 16 16) (if-accepted (not (fit b 16 16)) Sightings fits))
+  pub by-rescue : length file ≤ 65535 → linesReply file ≡ Accepted → spoiledReply file ≡ rescueReply (bookOf file) true
+  unfolding spoiledReply
+  by-rescue l e = rw (le-ltb 65535 (length file) l, e)
 
-    pub some-lines : 1 ≤ linesIn file
-    some-lines = omega (arith, lengths .some, sighted)
+  module _ (e : spoiledReply file ≡ Accepted) where
+    ranges : InRange (bookOf file)
+    ranges = rescue-in (bookOf file) true (spoiled-passed e .2) .0
 
     pub few-lines : linesIn file ≤ 512
-    few-lines = omega (arith, lengths .few, sighted)
+    few-lines = omega (arith, ranges .few, sighted)
 
-    pub in-range : (h : ℕ) → h < linesIn file → fieldFault (bookOf file) h ≡ false
-    unfolding rescueReply
-    in-range h l =
-        let b = bookOf file in
-        let rest = both-accepted (lengthsReply b 16 16) (fieldsReply b andThen refuseIf (nothingLeft b) NothingLeft) (spoiled-passed e .2) .1 in
-        none-refused (sightings b) (fieldFault b) (λ k. Field (k + 1)) (both-accepted (fieldsReply b) (refuseIf (nothingLeft b) NothingLeft) rest .0) h (omega (arith, l, sighted))
-
+    -- S, and with a tab each a position and an object of two bytes, a face of one and a reading of ten
     pub line-short : (h : ℕ) → h < linesIn file → length (lineNo file h) ≤ 20
-    unfolding bookOf malformed sightingOf
+    unfolding signedFields
     line-short h l =
-        let zs = row-of h in let line = lineNo file h in let fields = in-fields (bookOf file) h (in-range h l) in
-        let told = letter-told 11 letter-S 4 (omega arith) (omega arith) zs line (not-missing (sightingOf line) (lines-sound (spoiled-passed e .1) h l)) in
-        let short = four-short zs (told .many) (few 1 0 h l (fields .positions .0) (omega (arith, fields .positions .1 .1))) (few 1 1 h l (fields .objects .0) (omega (arith, fields .objects .1 .1)))
-        (few 0 2 h l (fields .faces .0) (omega (arith, fields .faces .1 .1))) (few 9 3 h l (fields .readings .0) (omega (arith, fields .readings .1 .1))) in
-        omega (arith, ap length (told .text), short)
-      where
-        few : (most k h : ℕ) → h < linesIn file → let z = getD (column k file) h (pos 0) in z ≡ pos (natAbs z) → natAbs z < 10 ^ suc most → length (written (getD (row-of h) k (pos 0))) ≤ suc most
-        few most k h l p s = rw (← field-at k h l) (few-written most (getD (column k file) h (pos 0)) p s)
+        let b = bookOf file in let p = positionAt b h in let o = objectAt b h in let f = faceAt b h in let r = readingAt b h in
+        let fields = in-fields b h (ranges .sound h (omega (arith, l, sighted))) in
+        omega (
+          arith,
+          ap length (line-text (spoiled-passed e .1) h l),
+          length-append (written p) (signedFields (o ∷ f ∷ r ∷ [])),
+          length-append (written o) (signedFields (f ∷ r ∷ [])),
+          length-append (written f) (signedFields (r ∷ [])),
+          length-append (written r) (signedFields []),
+          few-written 1 p (fields .positions .0) (omega (arith, fields .positions .1 .1)),
+          few-written 1 o (fields .objects .0) (omega (arith, fields .objects .1 .1)),
+          few-written 0 f (fields .faces .0) (omega (arith, fields .faces .1 .1)),
+          few-written 9 r (fields .readings .0) (omega (arith, fields .readings .1 .1)),
+        )

@@ -37,7 +37,7 @@ use Rattle.book.specs.declared.parts.Part.the-variants.{Kept, Dropped}
 use Rattle.book.specs.Lines.{bookOf, linesReply}
 use Rattle.book.specs.Inner.{Entered}
 use Rattle.book.specs.Rescue.{spoiledReply, partOf, roomFor, partReply, RescuedOf, rescueListingIn, keptBy, droppedBy, JudgedAs}
-use Rattle.book.proofs.Accepting.{sighted, few-lines, line-short}
+use Rattle.book.proofs.Accepting.{sighted, by-rescue, few-lines, line-short}
 use Rattle.book.proofs.Filing.{misfit}
 use Rattle.book.proofs.Parting.{kept-most, dropped-most, many-reasons, reasons-small, kept-by, dropped-by}
 
@@ -55,14 +55,10 @@ module _ (file : List ℕ) where
     unfolding spoiledReply
     judged-broken line long e = judged-refused (Malformed line) long (rw (le-ltb 65535 (length file) l, e))
 
-    by-rescue : linesReply file ≡ Accepted → spoiledReply file ≡ rescueReply (bookOf file) true
-    unfolding spoiledReply
-    by-rescue e = rw (le-ltb 65535 (length file) l, e)
-
     module _ {n : ℕ} {position object face reading : List ℤ} (e : Entered file n position object face reading) where
       pub judged-many : {reasons : List ℕ} → length reasons ≡ 512 → 512 < n → JudgedAs file (record { reply = Refused Sightings; sightings = 0 }) reasons
       unfolding rescueReply
-      judged-many long m = judged-refused Sightings long (by-rescue (e .passed) ∙ rw (misfit file (omega (arith, m, e .count))))
+      judged-many long m = judged-refused Sightings long (by-rescue file l (e .passed) ∙ rw (misfit file (omega (arith, m, e .count))))
 
       -- the reasons stand in the first n of 512 places
       pub judged-as : {reply : Reply} {after : List ℕ} (reasons : List ℕ) → length reasons ≡ 512 → n ≤ 512 → length after ≡ length (take n reasons)
@@ -80,7 +76,7 @@ module _ (file : List ℕ) where
           ∙ ap (λ (x : Book). tabulate (sightings x) (reason x)) own
           ∙ ap (λ (k : ℕ). tabulate k (reason (bookOf file))) (sighted file) in
           record {
-            answer = j .replied ∙ ap₂ rescueReply own fits ∙ sym (by-rescue (e .passed));
+            answer = j .replied ∙ ap₂ rescueReply own fits ∙ sym (by-rescue file l (e .passed));
             few = m;
             count = λ a. e .count;
             reasons-are = λ a. take-at after (drop n reasons) n (same ∙ room) ∙ told a;

@@ -1,8 +1,10 @@
 pub mod Entering
 pub mod Composing
 pub mod Filing
+pub mod Accepting
 pub mod Ordering
 pub mod Figures
-pub mod Accepting
 pub mod Parting
 pub mod Judging
+pub mod Rescuing
+pub mod Reordering

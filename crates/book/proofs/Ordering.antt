@@ -14,12 +14,11 @@ use lib.IntN.{ℤ, pos, natAbs, _+ℤ_}
 use lib.ListN.{length, getD, replicate}
 use Rattle.exact.specs.Sum.{sum}
 use Rattle.exact.proofs.Sum.{sum-none, sum-first, sum-ext}
-use Rattle.exact.proofs.Filling.{tabulate-length, tabulate-at}
+use Rattle.exact.proofs.Filling.{tabulate-length}
 use Rattle.exact.proofs.Searching.{Failed}
-use Rattle.reply.specs.declared.Refusal.the-variants.{Malformed, Field}
+use Rattle.reply.specs.declared.Refusal.the-variants.{Field}
 use Rattle.reply.specs.declared.Reply.the-variants.{Accepted}
-use Rattle.reply.specs.Checks.{refuseIf, refuseFirst}
-use Rattle.reply.proofs.Checking.{never, both-accepted, none-refused, refuse-none}
+use Rattle.reply.proofs.Checking.{never}
 use Rattle.text.specs.Lines.{linesOf, linesIn, lineNo, bytesOf, unended}
 use Rattle.text.specs.Rows.{rowValues, missing}
 use Rattle.text.proofs.Splitting.{bytes-most}
@@ -33,6 +32,7 @@ use Rattle.book.specs.Lines.{sightingOf, fieldNo, column, malformed, boo
 use Rattle.book.specs.Listing.{meansLines, stationListing}
 use Rattle.book.specs.File.{bookListing, listingOf}
 use Rattle.book.specs.Order.{Reordered}
+use Rattle.book.proofs.Accepting.{lines-sound, lines-passed, field-at}
 use Rattle.book.proofs.Filing.{book-passed, by-station}
 
 -- ---- how many bytes lines have
@@ -62,24 +62,18 @@ module _ {file file′ : List ℕ} (o : Reordered file file′) where
       ∙ sum-rearranged n (o .from) (o .to) (o .from-in) (o .to-in) (o .back) (o .forth) (size (linesOf file))
       ∙ sym (bytes-sum (linesOf file)))
 
-  same-length : length file ≤ 65535 → length file′ ≤ 65535
+  pub same-length : length file ≤ 65535 → length file′ ≤ 65535
   unfolding unended
   same-length l = omega (arith, l, same-bytes, bytes-most file, ltb-false (bytesOf (linesOf file′)) (length file′) (o .ended))
 
   -- ---- what they say
-  lines-same : linesReply file ≡ Accepted → linesReply file′ ≡ Accepted
-  unfolding linesReply
-  lines-same e =
-      let sound = none-refused n (malformed file) (λ h. Malformed (h + 1)) (both-accepted (refuseFirst n (malformed file) (λ h. Malformed (h + 1))) (refuseIf (unended file) (Malformed (n + 1))) e .0) in
-      rw (refuse-none (linesIn file′) (malformed file′) (λ h. Malformed (h + 1)) (moved sound), o .ended)
+  pub lines-same : linesReply file ≡ Accepted → linesReply file′ ≡ Accepted
+  lines-same e = lines-passed file′ (moved (lines-sound file e)) (o .ended)
     where
       moved : Failed (malformed file) n → Failed (malformed file′) (linesIn file′)
       moved sound h l = let m : h < n = omega (arith, l, o .long) in line-same h m ∙ sound (o .from h) (o .from-in h m)
 
   -- ---- their sightings
-  at : (k : ℕ) (book : List ℕ) (h : ℕ) → h < linesIn book → getD (column k book) h (pos 0) ≡ fieldNo k book h
-  at k book h l = tabulate-at (linesIn book) (fieldNo k book) h (pos 0) l
-
   sized : (k : ℕ) (book : List ℕ) → length (column k book) ≡ linesIn book
   sized k book = tabulate-length (linesIn book) (fieldNo k book)
 
@@ -87,10 +81,9 @@ module _ {file file′ : List ℕ} (o : Reordered file file′) where
   long-same k = sized k file′ ∙ o .long ∙ sym (sized k file)
 
   field-same : (k h : ℕ) → h < length (column 0 file) → getD (column k file′) h (pos 0) ≡ getD (column k file) (o .from h) (pos 0)
-  unfolding fieldNo
   field-same k h l =
       let m : h < n = omega (arith, l, sized 0 file) in
-      at k file′ h (omega (arith, m, o .long)) ∙ ap (λ (line : List ℕ). getD (rowValues (sightingOf line) []) k (pos 0)) (o .line-is h m) ∙ sym (at k file (o .from h) (o .from-in h m))
+      field-at file′ k h (omega (arith, m, o .long)) ∙ ap (λ (line : List ℕ). getD (rowValues (sightingOf line) []) k (pos 0)) (o .line-is h m) ∙ sym (field-at file k (o .from h) (o .from-in h m))
 
   pub sightings-same : Rearranged (bookOf file) (bookOf file′)
   unfolding bookOf

@@ -2,13 +2,14 @@
 use mathlib.Core.Path.{_≡_}
 use mathlib.Core.Bool.{true, cond}
 use mathlib.Core.List.{List, [], _∷_, _++_}
+use mathlib.Core.Logic.{_⊎_}
 use Prim.Native.Nat.{ℕ, _+_, _≤_}
 use lib.Dec.{ltb}
 use lib.ListN.{length, getD, take}
 use Rattle.exact.specs.Tabulate.{tabulate}
-use Rattle.reply.specs.declared.Refusal.the-variants.{Count, Sightings}
+use Rattle.reply.specs.declared.Refusal.the-variants.{Count, Sightings, Spread}
 use Rattle.reply.specs.declared.Reply.{Reply}
-use Rattle.reply.specs.declared.Reply.the-variants.{Accepted}
+use Rattle.reply.specs.declared.Reply.the-variants.{Accepted, Refused}
 use Rattle.reply.specs.Checks.{refuseIf, _andThen_}
 use Rattle.reply.specs.Verdicts.{verdictOf}
 use Rattle.text.specs.Lines.{linesIn, lineNo}
@@ -21,7 +22,7 @@ use Rattle.station.specs.Steps.{free}
 use Rattle.book.specs.declared.spoiled.Judged.{Judged}
 use Rattle.book.specs.declared.parts.Part.{Part}
 use Rattle.book.specs.declared.parts.Part.the-variants.{Kept, Dropped}
-use Rattle.book.specs.Lines.{bookOf, linesReply}
+use Rattle.book.specs.Lines.{bookOf, linesReply, bookReply}
 
 -- length, then 1 by line, then 21, 22 and 32 of the sightings: the same for both parts
 unfoldable pub spoiledReply : List ℕ → Reply
@@ -63,6 +64,10 @@ rescueListing part file = printed (spoiledReply file) (partOf part file)
 
 unfoldable pub rescueListingIn : Part → (file : List ℕ) (room : ℕ) → List ℕ
 rescueListingIn part file room = printedIn (roomFor part) room (spoiledReply file) (partOf part file)
+
+-- ---- a book "sound under 23 to 25": `means` accepts it, or refuses it with 26 alone
+abbrev pub SoundBook : List ℕ → Type 0
+SoundBook file = (bookReply file ≡ Accepted) ⊎ ((p : ℕ) × (o : ℕ) × (bookReply file ≡ Refused (Spread p o)))
 
 -- ---- what inner functions hand each other: the lines of a book whose reasons are known, by number
 abbrev pub keptBy : (file reasons : List ℕ) (h : ℕ) → List ℕ

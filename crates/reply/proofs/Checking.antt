@@ -4,7 +4,9 @@
 --   none-refused                  where it accepts, no thing is at fault
 --   never                         a refusal is no acceptance
 --   both-accepted, if-accepted    where two checks accept one after the other, each does; where one check accepts, its fault is not there
---   refused-by, refused-as        a refusal by one check and then another is one of theirs; that of a check over n things is of the first at fault
+--   if-refused                    where one check refuses, it is with its own refusal
+--   refused-by, refused-after     a refusal by one check and then another is one of theirs: the second's, once the first has accepted
+--   refused-as                    that of a check over n things is of the first at fault
 --   turn-none, turn-all, turn-more, turn-stops, turn-each      several checks of each of n things, by the loop that makes them
 use mathlib.Core.Path.{_≡_, refl, sym, subst}
 use mathlib.Core.Bool.{Bool, true, false}
@@ -32,9 +34,17 @@ pub if-accepted : (fault : Bool) (why : Refusal) → refuseIf fault why ≡ Acce
 if-accepted true why e = never why e
 if-accepted false why e = refl
 
+pub if-refused : (fault : Bool) (why other : Refusal) → refuseIf fault why ≡ Refused other → why ≡ other
+if-refused true why other e = cc
+if-refused false why other e = never other (sym e)
+
 pub refused-by : (r s : Reply) {why : Refusal} → (r andThen s) ≡ Refused why → (r ≡ Refused why) ⊎ (s ≡ Refused why)
 refused-by Accepted s e = inr e
 refused-by (Refused why) s e = inl e
+
+pub refused-after : (r s : Reply) {why : Refusal} → (r andThen s) ≡ Refused why → (r ≡ Refused why) ⊎ ((r ≡ Accepted) × (s ≡ Refused why))
+refused-after Accepted s e = inr (refl, e)
+refused-after (Refused why) s e = inl e
 
 -- ---- one check of n things
 module _ (n : ℕ) (fault : ℕ → Bool) (why : ℕ → Refusal) where
@@ -55,11 +65,7 @@ module _ (n : ℕ) (fault : ℕ → Bool) (why : ℕ → Refusal) where
   none-refused e = all-failed n fault (if-accepted (some-below n fault) (why (first n fault)) e)
 
   pub refused-as : (other : Refusal) → refuseFirst n fault why ≡ Refused other → why (first n fault) ≡ other
-  refused-as other e = by-fault (some-below n fault) e
-    where
-      by-fault : (b : Bool) → refuseIf b (why (first n fault)) ≡ Refused other → why (first n fault) ≡ other
-      by-fault true f = cc
-      by-fault false f = never other (sym f)
+  refused-as other e = if-refused (some-below n fault) (why (first n fault)) other e
 
 -- ---- several checks of each of n things
 module _ (check : ℕ → Reply) where

@@ -41,7 +41,7 @@ use Rattle.text.proofs.Sparing.{Free, free-both, line-free}
 use Rattle.text.proofs.Stepping.{no-line, line-split, reached-at}
 use Rattle.text.proofs.Stacking.{stacked, order-ext, order-both, lines-first, stacked-count, stacked-no, stacked-bytes}
 use Rattle.text.proofs.Rowing.{not-missing}
-use Rattle.text.proofs.Lining.{signedFields, signedRow, Sized, Row, row-line, Lettered, letter-told, row-free, letter-free, letter-read, row-read}
+use Rattle.text.proofs.Lining.{signedFields, signedRow, two-of, three-of, four-of, Sized, Row, row-line, Lettered, letter-told, row-free, letter-free, letter-read, row-read}
 use Rattle.listing.specs.Listing.{adjLine, vLine, kLine, vLineOf, kLineOf, acceptedListing}
 use Rattle.sheet.specs.Form.{adjHead, headingOf, headingAmiss, countNo, directionsIn, conditionsIn, letterDue, fieldsDue, numberDue, numbered, dueAt, rowNo, malformed, goesOn, formReply, fieldNo, ownU, ownAdjusted, ownK, ownR, ownQ}
 use Rattle.sheet.proofs.Forming.{heading-told, heading-within, letter-some, none-due, numbered-some, in-range}
@@ -110,20 +110,6 @@ module _ (m n : ℕ) (u adjusted k r q : ℕ → ℤ) where
         (order-ext n (λ j. line (1 + (m + j))) (kLineOf ks rs qs) (λ j l. rw (← k-is j l, ← r-is j l, ← q-is j l) (ap line (omega arith) ∙ k-line j)))
 
 -- ---- a line that is read as its numbers
-two-of : (zs : List ℤ) → length zs ≡ 2 → zs ≡ getD zs 0 (pos 0) ∷ getD zs 1 (pos 0) ∷ []
-two-of (a ∷ b ∷ []) e = refl
-two-of [] e = absurd (omega (arith, e))
-two-of (a ∷ []) e = absurd (omega (arith, e))
-two-of (a ∷ b ∷ c ∷ zs) e = absurd (omega (arith, e))
-
-three-of : (zs : List ℤ) → length zs ≡ 3 → zs ≡ getD zs 0 (pos 0) ∷ getD zs 1 (pos 0) ∷ getD zs 2 (pos 0) ∷ []
-three-of (a ∷ zs) e = ap (λ (rest : List ℤ). a ∷ rest) (two-of zs (omega (arith, e)))
-three-of [] e = absurd (omega (arith, e))
-
-four-of : (zs : List ℤ) → length zs ≡ 4 → zs ≡ getD zs 0 (pos 0) ∷ getD zs 1 (pos 0) ∷ getD zs 2 (pos 0) ∷ getD zs 3 (pos 0) ∷ []
-four-of (a ∷ zs) e = ap (λ (rest : List ℤ). a ∷ rest) (three-of zs (omega (arith, e)))
-four-of [] e = absurd (omega (arith, e))
-
 numbered-as : (number : ℕ) (o : Option (List ℤ)) (zs : List ℤ) → numbered number o ≡ some zs → getD zs 0 (pos 0) ≡ pos number
 unfolding numbered
 numbered-as number none zs e = let z : _≡_ {A = ℕ} 0 1 = cc in absurd (omega arith)

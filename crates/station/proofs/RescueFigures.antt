@@ -28,6 +28,13 @@ use Rattle.station.specs.Means.{centred, seen, facesFault, initialFault,
 use Rattle.station.specs.Replies.{fault, lengthsReply, fieldsReply}
 use Rattle.station.specs.Rescue.{left, placeOf, stepCheck, spoilt, stays, isKept, isDropped, reason, kept, ordinals, reasons, nothingLeft, rescueReply}
 
+-- tests that agree leave the same
+left-same : (b : Book) (test test′ : ℕ → Bool) → ((h : ℕ) → h < sightings b → test h ≡ test′ h) → left b test ≡ left b test′
+left-same b test test′ e = λ t. book (field (positionAt b) t) (field (objectAt b) t) (field (faceAt b) t) (field (readingAt b) t)
+  where
+    field : (v : ℕ → ℤ) → gather (sightings b) test v ≡ gather (sightings b) test′ v
+    field v = gather-ext (sightings b) test test′ v v e (λ h l. refl)
+
 -- ---- who is left after each step, in a list for each, so that no step is computed twice
 module _ (b : Book) (courses : List (List Bool)) where
   abbrev who : ℕ → ℕ → Bool
@@ -37,16 +44,10 @@ module _ (b : Book) (courses : List (List Bool)) where
   whoNext k = tabulate (sightings b) (λ h. who k h && not (spoilt (stepCheck k) (left b (who k)) (placeOf b h)))
 
   module _ (start : tabulate (sightings b) (λ h. true) ≡ getD courses 0 []) (on : tabulate 4 whoNext ≡ drop 1 courses) where
-    left-same : (test test′ : ℕ → Bool) → ((h : ℕ) → h < sightings b → test h ≡ test′ h) → left b test ≡ left b test′
-    left-same test test′ e = λ t. book (field (positionAt b) t) (field (objectAt b) t) (field (faceAt b) t) (field (readingAt b) t)
-      where
-        field : (v : ℕ → ℤ) → gather (sightings b) test v ≡ gather (sightings b) test′ v
-        field v = gather-ext (sightings b) test test′ v v e (λ h l. refl)
-
     next : (k : ℕ) → k < 4 → ((h : ℕ) → h < sightings b → stays k b h ≡ who k h) → (h : ℕ) → h < sightings b → stays (suc k) b h ≡ who (suc k) h
     unfolding stays
     next k lk e h l =
-        (λ t. e h l t && not (spoilt (stepCheck k) (left-same (stays k b) (who k) e t) (placeOf b h)))
+        (λ t. e h l t && not (spoilt (stepCheck k) (left-same b (stays k b) (who k) e t) (placeOf b h)))
         ∙ sym (tabulate-at (sightings b) (λ h. who k h && not (spoilt (stepCheck k) (left b (who k)) (placeOf b h))) h false l)
         ∙ ap (λ (l : List Bool). getD l h false) (sym (tabulate-at 4 whoNext k [] lk) ∙ ap (λ (l : List (List Bool)). getD l k []) on ∙ getD-drop 1 courses k [] ∙ ap (λ (i : ℕ). getD courses i []) (omega arith))
 
@@ -66,7 +67,7 @@ module _ (b : Book) (courses : List (List Bool)) where
     by-course =
         let f = follows 4 (omega arith) in (
           (λ t. lengthsReply b 16 16 andThen (fieldsReply b andThen refuseIf (not (ltb (first-ext (sightings b) (isKept b) (who 4) f t) (sightings b))) NothingLeft)),
-          left-same (isKept b) (who 4) f,
+          left-same b (isKept b) (who 4) f,
           gather-ext (sightings b) (isDropped b) (λ h. not (who 4 h)) (λ h. h + 1) (λ h. h + 1) (λ h l. ap not (f h l)) (λ h l. refl),
           gather-ext (sightings b) (isDropped b) (λ h. not (who 4 h)) (reason b) (λ h. cond (who 4 h) 0 (first 4 (λ k. not (who (suc k) h)) + 1)) (λ h l. ap not (f h l)) reason-by,
         )

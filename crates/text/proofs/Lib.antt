@@ -7,6 +7,7 @@ pub mod Rowing
 pub mod Lettering
 pub mod Stepping
 pub mod Stacking
+pub mod Sifting
 pub mod Cutting
 pub mod Writing
 pub mod ReadingBack

@@ -1,5 +1,6 @@
 -- Lines of numbers: what is read as numbers is their text, and their text is read as them. Assumes nothing.
 --   signedFields, signedRow                   the text of numbers
+--   two-of, three-of, four-of                 numbers of which there are two, three or four
 --   Sized                                     numbers of at most so many digits each
 --   Row, numbers-told                         a line that is read as numbers: it is their text, and no longer than so many digits ask for
 --   Lettered, letter-told                     the same of numbers behind a letter
@@ -19,8 +20,8 @@ use native.Mathlib.Nat.{suc-mul}
 use native.Mathlib.Omega.{arith}
 use borrow.Author.Tests.{eq-eqb, ne-eqb, eqb-true, ltb-true, ltb-false}
 use lib.Dec.{eqb, ltb}
-use lib.IntN.{ℤ, natAbs}
-use lib.ListN.{length, take, drop, length-append}
+use lib.IntN.{ℤ, pos, natAbs}
+use lib.ListN.{length, getD, take, drop, length-append}
 use Rattle.text.specs.Parts.{bytesBefore, placeFrom, onFirst, parted}
 use Rattle.text.specs.Lines.{LF, lineAt}
 use Rattle.text.specs.Fields.{TAB, fieldsOf, fieldAt, letterOf}
@@ -44,6 +45,21 @@ signedFields (z ∷ zs) = signedField z ++ signedFields zs
 
 abbrev pub signedRow : List ℤ → List ℕ
 signedRow zs = drop 1 (signedFields zs)
+
+-- numbers of which there are so many
+pub two-of : (zs : List ℤ) → length zs ≡ 2 → zs ≡ getD zs 0 (pos 0) ∷ getD zs 1 (pos 0) ∷ []
+two-of (a ∷ b ∷ []) e = refl
+two-of [] e = absurd (omega (arith, e))
+two-of (a ∷ []) e = absurd (omega (arith, e))
+two-of (a ∷ b ∷ c ∷ zs) e = absurd (omega (arith, e))
+
+pub three-of : (zs : List ℤ) → length zs ≡ 3 → zs ≡ getD zs 0 (pos 0) ∷ getD zs 1 (pos 0) ∷ getD zs 2 (pos 0) ∷ []
+three-of (a ∷ zs) e = ap (λ (rest : List ℤ). a ∷ rest) (two-of zs (omega (arith, e)))
+three-of [] e = absurd (omega (arith, e))
+
+pub four-of : (zs : List ℤ) → length zs ≡ 4 → zs ≡ getD zs 0 (pos 0) ∷ getD zs 1 (pos 0) ∷ getD zs 2 (pos 0) ∷ getD zs 3 (pos 0) ∷ []
+four-of (a ∷ zs) e = ap (λ (rest : List ℤ). a ∷ rest) (three-of zs (omega (arith, e)))
+four-of [] e = absurd (omega (arith, e))
 
 unfoldable pub Sized : (most : ℕ) → List ℤ → Type 0
 Sized most [] = Unit {0}
