@@ -73,9 +73,9 @@ module _ (v : Verdict) (r : Reply) (told : v ≡ verdictOf r) where
   sum-told first second lent left a =
       record { verdict = told ∙ ap verdictOf (a .answer); list = subst (λ (r : Reply). Adds first second lent r left) (a .answer) a }
 
-number-told : (r : Reply) {answered right : ℕ} (before : ℕ) → answered ≡ leaves r right 0 → leaves r answered before ≡ leaves r right before
-number-told Accepted before e = e
-number-told (Refused why) before e = refl
+number-told : (r : Reply) {answered : ℕ} (right before : ℕ) → answered ≡ leaves r right 0 → leaves r answered before ≡ leaves r right before
+number-told Accepted right before e = e
+number-told (Refused why) right before e = refl
 
 module _ {v : Verdict} {listed : Listed} {before after : List ℕ} {n m : ℕ} (told : v ≡ verdictOf (listed .reply)) (left : m ≡ leaves (listed .reply) (listed .length) n) where
   listed-told : {rule : Reply} {listing : List ℕ} → ListedBy rule listing before listed after → ToldBy rule listing before n v after m
@@ -83,7 +83,7 @@ module _ {v : Verdict} {listed : Listed} {before after : List ℕ} {n m : ℕ} (
       let e = a .answer in record {
         verdict = told ∙ ap verdictOf e;
         buffer = a .buffer ∙ ap (λ (r : Reply). leaves r (sets before 0 listing) before) e;
-        number = left ∙ number-told (listed .reply) n (a .length-is) ∙ ap (λ (r : Reply). leaves r (length listing) n) e;
+        number = left ∙ number-told (listed .reply) (length listing) n (a .length-is) ∙ ap (λ (r : Reply). leaves r (length listing) n) e;
       }
 
   pub book-told : (file : List ℕ) → MeansOf file before listed after → SightingBook file before n v after m
@@ -104,8 +104,8 @@ rescue-told {b} {before} {rescued = rescued} {k = k} {d = d} told numbers a =
     let e = a .replied in record {
       verdict = told ∙ ap verdictOf e;
       listsAre = a .listsAre ∙ ap (λ (r : Reply). leaves r (filled b before) before) e;
-      keptAre = numbers .0 ∙ number-told (rescued .reply) k (a .keptAre) ∙ ap (λ (r : Reply). leaves r (sightings (kept b)) k) e;
-      droppedAre = numbers .1 ∙ number-told (rescued .reply) d (a .droppedAre) ∙ ap (λ (r : Reply). leaves r (length (ordinals b)) d) e;
+      keptAre = numbers .0 ∙ number-told (rescued .reply) (sightings (kept b)) k (a .keptAre) ∙ ap (λ (r : Reply). leaves r (sightings (kept b)) k) e;
+      droppedAre = numbers .1 ∙ number-told (rescued .reply) (length (ordinals b)) d (a .droppedAre) ∙ ap (λ (r : Reply). leaves r (length (ordinals b)) d) e;
     }
 
 pub sheet-told : {net listing : List ℕ} {o answer : Opinion} {before after : ℕ} {v : Verdict} → o ≡ answer → v ≡ verdictOf (opinionReply answer)

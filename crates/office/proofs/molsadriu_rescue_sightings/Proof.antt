@@ -29,7 +29,9 @@ same-length-6 : tie.Need-same-length-6
 same-length-6 c = search needs
 
 returns : tie.Need-returns
-returns c = rescue-told (c .tell-rescued .ensures .0) (c .tell-rescued .ensures .1) (c .before .before .before .before .before .before .before .before .rescue .ensures)
+returns c =
+    let r = c .before .before .before .before .before .before .before .before .before .before .before in
+    rescue-told (c .tell-rescued .ensures .0) (c .tell-rescued .ensures .1) (r .rescue .ensures)
 
 pub molsadriu-rescue-sightings-spec : {M : Type 1} → statement M
 molsadriu-rescue-sightings-spec =

@@ -21,7 +21,7 @@ tell-requires : tie.Need-tell-requires
 tell-requires c κs = search needs
 
 returns-2 : tie.Need-returns-2
-returns-2 c = search needs
+returns-2 c = let e = c .before .enum-told .given .1 in (c .tell .ensures ∙ ap verdictOf (sym e), (rw e refl, rw e refl))
 
 pub tell-rescued-spec : {M : Type 1} → statement M
 tell-rescued-spec = tie.close (tie.spec enum-known-reply refuse-requires returns enum-told tell-requires returns-2)
