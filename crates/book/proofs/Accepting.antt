@@ -2,12 +2,12 @@
 --   lines-sound, lines-ended      a book whose lines pass: each is a sighting, and no byte stands behind them
 --   lines-passed                  and the other way round
 --   row-of, field-at, sighted     the numbers of such a line, and the same as the fields of its sighting; as many sightings as lines
---   sightingText, line-text       such a line is the text of its sighting
+--   sightingText, line-text, book-text    such a line is the text of its sighting, and the book that of its sightings
 --   spoiled-passed, by-rescue     the checks of a spoiled book that is accepted; the reply to one whose lines are sightings
 --   few-lines, line-short         it has at most 512 lines, each of at most 20 bytes
-use mathlib.Core.Path.{_≡_, _∙_, ap}
+use mathlib.Core.Path.{_≡_, sym, _∙_, ap}
 use mathlib.Core.Bool.{true, false}
-use mathlib.Core.List.{List, [], _∷_}
+use mathlib.Core.List.{List, [], _∷_, _++_}
 use Prim.Native.Nat.{ℕ, _+_, _<_, _≤_}
 use native.Mathlib.Omega.{arith}
 use borrow.Author.Tests.{le-ltb, ltb-false}
@@ -23,9 +23,12 @@ use Rattle.reply.proofs.Checking.{both-accepted, if-accepted, none-refused, ref
 use Rattle.text.specs.Decimal.{written}
 use Rattle.text.specs.Lines.{linesIn, lineNo, unended}
 use Rattle.text.specs.Rows.{rowValues}
+use Rattle.text.specs.Written.{lineEnd}
 use Rattle.text.proofs.Lining.{signedFields, four-of, letter-told}
 use Rattle.text.proofs.ReadingBack.{few-written}
 use Rattle.text.proofs.Rowing.{not-missing}
+use Rattle.text.proofs.Sifting.{all-lines}
+use Rattle.text.proofs.Stacking.{stacked, order-ext}
 use Rattle.station.specs.Bounds.{InRange}
 use Rattle.station.specs.Sightings.{Book, sightings, positionAt, objectAt, faceAt, readingAt}
 use Rattle.station.specs.Rescue.{rescueReply}
@@ -76,6 +79,12 @@ module _ (file : List ℕ) where
       let zs = row-of h in let line = lineNo file h in
       let told = letter-told 11 letter-S 4 (omega arith) (omega arith) zs line (not-missing (sightingOf line) (lines-sound e h l)) in
       told .text ∙ ap (λ (ys : List ℤ). letter-S ∷ signedFields ys) (four-of zs (told .many)) ∙ rw (field-at 0 h l, field-at 1 h l, field-at 2 h l, field-at 3 h l)
+
+  pub book-text : linesReply file ≡ Accepted → file ≡ stacked (sightings (bookOf file)) (sightingText (bookOf file))
+  book-text e =
+      sym (all-lines file (lines-ended e))
+      ∙ order-ext (linesIn file) (λ h. lineNo file h ++ lineEnd) (λ h. sightingText (bookOf file) h ++ lineEnd) (λ h l. ap (λ (s : List ℕ). s ++ lineEnd) (line-text e h l))
+      ∙ ap (λ (n : ℕ). stacked n (sightingText (bookOf file))) (sym sighted)
 
   -- ---- a spoiled book
   pub spoiled-passed : spoiledReply file ≡ Accepted → (length file ≤ 65535) × (linesReply file ≡ Accepted) × (rescueReply (bookOf file) true ≡ Accepted)

@@ -8,3 +8,4 @@ pub mod Parting
 pub mod Judging
 pub mod Rescuing
 pub mod Reordering
+pub mod RescueFigures

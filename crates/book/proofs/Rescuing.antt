@@ -2,12 +2,13 @@
 --   sifted-book, sifted-lines     those lines of a book at which a test holds: their sightings, and that they pass
 --   kept-short, kept-lines, kept-book, kept-reply     the kept part of an accepted book: it is no longer, its lines pass, its sightings are the kept ones,
 --                                 and `means` answers as `station` answers to these
+--   kept-text, dropped-text       the two parts of a book, by the lists that `station` answers
 --   kept-means                    so it is never refused with 1, 2 or 21 to 25
 --   whole                         a book of which no sighting is dropped is kept whole
 --   kept-again                    the rescue of what is kept drops nothing
 --   sound-kept                    a book that is sound under 23 to 25 is kept whole
 use mathlib.Core.Path.{_≡_, refl, sym, _∙_, ap}
-use mathlib.Core.Bool.{Bool, true, false, not}
+use mathlib.Core.Bool.{Bool, true, false, not, cond}
 use mathlib.Core.List.{List, []}
 use mathlib.Core.Logic.{_⊎_, inl, inr}
 use Prim.Native.Nat.{ℕ, _+_, _<_, _≤_}
@@ -26,17 +27,18 @@ use Rattle.reply.specs.Checks.{refuseIf, refuseFirst, _andThen_}
 use Rattle.reply.proofs.Checking.{if-accepted, if-refused, refused-by, refused-after, refused-as}
 use Rattle.text.specs.Lines.{linesIn, unended}
 use Rattle.text.specs.Rows.{rowValues, missing}
-use Rattle.text.proofs.Sifting.{order-none, sifted, sifted-count, sifted-no, sifted-ended, sifted-long, sifted-all}
-use Rattle.text.proofs.Stacking.{order-ext}
+use Rattle.text.specs.Written.{inOrder}
+use Rattle.text.proofs.Sifting.{order-some, order-none, sifted, sifted-count, sifted-no, sifted-ended, sifted-long, sifted-all}
+use Rattle.text.proofs.Stacking.{stacked, order-ext}
 use Rattle.station.specs.Sightings.{Book, sightings}
 use Rattle.station.specs.Replies.{replyOf}
-use Rattle.station.specs.Rescue.{left, isKept, isDropped, kept, ordinals, rescueReply}
+use Rattle.station.specs.Rescue.{left, isKept, isDropped, reason, kept, ordinals, reasons, rescueReply}
 use Rattle.station.specs.Parted.{Sound}
-use Rattle.station.proofs.Rescuing.{dropped-long, kept-sound, again, sound-whole}
+use Rattle.station.proofs.Rescuing.{dropped-long, in-dropped, kept-sound, again, sound-whole}
 use Rattle.book.specs.declared.parts.Part.the-variants.{Kept, Dropped}
 use Rattle.book.specs.Lines.{sightingOf, fieldNo, column, malformed, bookOf, linesReply, bookReply}
-use Rattle.book.specs.Rescue.{spoiledReply, keptLine, droppedLine, partOf, SoundBook}
-use Rattle.book.proofs.Accepting.{lines-sound, lines-ended, lines-passed, sighted, spoiled-passed, by-rescue}
+use Rattle.book.specs.Rescue.{spoiledReply, keptLine, xLine, droppedLine, partOf, SoundBook}
+use Rattle.book.proofs.Accepting.{lines-sound, lines-ended, lines-passed, sighted, sightingText, book-text, spoiled-passed, by-rescue}
 use Rattle.book.proofs.Filing.{book-passed, by-station}
 
 -- ---- those lines of a book at which a test holds
@@ -87,6 +89,30 @@ module _ (file : List ℕ) where
 
   pub kept-lines : linesReply file ≡ Accepted → linesReply (partOf Kept file) ≡ Accepted
   kept-lines e = rw is-sifted (sifted-lines file (isKept (bookOf file)) e)
+
+  -- each part by the lists that `station` answers
+  pub kept-text : linesReply file ≡ Accepted → partOf Kept file ≡ stacked (sightings (kept (bookOf file))) (sightingText (kept (bookOf file)))
+  kept-text e = book-text (partOf Kept file) (kept-lines e) ∙ ap (λ (b : Book). stacked (sightings b) (sightingText b)) kept-book
+
+  pub dropped-text : let b = bookOf file in partOf Dropped file ≡ inOrder (length (ordinals b)) (λ m. xLine (getD (ordinals b) m 0) (getD (reasons b) m 0))
+  unfolding partOf droppedLine
+  dropped-text =
+      order-ext (linesIn file) (droppedLine file) (λ h. cond (isDropped b h) (lineOf h) []) (λ h l. by-test h (isKept b h))
+      ∙ order-some (isDropped b) lineOf (linesIn file)
+      ∙ ap (λ (n : ℕ). inOrder (rank (isDropped b) n) (λ m. lineOf (nth (isDropped b) n m))) (sym (sighted file))
+      ∙ ap (λ (n : ℕ). inOrder n (λ m. lineOf (nth (isDropped b) (sightings b) m))) (sym (dropped-long b))
+      ∙ order-ext (length (ordinals b)) (λ m. lineOf (nth (isDropped b) (sightings b) m)) (λ m. xLine (getD (ordinals b) m 0) (getD (reasons b) m 0))
+      (λ m l. let k = in-dropped b m l in rw (gather-at (isDropped b) (λ h. h + 1) 0 (sightings b) m k, gather-at (isDropped b) (reason b) 0 (sightings b) m k))
+    where
+      b : Book
+      b = bookOf file
+
+      lineOf : ℕ → List ℕ
+      lineOf h = xLine (h + 1) (reason b h)
+
+      by-test : (h : ℕ) (x : Bool) → cond x [] (lineOf h) ≡ cond (not x) (lineOf h) []
+      by-test h true = refl
+      by-test h false = refl
 
   -- ---- where nothing is dropped
   none-dropped : ordinals (bookOf file) ≡ [] → (h : ℕ) → h < linesIn file → isKept (bookOf file) h ≡ true
