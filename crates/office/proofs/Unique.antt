@@ -1,7 +1,7 @@
 -- The promises leave nothing open: two answers, with what was lent afterwards, that keep one promise are equal. Assumes nothing.
 --   one-means, one-coefficients, one-misclosure, one-table, one-errors, one-book, one-file, one-length, one-status      of the function of that name
 --                                                (one-file: of both functions on a network file, by their sheets)
---   one-rescue, one-book-part                    of the rescue of a spoiled list, and of both functions on a spoiled book, by its parts
+--   one-rescue-sightings, one-book-part          of the rescue of a spoiled list, and of both functions on a spoiled book, by its parts
 --   one-told                                     of any file that has been listed
 --   one-season-report, one-season-begin, one-season-next, one-season-end, one-add-reports      of the functions on a season's archive
 --   one-check-sheet                              of the check of another office's sheet
@@ -35,8 +35,8 @@ use Rattle.office.specs.Statuses.{statusNumber}
 pub one-means : (b : Book) (d p : List ℤ) (v v′ : Verdict) (D D′ P P′ : List ℤ) → Means b d p v D P → Means b d p v′ D′ P′ → (v ≡ v′) × ((D ≡ D′) × (P ≡ P′))
 one-means b d p v v′ D D′ P P′ x y = (only (x .verdict) (y .verdict), same-answers b d p _ _ D D′ P P′ (x .lists) (y .lists) .1)
 
-pub one-rescue : (b : Book) (before after after′ : Places) (k d : ℕ) (v v′ : Verdict) (m m′ n n′ : ℕ) → SightingsRescued b before k d v after m n → SightingsRescued b before k d v′ after′ m′ n′ → (v ≡ v′) × ((after ≡ after′) × ((m ≡ m′) × (n ≡ n′)))
-one-rescue b before after after′ k d v v′ m m′ n n′ x y =
+pub one-rescue-sightings : (b : Book) (before after after′ : Places) (k d : ℕ) (v v′ : Verdict) (m m′ n n′ : ℕ) → SightingsRescued b before k d v after m n → SightingsRescued b before k d v′ after′ m′ n′ → (v ≡ v′) × ((after ≡ after′) × ((m ≡ m′) × (n ≡ n′)))
+one-rescue-sightings b before after after′ k d v v′ m m′ n n′ x y =
     (only (x .verdict) (y .verdict), (only (x .listsAre) (y .listsAre), (only (x .keptAre) (y .keptAre), only (x .droppedAre) (y .droppedAre))))
 
 pub one-table : (ds qs cs ws : List ℤ) (lent left left′ : Lists) (v v′ : Verdict) → Table ds qs cs ws lent v left → Table ds qs cs ws lent v′ left′ → (v ≡ v′) × (left ≡ left′)
