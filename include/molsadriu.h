@@ -9,14 +9,15 @@
  *
  * WHO OWNS WHAT. Everything stays the caller's. Nothing is kept after the call, nothing is allocated, and there is no state between
  * calls, so that calls from several threads at once are sound as long as nothing lent for an answer is shared. What comes in through
- * a pointer to const is only read. A list lent for an answer is written whole where the input is accepted, a buffer in its first bytes, and
- * the lists of a season report in parts as far as its state changes; where the verdict refuses, all that was lent stays as it was. One
- * refusal alone comes with an answer: 30, from molsadriu_report and molsadriu_season_end. docs/COSTS.md says how much stack a call takes.
+ * a pointer to const is only read. A list lent for an answer is written whole where the input is accepted, a buffer in its first bytes,
+ * the lists of a rescue in their first places, and the lists of a season report in parts as far as its state changes; where the verdict
+ * refuses, all that was lent stays as it was. One refusal alone comes with an answer: 30, from molsadriu_report and molsadriu_season_end.
+ * docs/COSTS.md says how much stack a call takes.
  *
  * WHAT CANNOT BE SEEN, and is up to the caller: that a list has as many numbers as its length says, where that length agrees with the
- * others (a null pointer with a length above 0 has not), that a pointer to one number, `w`, `length`, `mean`, `probable` or `line`, is not
- * null, that each pointer is aligned for its type, and that what is lent for an answer shares no place with anything else lent in the
- * same call. Lists that are only read may overlap.
+ * others (a null pointer with a length above 0 has not), that a pointer to one number, `w`, `length`, `mean`, `probable`, `line`, `kept` or
+ * `dropped`, is not null, that each pointer is aligned for its type, and that what is lent for an answer shares no place with anything else
+ * lent in the same call. Lists that are only read may overlap.
  *
  * UNITS. Directions, readings, printed corrections u, mean error and probable error are in 0.001 second, coefficients a in hundredths,
  * misclosures w in thousandths of the condition's unit, correlates K in millionths, corrections V in 10^-8 second, remainders R and Q in
@@ -35,7 +36,7 @@ extern "C" {
 
 /* The version of this header. Each request that changes a number of the table of refusals, a limit, a unit or a function's parameters, or
  * adds a function, raises it by one. The archive holds no version: header and archive go together, from one state of the project. */
-#define MOLSADRIU_VERSION 6
+#define MOLSADRIU_VERSION 7
 
 /* The archive is made for computers whose lengths have 64 bits; a compiler for another one stops here. */
 typedef char molsadriu_lengths_have_64_bits[sizeof(size_t) == 8 ? 1 : -1];
@@ -50,6 +51,8 @@ typedef char molsadriu_lengths_have_64_bits[sizeof(size_t) == 8 ? 1 : -1];
 #define MOLSADRIU_LISTING 6560          /* bytes that hold the listing of any network file, without an E line */
 #define MOLSADRIU_PROBABLE_LISTING 6606 /* bytes that hold the listing of any network file with its E line */
 #define MOLSADRIU_STATION_LISTING 1136  /* bytes that hold the listing of any sighting book */
+#define MOLSADRIU_RESCUED_BOOK 10752    /* bytes that hold the kept lines of any sighting book */
+#define MOLSADRIU_DROPPED_LISTING 4096  /* bytes that hold the list of the dropped sightings of any sighting book */
 #define MOLSADRIU_REFUSED_LINE 52       /* bytes that hold any REFUSED line */
 #define MOLSADRIU_NETS 100000           /* most nets of a season report */
 #define MOLSADRIU_TOTALS 16             /* totals of a season report: the length of its list */
@@ -76,7 +79,7 @@ typedef char molsadriu_lengths_have_64_bits[sizeof(size_t) == 8 ? 1 : -1];
  *   8   remainder R too large                                               condition
  *   9   printed correction u above 60,000 in size: past one minute          lowest such direction number
  *  21   no sightings, over 512, or lists of unequal length;                 0
- *       a wrong room for their means
+ *       a wrong room for their means or their rescue
  *  22   sighting field out of range                                         its ordinal, in a sighting book its line
  *  23   a face missing or given more than once                              100 * position + object
  *  24   position without object 1                                           100 * position + 1
@@ -86,6 +89,7 @@ typedef char molsadriu_lengths_have_64_bits[sizeof(size_t) == 8 ? 1 : -1];
  *       with an answer, the totals of the nets before it, but where two
  *       reports are added
  *  31   a line of another office's listing that is not the one due          line
+ *  32   nothing is left of the sightings that were to be rescued            0
  *
  * Lines, ordinals, directions, rows, conditions and nets count from 1. The first refusal in the rules' order of checks is told, and no
  * other. */
@@ -107,6 +111,11 @@ typedef struct molsadriu_verdict {
  *   STA  sightings  objects    one line: how many sightings, how many objects were seen
  *   O    object  direction  P  for each object that was seen, in their order: its number, its direction from the initial (0 to C - 1), in
  *                              0.001 second, and the number of pairs that this comes from
+ * Of a spoiled sighting book, by molsadriu_rescue_book, what is kept, which is a sighting book again:
+ *   S    position  object  face  reading      for each sighting that is kept, in their order: its line as it stands in the book
+ * and by molsadriu_dropped_book what is dropped; there may be no line at all:
+ *   X    ordinal  reason       for each sighting that is dropped, in their order: its ordinal, which is its line in the book, and the
+ *                              reason, 1 to 4, as THE RESCUE has them
  * The listing of a file that is refused is one line:
  *   REFUSED  number  place     as in the verdict
  * Numbers are decimal, with no plus and no leading zero, and a minus in front where they are below 0. */
@@ -130,6 +139,54 @@ molsadriu_verdict molsadriu_station_means(
  * MOLSADRIU_STATION_LISTING is 21 at 0 before all else. A book of more than 65,535 bytes is 2 at 0, and is not read. A line that is no
  * sighting is 1, wherever it stands, before all that the sightings themselves are refused for; no lines at all, or over 512, is 21 at 0. */
 molsadriu_verdict molsadriu_station_book(
+    const uint8_t *file, size_t file_length,
+    uint8_t *out, size_t out_room,
+    size_t *length);
+
+/* THE RESCUE of a spoiled list of sightings drops some of them in four steps, each from what the one before it has left:
+ *   1  all sightings of a position and object of which a face is missing or given more than once
+ *   2  all sightings of a position without object 1
+ *   3  both sightings of a position and object whose faces are over 60,000 apart
+ *   4  all sightings of a position that is now without object 1
+ * The step that drops a sighting is its reason. These are the faults of 23, 24, 25 and 24 again: sightings that molsadriu_station_means
+ * accepts, or refuses with 26, are all kept, and what is kept it accepts, or refuses with 26. Which are kept does not depend on the order
+ * of arrival.
+ *
+ * The rescue of lent sightings. In: one list for each of their fields, as of molsadriu_station_means. Out, in lists of exactly as many
+ * places as there are sightings: in the first places of four, the kept sightings in their old order, a list for each field; in the first
+ * places of two more, for each dropped sighting, in their old order too, its ordinal in the list given and its reason. The places behind
+ * them stay as they were. How many are kept and how many dropped, which together are all that were lent, in the numbers at `kept` and
+ * `dropped`; neither may be null.
+ * Comes back: the verdict, 21, 22 or 32 where it refuses, and then the six lists and both numbers stay as they were. 21 at 0 is for counts
+ * and lengths, those of the answer lists too; then 22 goes by ordinal; 32 at 0 is where nothing is left. */
+molsadriu_verdict molsadriu_rescue_sightings(
+    const int64_t *position, size_t position_length,
+    const int64_t *object, size_t object_length,
+    const int64_t *face, size_t face_length,
+    const int64_t *reading, size_t reading_length,
+    int64_t *kept_position, size_t kept_position_room,
+    int64_t *kept_object, size_t kept_object_room,
+    int64_t *kept_face, size_t kept_face_room,
+    int64_t *kept_reading, size_t kept_reading_room,
+    uint64_t *ordinals, size_t ordinals_room,
+    uint64_t *reasons, size_t reasons_room,
+    size_t *kept, size_t *dropped);
+
+/* The rescue of a sighting book: what is kept. In: the bytes of the book, as of molsadriu_station_book. Out, where it is accepted: the kept
+ * lines in the first bytes of `out`, of which those after them stay as they were, and how many bytes they have, in the one number at
+ * `length`, which must not be null.
+ * Comes back: the verdict, 1, 2, 21, 22 or 32 where it refuses, and then `out` and the number at `length` stay as they were. A room below
+ * MOLSADRIU_RESCUED_BOOK is 21 at 0 before all else. Then all is as of molsadriu_station_book down to 22, and 32 at 0 is where nothing is
+ * left. */
+molsadriu_verdict molsadriu_rescue_book(
+    const uint8_t *file, size_t file_length,
+    uint8_t *out, size_t out_room,
+    size_t *length);
+
+/* The rescue of a sighting book: what is dropped. In, out and comes back: all as of molsadriu_rescue_book, and the same verdict, but that
+ * the X lines of the dropped sightings are written, and the room must be at least MOLSADRIU_DROPPED_LISTING: a smaller one is 21 at 0
+ * before all else. Of a book that is kept whole nothing is written, and the number at `length` is 0. */
+molsadriu_verdict molsadriu_dropped_book(
     const uint8_t *file, size_t file_length,
     uint8_t *out, size_t out_room,
     size_t *length);

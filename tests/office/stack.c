@@ -51,7 +51,7 @@ static void probable_error(void)
 }
 
 /* the network file */
-static uint8_t file[MOLSADRIU_FILE + 1], out[MOLSADRIU_PROBABLE_LISTING];
+static uint8_t file[MOLSADRIU_FILE + 1], out[MOLSADRIU_RESCUED_BOOK];
 static size_t file_length, length;
 
 static void adjust_file(void)
@@ -126,6 +126,33 @@ static void station_book(void)
     answered = molsadriu_station_book(book, book_length, out, sizeof out, &length).number;
 }
 
+/* the same spoiled: in each position the last object's left face is given twice, so that both are dropped; and as a book */
+static int64_t spoiled[MOLSADRIU_SIGHTINGS], kept_fields[4][MOLSADRIU_SIGHTINGS];
+static uint64_t ordinals[MOLSADRIU_SIGHTINGS], reasons[MOLSADRIU_SIGHTINGS];
+static size_t kept, dropped;
+static uint8_t spoiled_book[MOLSADRIU_FILE];
+static size_t spoiled_length;
+
+static void rescue_sightings(void)
+{
+    const size_t n = MOLSADRIU_SIGHTINGS;
+    HERE;
+    answered = molsadriu_rescue_sightings(position, n, object, n, spoiled, n, reading, n, kept_fields[0], n, kept_fields[1], n,
+                                          kept_fields[2], n, kept_fields[3], n, ordinals, n, reasons, n, &kept, &dropped).number;
+}
+
+static void rescue_book(void)
+{
+    HERE;
+    answered = molsadriu_rescue_book(spoiled_book, spoiled_length, out, sizeof out, &length).number;
+}
+
+static void dropped_book(void)
+{
+    HERE;
+    answered = molsadriu_dropped_book(spoiled_book, spoiled_length, out, sizeof out, &length).number;
+}
+
 /* the fullest net twice, as an archive; and a stream of it, begun and at its end, with a net that is open */
 static uint8_t archive[2 * (sizeof file + 2)], held[MOLSADRIU_HELD];
 static size_t archive_length;
@@ -174,6 +201,11 @@ static void check_sheet(void)
 }
 
 /* ---- their input */
+static size_t sighting(uint8_t *to, int64_t n, int64_t its_face)
+{
+    return (size_t)sprintf((char *)to, "S\t%" PRId64 "\t%" PRId64 "\t%" PRId64 "\t%" PRId64 "\n", position[n], object[n], its_face, reading[n]);
+}
+
 static void fill(const char *name)
 {
     for (int64_t i = 0; i < M; i++) {
@@ -197,8 +229,9 @@ static void fill(const char *name)
         object[n] = n / 2 % 16 + 1;
         face[n] = n % 2;
         reading[n] = (80000000 * object[n] + 5000000 * position[n] + MOLSADRIU_CIRCLE / 2 * face[n]) % MOLSADRIU_CIRCLE;
-        book_length += (size_t)sprintf((char *)book + book_length, "S\t%" PRId64 "\t%" PRId64 "\t%" PRId64 "\t%" PRId64 "\n",
-                                       position[n], object[n], face[n], reading[n]);
+        spoiled[n] = object[n] == MOLSADRIU_OBJECTS ? 0 : face[n];
+        book_length += sighting(book + book_length, n, face[n]);
+        spoiled_length += sighting(spoiled_book + spoiled_length, n, spoiled[n]);
     }
     FILE *in = fopen(name, "rb");
     if (in == NULL) stop("the network file cannot be opened");
@@ -260,7 +293,7 @@ static void measure(const char *name, void (*call)(void), size_t limit, char *st
     size_t one = painted(call, stack, 0x5a), other = painted(call, stack, (char)0xa5);
     size_t taken = one > other ? one : other;
     limit += MORE;
-    printf("%-24s %6zu %6zu%s\n", name, taken, limit, taken > limit ? "  too much" : "");
+    printf("%-26s %6zu %6zu%s\n", name, taken, limit, taken > limit ? "  too much" : "");
     if (taken > limit) above++;
 }
 
@@ -273,6 +306,10 @@ int main(int count, char **words)
     printf("bytes of stack, from the caller's frame down; and the limit\n");
     measure("molsadriu_station_means", station_means, 8520, stack);
     measure("molsadriu_station_book", station_book, 25320, stack);
+    measure("molsadriu_rescue_sightings", rescue_sightings, 10 * 1024, stack);
+    if (kept != 480 || dropped != 32) stop("of the spoiled sightings other ones are kept");
+    measure("molsadriu_rescue_book", rescue_book, 28 * 1024, stack);
+    measure("molsadriu_dropped_book", dropped_book, 28 * 1024, stack);
     measure("molsadriu_coefficients", coefficients, 1136, stack);
     measure("molsadriu_misclosure", misclosure, 624, stack);
     measure("molsadriu_adjust_table", adjust_table, 8 * 1024, stack);

@@ -22,7 +22,7 @@ pub enum Part {
 }
 
 // Bytes that hold the kept lines of any book: 512, with the longest numbers in their ranges.
-const KEPT: usize = 10752;
+pub const KEPT: usize = 10752;
 
 // Bytes that hold the lines of any dropped sightings.
 const DROPPED: usize = 4096;

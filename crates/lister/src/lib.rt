@@ -1,5 +1,5 @@
-// Reads a file whole, has its listing made, of a network file by `listing` and of a sighting book by `book`, and writes that: what
-// `adjust`, `probable` and `means` do, and the programs that run the files kept as data. Files of any length are read in parts: archives
+// Reads a file whole, has its listing made, of a network file by `listing` and of a sighting book by `book`, and writes that: what `adjust`,
+// `probable`, `means`, `rescue` and `dropped` do, and the programs that run the files kept as data. Files of any length are read in parts: archives
 // (`archive`), for `report`, and reports to be added up (`sums`), for `add_reports`. A net is held against another office's listing for `check`
 // (`sheets`).
 //
@@ -9,6 +9,8 @@ pub mod archive;
 pub mod sheets;
 pub mod sums;
 
+use book::parts;
+use book::parts::Part;
 use libc::STDERR_FILENO;
 use libc::STDOUT_FILENO;
 use listing::Sheet;
@@ -30,6 +32,8 @@ pub enum Files {
     Networks,
     NetworksWithErrors,
     Books,
+    Rescued,
+    Dropped,
 }
 
 // The same with the files that are read in parts, each by itself.
@@ -98,12 +102,14 @@ fn list(files: Files, file: &[u8], out: &mut [u8]) -> usize
         Files::Networks => listing::list(Sheet::Plain, file, out),
         Files::NetworksWithErrors => listing::list(Sheet::WithErrors, file, out),
         Files::Books => book::list(file, out),
+        Files::Rescued => book::list_rescued(Part::Kept, file, out),
+        Files::Dropped => book::list_rescued(Part::Dropped, file, out),
     }
 }
 
-// Writes the listing of a file. Answers whether all of it was written. The buffer is for the longest listing of all, that of a net with an E line.
+// Writes the listing of a file. Answers whether all of it was written. The buffer is for the longest listing of all, the kept lines of a spoiled book.
 fn write_listing(files: Files, file: &[u8]) -> bool {
-    let mut out = [0u8; listing::LISTING_WITH_ERRORS];
+    let mut out = [0u8; parts::KEPT];
     let n = list(files, file, &mut out);
     io::write_all(STDOUT_FILENO, &out[..n])
 }

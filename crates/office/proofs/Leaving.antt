@@ -5,7 +5,8 @@
 --   errors-left                            the two numbers of mean and probable error
 --   coefficients-left, misclosure-left     the list, and the number, of one condition
 --   told-left                              the buffer of any file that has been listed, and the number lent for its length
---   book-left, file-left                   those of a sighting book, and of a network file
+--   book-left, book-part-left, file-left   those of a sighting book, of a part of a spoiled one, and of a network file
+--   rescue-left                            the six lists of a rescue, and the two numbers of sightings kept and dropped
 --   begun-left, next-left, sum-left        the lists of a season's stream that is begun or fed, and the list for the sum of two reports
 --   check-sheet-left                       the number lent for a line of another office's sheet
 --   Past, past-or-none                     the number is 30; where only 30 can be refused, it is that or 0
@@ -31,6 +32,7 @@ use Rattle.reply.specs.Checks.{refuseIf, _andThen_, leaves, figureReply, figure
 use Rattle.reply.specs.Verdicts.{verdictOf}
 use Rattle.station.specs.Sightings.{Book}
 use Rattle.station.specs.Replies.{replyOf, Answers}
+use Rattle.station.specs.Rescue.{Lent as Places, rescueReply, rooms}
 use Rattle.station.proofs.Answering.{refusal-leaves-lists as lists-kept}
 use Rattle.condition.specs.declared.Kind.{Kind}
 use Rattle.condition.specs.Rules.{Lent, coefficientsReply}
@@ -41,6 +43,7 @@ use Rattle.precision.specs.declared.Errors.{Errors}
 use Rattle.precision.specs.Promise.{errorsReply, TellsErrors}
 use Rattle.precision.proofs.Promising.{refusal-leaves-numbers as errors-kept}
 use Rattle.listing.specs.declared.Sheet.{Sheet}
+use Rattle.book.specs.declared.parts.Part.{Part}
 use Rattle.totals.specs.Promise.{mostNets, sumReply}
 use Rattle.season.specs.Season.{sharesOf, seasonReply, seasonReport}
 use Rattle.season.specs.Stream.{over, placeOf, placeList, endedTotals, endedPlace, lengthsAmiss, totalAmiss, lineAmiss, placeReply, stateReply}
@@ -51,7 +54,7 @@ use Rattle.sheet.specs.Check.{opinionOf}
 use Rattle.sheet.specs.Promise.{opinionReply, opinionLeaves}
 use Rattle.office.specs.declared.Heading.{Heading}
 use Rattle.office.specs.declared.Heading.the-variants.{Named, Unknown}
-use Rattle.office.specs.Promises.{Means, Coefficients, Misclosed, Table, DirectionErrors, ToldBy, SightingBook, File, SeasonReport, SeasonBegun, SeasonNext, SeasonEnded, ReportSum, SheetChecked}
+use Rattle.office.specs.Promises.{Means, SightingsRescued, Coefficients, Misclosed, Table, DirectionErrors, ToldBy, SightingBook, BookParted, File, SeasonReport, SeasonBegun, SeasonNext, SeasonEnded, ReportSum, SheetChecked}
 use Rattle.office.specs.Terms.{coefficientsReplyUnder, coefficientsListUnder, misclosureUnder}
 
 abbrev pub Refuses : Verdict → Type 0
@@ -68,6 +71,10 @@ reply-refuses (Refused why) told refuses = record { why = why; is = refl }
 pub means-left : (b : Book) (d p D P : List ℤ) (v : Verdict) → Means b d p v D P → Refuses v → (D ≡ d) × (P ≡ p)
 means-left b d p D P v m refuses =
     let r = reply-refuses (replyOf b (length d) (length p)) (m .verdict) refuses in lists-kept b d p (r .why) D P (subst (λ (x : Reply). Answers b d p x D P) (r .is) (m .lists))
+
+pub rescue-left : (b : Book) (before after : Places) (k d m n : ℕ) (v : Verdict) → SightingsRescued b before k d v after m n → Refuses v → (after ≡ before) × ((m ≡ k) × (n ≡ d))
+rescue-left b before after k d m n v s refuses =
+    let r = reply-refuses (rescueReply b (rooms b before)) (s .verdict) refuses in (rw (r .is) at (s .listsAre), (rw (r .is) at (s .keptAre), rw (r .is) at (s .droppedAre)))
 
 pub table-left : (ds qs cs ws : List ℤ) (lent left : Lists) (v : Verdict) → Table ds qs cs ws lent v left → Refuses v → left ≡ lent
 table-left ds qs cs ws lent left v t refuses =
@@ -97,6 +104,9 @@ told-left rule listing before after n m v t refuses =
 
 pub book-left : (file before after : List ℕ) (n m : ℕ) (v : Verdict) → SightingBook file before n v after m → Refuses v → (after ≡ before) × (m ≡ n)
 book-left file before after n m v b refuses = told-left _ _ before after n m v (b .told) refuses
+
+pub book-part-left : (part : Part) (file before after : List ℕ) (n m : ℕ) (v : Verdict) → BookParted part file before n v after m → Refuses v → (after ≡ before) × (m ≡ n)
+book-part-left part file before after n m v b refuses = told-left _ _ before after n m v (b .told) refuses
 
 pub file-left : (sheet : Sheet) (file before after : List ℕ) (n m : ℕ) (v : Verdict) → File sheet file before n v after m → Refuses v → (after ≡ before) × (m ≡ n)
 file-left sheet file before after n m v f refuses = told-left _ _ before after n m v (f .told) refuses

@@ -1,6 +1,7 @@
 -- The promises leave nothing open: two answers, with what was lent afterwards, that keep one promise are equal. Assumes nothing.
 --   one-means, one-coefficients, one-misclosure, one-table, one-errors, one-book, one-file, one-length, one-status      of the function of that name
 --                                                (one-file: of both functions on a network file, by their sheets)
+--   one-rescue-sightings, one-book-part          of the rescue of a spoiled list, and of both functions on a spoiled book, by its parts
 --   one-told                                     of any file that has been listed
 --   one-season-report, one-season-begin, one-season-next, one-season-end, one-add-reports      of the functions on a season's archive
 --   one-check-sheet                              of the check of another office's sheet
@@ -14,6 +15,7 @@ use Rattle.exact.proofs.Unique.{only}
 use Rattle.reply.specs.declared.Reply.{Reply}
 use Rattle.reply.specs.declared.Verdict.{Verdict}
 use Rattle.station.specs.Sightings.{Book}
+use Rattle.station.specs.Rescue.{Lent as Places}
 use Rattle.station.proofs.Uniqueness.{same-answers}
 use Rattle.condition.specs.declared.Kind.{Kind}
 use Rattle.condition.specs.Rules.{Lent}
@@ -23,14 +25,19 @@ use Rattle.precision.specs.declared.Errors.{Errors}
 use Rattle.precision.proofs.Promising.{only-answer}
 use Rattle.text.specs.Lines.{lineAt, statusAt}
 use Rattle.listing.specs.declared.Sheet.{Sheet}
+use Rattle.book.specs.declared.parts.Part.{Part}
 use Rattle.totals.proofs.Promising.{one-sum}
 use Rattle.season.proofs.Unique.{one-report, one-begin, one-next, one-end}
 use Rattle.office.specs.declared.Heading.{Heading}
-use Rattle.office.specs.Promises.{Means, Coefficients, Misclosed, Table, DirectionErrors, ToldBy, SightingBook, File, SeasonReport, SeasonBegun, SeasonNext, SeasonEnded, ReportSum, SheetChecked}
+use Rattle.office.specs.Promises.{Means, SightingsRescued, Coefficients, Misclosed, Table, DirectionErrors, ToldBy, SightingBook, BookParted, File, SeasonReport, SeasonBegun, SeasonNext, SeasonEnded, ReportSum, SheetChecked}
 use Rattle.office.specs.Statuses.{statusNumber}
 
 pub one-means : (b : Book) (d p : List ℤ) (v v′ : Verdict) (D D′ P P′ : List ℤ) → Means b d p v D P → Means b d p v′ D′ P′ → (v ≡ v′) × ((D ≡ D′) × (P ≡ P′))
 one-means b d p v v′ D D′ P P′ x y = (only (x .verdict) (y .verdict), same-answers b d p _ _ D D′ P P′ (x .lists) (y .lists) .1)
+
+pub one-rescue-sightings : (b : Book) (before after after′ : Places) (k d : ℕ) (v v′ : Verdict) (m m′ n n′ : ℕ) → SightingsRescued b before k d v after m n → SightingsRescued b before k d v′ after′ m′ n′ → (v ≡ v′) × ((after ≡ after′) × ((m ≡ m′) × (n ≡ n′)))
+one-rescue-sightings b before after after′ k d v v′ m m′ n n′ x y =
+    (only (x .verdict) (y .verdict), (only (x .listsAre) (y .listsAre), (only (x .keptAre) (y .keptAre), only (x .droppedAre) (y .droppedAre))))
 
 pub one-table : (ds qs cs ws : List ℤ) (lent left left′ : Lists) (v v′ : Verdict) → Table ds qs cs ws lent v left → Table ds qs cs ws lent v′ left′ → (v ≡ v′) × (left ≡ left′)
 one-table ds qs cs ws lent left left′ v v′ x y = (only (x .verdict) (y .verdict), only-reply ds qs cs ws lent _ _ left left′ (x .lists) (y .lists) .1)
@@ -55,6 +62,9 @@ one-told rule listing before n v v′ after after′ m m′ x y = (only (x .verd
 
 pub one-book : (file before : List ℕ) (n : ℕ) (v v′ : Verdict) (after after′ : List ℕ) (m m′ : ℕ) → SightingBook file before n v after m → SightingBook file before n v′ after′ m′ → (v ≡ v′) × ((after ≡ after′) × (m ≡ m′))
 one-book file before n v v′ after after′ m m′ x y = one-told _ _ before n v v′ after after′ m m′ (x .told) (y .told)
+
+pub one-book-part : (part : Part) (file before : List ℕ) (n : ℕ) (v v′ : Verdict) (after after′ : List ℕ) (m m′ : ℕ) → BookParted part file before n v after m → BookParted part file before n v′ after′ m′ → (v ≡ v′) × ((after ≡ after′) × (m ≡ m′))
+one-book-part part file before n v v′ after after′ m m′ x y = one-told _ _ before n v v′ after after′ m m′ (x .told) (y .told)
 
 pub one-file : (sheet : Sheet) (file before : List ℕ) (n : ℕ) (v v′ : Verdict) (after after′ : List ℕ) (m m′ : ℕ) → File sheet file before n v after m → File sheet file before n v′ after′ m′ → (v ≡ v′) × ((after ≡ after′) × (m ≡ m′))
 one-file sheet file before n v v′ after after′ m m′ x y = one-told _ _ before n v v′ after after′ m m′ (x .told) (y .told)

@@ -11,9 +11,10 @@ use Rattle.reply.specs.declared.Reply.the-variants.{Accepted}
 use Rattle.reply.specs.declared.Verdict.{Verdict}
 use Rattle.reply.specs.Checks.{leaves, figureReply, figureLeaves}
 use Rattle.reply.specs.Verdicts.{verdictOf}
-use Rattle.station.specs.Sightings.{Book}
+use Rattle.station.specs.Sightings.{Book, sightings}
 use Rattle.station.specs.Replies.{replyOf, Answers}
 use Rattle.station.specs.Pairs.{JoinedRightly}
+use Rattle.station.specs.Rescue.{Lent as Places, kept, ordinals, rescueReply, rooms, filled}
 use Rattle.condition.specs.declared.Kind.{Kind}
 use Rattle.condition.specs.Rules.{Lent}
 use Rattle.adjustment.specs.Promise.{Answers as Lists, adjustReply, Adjusts}
@@ -23,6 +24,8 @@ use Rattle.listing.specs.declared.Sheet.{Sheet}
 use Rattle.listing.specs.File.{fileListing, FileDemand3, FileWithinMinute, FileMeanError, adjustFileReply}
 use Rattle.book.specs.Lines.{bookOf}
 use Rattle.book.specs.File.{bookListing, meansReply}
+use Rattle.book.specs.declared.parts.Part.{Part}
+use Rattle.book.specs.Rescue.{partOf, partReply}
 use Rattle.totals.specs.Promise.{sumReply, Adds}
 use Rattle.season.specs.Stream.{stateReply}
 use Rattle.season.specs.Promise.{reportReply, Reports, beginReply, Begins, Feeds, endReply, Ends}
@@ -34,6 +37,13 @@ use Rattle.office.specs.Terms.{coefficientsReplyUnder, coefficientsListU
 pub record Means (b : Book) (d p : List ℤ) (v : Verdict) (directionsNow pairsNow : List ℤ) : Type 0 where
   pub verdict : v ≡ verdictOf (replyOf b (length d) (length p))
   pub lists : Answers b d p (replyOf b (length d) (length p)) directionsNow pairsNow
+
+-- a spoiled list: the six lent lists, and how many sightings are kept and dropped
+pub record SightingsRescued (b : Book) (before : Places) (keptBefore droppedBefore : ℕ) (v : Verdict) (after : Places) (keptAfter droppedAfter : ℕ) : Type 0 where
+  pub verdict : v ≡ verdictOf (rescueReply b (rooms b before))
+  pub listsAre : after ≡ leaves (rescueReply b (rooms b before)) (filled b before) before
+  pub keptAre : keptAfter ≡ leaves (rescueReply b (rooms b before)) (sightings (kept b)) keptBefore
+  pub droppedAre : droppedAfter ≡ leaves (rescueReply b (rooms b before)) (length (ordinals b)) droppedBefore
 
 pub record Coefficients (h : Heading) (l : Kind → Lent) (before : List ℤ) (v : Verdict) (after : List ℤ) : Type 0 where
   pub verdict : v ≡ verdictOf (coefficientsReplyUnder h l (length before))
@@ -60,6 +70,10 @@ pub record ToldBy (rule : Reply) (listing before : List ℕ) (lengthBefore : ℕ
 pub record SightingBook (file before : List ℕ) (lengthBefore : ℕ) (v : Verdict) (after : List ℕ) (lengthAfter : ℕ) : Type 0 where
   pub told : ToldBy (meansReply file (length before)) (bookListing file) before lengthBefore v after lengthAfter
   pub joined : meansReply file (length before) ≡ Accepted → JoinedRightly (bookOf file)
+
+-- one part of a spoiled book: the kept lines, or a line for each sighting that is dropped
+pub record BookParted (part : Part) (file before : List ℕ) (lengthBefore : ℕ) (v : Verdict) (after : List ℕ) (lengthAfter : ℕ) : Type 0 where
+  pub told : ToldBy (partReply part file (length before)) (partOf part file) before lengthBefore v after lengthAfter
 
 pub record File (sheet : Sheet) (file before : List ℕ) (lengthBefore : ℕ) (v : Verdict) (after : List ℕ) (lengthAfter : ℕ) : Type 0 where
   pub told : ToldBy (adjustFileReply sheet file (length before)) (fileListing sheet file) before lengthBefore v after lengthAfter

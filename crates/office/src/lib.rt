@@ -6,6 +6,7 @@ ghost use lib.ListN.{length, take, drop};
 ghost use Rattle.reply.specs.Checks.{leaves};
 ghost use Rattle.reply.specs.Verdicts.{verdictOf};
 ghost use Rattle.station.specs.Sightings.{book};
+ghost use Rattle.station.specs.Rescue.{lent};
 ghost use Rattle.adjustment.specs.Promise.{lists};
 ghost use Rattle.precision.specs.Errors.{errors};
 ghost use Rattle.text.specs.Lines.{lineAt, statusAt};
@@ -13,10 +14,12 @@ ghost use Rattle.text.specs.Written.{Wrote};
 ghost use Rattle.page.specs.Page.{refusedLineIn};
 ghost use Rattle.listing.specs.declared.Sheet.the-variants.{Plain, WithErrors};
 ghost use Rattle.listing.specs.File.{listingIn};
-ghost use Rattle.office.specs.Promises.{Means, SightingBook, Coefficients, Misclosed, Table, DirectionErrors, File};
+ghost use Rattle.book.specs.declared.parts.Part.the-variants.{Kept, Dropped};
+ghost use Rattle.office.specs.Promises.{Means, SightingBook, SightingsRescued, BookParted, Coefficients, Misclosed, Table, DirectionErrors, File};
 ghost use Rattle.office.specs.Promises.{SeasonReport, SeasonBegun, SeasonNext, SeasonEnded, ReportSum, SheetChecked};
 ghost use Rattle.office.specs.Terms.{headingOf, termsOf};
 ghost use Rattle.office.specs.Statuses.{statusNumber};
+use book::parts::Part;
 use condition::Kind;
 use listing::Sheet;
 use page::Listed;
@@ -25,6 +28,7 @@ use reply::Refusal;
 use reply::Reply;
 use reply::Verdict;
 use sheet::Opinion;
+use station::Rescued;
 use text::line::LineStatus;
 
 // The kind of condition that a letter names.
@@ -59,6 +63,21 @@ fn tell_listed(listed: Listed, length: &mut usize) -> Verdict
     reply::tell(Reply::Accepted)
 }
 
+// What C is told of a list that has been rescued. How many sightings are kept and dropped goes into the lent numbers where the list was accepted.
+fn tell_rescued(rescued: Rescued, kept: &mut usize, dropped: &mut usize) -> Verdict
+    ensures verdict { λ v. ⌜ v ≡ verdictOf (rescued .reply) ⌝ }
+    ensures numbers { λ _. ⌜ (now (kept .exit) ≡ leaves (rescued .reply) (rescued .kept) (now (kept .entry)))
+        × (now (dropped .exit) ≡ leaves (rescued .reply) (rescued .dropped) (now (dropped .entry))) ⌝ }
+{
+    let reply = rescued.reply;
+    if let Reply::Refused(why) = reply {
+        return reply::refuse(why);
+    }
+    *kept = rescued.kept;
+    *dropped = rescued.dropped;
+    reply::tell(Reply::Accepted)
+}
+
 // Station means: the direction and the number of pairs of each object, into two lent lists of 16.
 #[no_mangle]
 pub extern "C" fn molsadriu_station_means(
@@ -82,6 +101,63 @@ pub extern "C" fn molsadriu_station_book(file: &[u8], out: &mut [u8], length: &m
     ensures { λ v. ⌜ SightingBook (now (file .entry)) (now (out .entry)) (now (length .entry)) v (now (out .exit)) (now (length .exit)) ⌝ }
 {
     let listed = book::means(file, out);
+    tell_listed(listed, length)
+}
+
+// The rescue of a spoiled list of sightings: the kept ones, into the first places of four lent lists, and for each dropped one its ordinal and its reason,
+// into those of two more, each of as many places as there are sightings; and how many are kept and dropped, into two lent numbers.
+#[no_mangle]
+pub extern "C" fn molsadriu_rescue_sightings(
+    position: &[i64],
+    object: &[i64],
+    face: &[i64],
+    reading: &[i64],
+    kept_position: &mut [i64],
+    kept_object: &mut [i64],
+    kept_face: &mut [i64],
+    kept_reading: &mut [i64],
+    ordinals: &mut [u64],
+    reasons: &mut [u64],
+    kept: &mut usize,
+    dropped: &mut usize,
+) -> Verdict
+    ensures { λ v. ⌜ SightingsRescued (book (now (position .entry)) (now (object .entry)) (now (face .entry)) (now (reading .entry)))
+        (lent (now («kept_position» .entry)) (now («kept_object» .entry)) (now («kept_face» .entry)) (now («kept_reading» .entry)) (now (ordinals .entry)) (now (reasons .entry)))
+        (now (kept .entry)) (now (dropped .entry)) v
+        (lent (now («kept_position» .exit)) (now («kept_object» .exit)) (now («kept_face» .exit)) (now («kept_reading» .exit)) (now (ordinals .exit)) (now (reasons .exit)))
+        (now (kept .exit)) (now (dropped .exit)) ⌝ }
+{
+    let rescued = station::rescue(
+        position,
+        object,
+        face,
+        reading,
+        kept_position,
+        kept_object,
+        kept_face,
+        kept_reading,
+        ordinals,
+        reasons,
+    );
+    tell_rescued(rescued, kept, dropped)
+}
+
+// The kept lines of a spoiled sighting book, which are a book again, into a lent buffer of at least 10,752 bytes, and their length, into one lent number.
+#[no_mangle]
+pub extern "C" fn molsadriu_rescue_book(file: &[u8], out: &mut [u8], length: &mut usize) -> Verdict
+    ensures { λ v. ⌜ BookParted Kept (now (file .entry)) (now (out .entry)) (now (length .entry)) v (now (out .exit)) (now (length .exit)) ⌝ }
+{
+    let listed = book::rescue(Part::Kept, file, out);
+    tell_listed(listed, length)
+}
+
+// A line for each sighting of a spoiled book that is dropped, its ordinal and its reason, into a lent buffer of at least 4,096 bytes, and their length, into
+// one lent number.
+#[no_mangle]
+pub extern "C" fn molsadriu_dropped_book(file: &[u8], out: &mut [u8], length: &mut usize) -> Verdict
+    ensures { λ v. ⌜ BookParted Dropped (now (file .entry)) (now (out .entry)) (now (length .entry)) v (now (out .exit)) (now (length .exit)) ⌝ }
+{
+    let listed = book::rescue(Part::Dropped, file, out);
     tell_listed(listed, length)
 }
 

@@ -35,6 +35,18 @@ enum-told-3 c = search needs
 list-requires-3 : tie.Need-list-requires-3
 list-requires-3 c κs = search needs
 
+enum-told-4 : tie.Need-enum-told-4
+enum-told-4 c = search needs
+
+list-rescued-requires : tie.Need-list-rescued-requires
+list-rescued-requires c κs = search needs
+
+enum-told-5 : tie.Need-enum-told-5
+enum-told-5 c = search needs
+
+list-rescued-requires-2 : tie.Need-list-rescued-requires-2
+list-rescued-requires-2 c κs = search needs
+
 same-length : tie.Need-same-length
 same-length c = search needs
 
@@ -53,6 +65,18 @@ same-length-3 c = search needs
 returns-3 : tie.Need-returns-3
 returns-3 c = let l = c .before .before in of-kind _ _ _ (l .before .before .enum-told3 .given .1) (l .list3 .ensures)
 
+same-length-4 : tie.Need-same-length-4
+same-length-4 c = search needs
+
+returns-4 : tie.Need-returns-4
+returns-4 c = let l = c .before .before in of-kind _ _ _ (l .before .before .enum-told4 .given .1) (l .list-rescued .ensures)
+
+same-length-5 : tie.Need-same-length-5
+same-length-5 c = search needs
+
+returns-5 : tie.Need-returns-5
+returns-5 c = let l = c .before .before in of-kind _ _ _ (l .before .before .enum-told5 .given .1) (l .list-rescued2 .ensures)
+
 pub list-spec : {M : Type 1} → statement M
 list-spec =
     tie.close
@@ -63,9 +87,17 @@ list-spec =
     list-requires-2
     enum-told-3
     list-requires-3
+    enum-told-4
+    list-rescued-requires
+    enum-told-5
+    list-rescued-requires-2
     same-length
     returns
     same-length-2
     returns-2
     same-length-3
-    returns-3)
+    returns-3
+    same-length-4
+    returns-4
+    same-length-5
+    returns-5)
