@@ -16,7 +16,7 @@ use Rattle.text.specs.Lines.{linesIn, lineNo}
 use Rattle.text.specs.Written.{lineEnd, inOrder}
 use Rattle.page.specs.declared.Listed.{Listed}
 use Rattle.page.specs.Lines.{countsEnd}
-use Rattle.page.specs.Page.{ListedBy, inRoom, printed, printedIn}
+use Rattle.page.specs.Page.{ListedBy, inRoom, printedIn}
 use Rattle.station.specs.Rescue.{isKept, reason, rescueReply}
 use Rattle.station.specs.Steps.{free}
 use Rattle.book.specs.declared.spoiled.Judged.{Judged}
@@ -58,10 +58,7 @@ pub record RescuedOf (part : Part) (file before : List ℕ) (listed : Listed) (a
   -- in the rules' numbers: number and place
   pub verdict : verdictOf (listed .reply) ≡ verdictOf (partReply part file (length before))
 
--- ---- for programs: what is printed of any book, or the line of its refusal, and what of it goes into a lent buffer of so many bytes
-unfoldable pub rescueListing : Part → (file : List ℕ) → List ℕ
-rescueListing part file = printed (spoiledReply file) (partOf part file)
-
+-- ---- for programs: what of any book, that part or the line of its refusal, goes into a lent buffer of so many bytes
 unfoldable pub rescueListingIn : Part → (file : List ℕ) (room : ℕ) → List ℕ
 rescueListingIn part file room = printedIn (roomFor part) room (spoiledReply file) (partOf part file)
 

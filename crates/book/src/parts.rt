@@ -24,7 +24,7 @@ pub enum Part {
 // Bytes that hold the kept lines of any book: 512, with the longest numbers in their ranges.
 pub const KEPT: usize = 10752;
 
-// Bytes that hold the lines of any dropped sightings.
+// Bytes that hold the lines of any dropped sightings: 512 of 8 bytes.
 const DROPPED: usize = 4096;
 
 // Bytes that hold that part of any book.

@@ -9,7 +9,7 @@
 --   tables-after                      the cleared tables are those of what the steps have left
 --   why-free, why-reason              a place has no reason where its sightings are left, and the rule's reason where they are dropped
 --   kept-free, reason-none, reason-in        the reason is 0 where a sighting is kept, and 1 to 4 where it is dropped
---   reason-most, reason-byte                 and 4 at most, whichever it is
+--   reason-most                              and 4 at most, whichever it is
 use mathlib.Core.Path.{_≡_, refl, sym, _∙_, ap, subst}
 use mathlib.Core.Bool.{Bool, true, false, not, cond, _&&_}
 use mathlib.Core.List.{List}
@@ -255,6 +255,3 @@ module _ (b : Book) (h : ℕ) where
       by-test : (x : Bool) → isKept b h ≡ x → reason b h ≤ 4
       by-test true e = omega (arith, reason-none e)
       by-test false e = reason-in (ap not e) .1
-
-  pub reason-byte : reason b h < 256
-  reason-byte = omega (arith, reason-most)

@@ -12,7 +12,7 @@ use Rattle.station.specs.declared.checks.Check.{Check}
 use Rattle.station.specs.Replies.{fault}
 use Rattle.station.specs.Rescue.{stepCheck}
 
--- thing h of a list has no reason
+-- the place, or the sighting, at h has no reason
 abbrev pub free : List ℕ → ℕ → Bool
 free reasons h = eqb (getD reasons h 0) 0
 

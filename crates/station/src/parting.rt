@@ -57,7 +57,7 @@ pub fn keep(reason: &[u8], field: &[i64], kept: &mut [i64]) -> usize
     n
 }
 
-// A reason as the lent lists have it.
+// A reason as the lent lists have it. (In the loop itself the cast would ask for a bound of each byte of the list.)
 fn wide(reason: u8) -> u64
     ensures { λ r. ⌜ r ≡ reason ⌝ }
 {
