@@ -277,6 +277,7 @@ static size_t painted(void (*call)(void), char *stack, char paint)
 
 /* The limits: what the functions took before W-204, but 8 KiB for a table and 22 KiB for a file's three, where that request asks for 16 and 30.
  * A season's (W-205): 22 KiB too where nets are adjusted, else what they took at first. The check of a sheet (W-206): 22 KiB, as for a file.
+ * The rescue's (W-207): 10 KiB for lists and 26 KiB for a book; the means of a book may take 16 bytes more since, their checks serve both.
  * They are x86-64's; another back end lays its frames out in another way, and may take this much more. */
 #ifdef __x86_64__
 #define MORE 0
@@ -305,11 +306,11 @@ int main(int count, char **words)
     fill(words[1]);
     printf("bytes of stack, from the caller's frame down; and the limit\n");
     measure("molsadriu_station_means", station_means, 8520, stack);
-    measure("molsadriu_station_book", station_book, 25320, stack);
+    measure("molsadriu_station_book", station_book, 25336, stack);
     measure("molsadriu_rescue_sightings", rescue_sightings, 10 * 1024, stack);
     if (kept != 480 || dropped != 32) stop("of the spoiled sightings other ones are kept");
-    measure("molsadriu_rescue_book", rescue_book, 28 * 1024, stack);
-    measure("molsadriu_dropped_book", dropped_book, 28 * 1024, stack);
+    measure("molsadriu_rescue_book", rescue_book, 26 * 1024, stack);
+    measure("molsadriu_dropped_book", dropped_book, 26 * 1024, stack);
     measure("molsadriu_coefficients", coefficients, 1136, stack);
     measure("molsadriu_misclosure", misclosure, 624, stack);
     measure("molsadriu_adjust_table", adjust_table, 8 * 1024, stack);
