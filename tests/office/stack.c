@@ -277,7 +277,7 @@ static size_t painted(void (*call)(void), char *stack, char paint)
 
 /* The limits: what the functions took before W-204, but 8 KiB for a table and 22 KiB for a file's three, where that request asks for 16 and 30.
  * A season's (W-205): 22 KiB too where nets are adjusted, else what they took at first. The check of a sheet (W-206): 22 KiB, as for a file.
- * The rescue's (W-207): 10 KiB for lists and 26 KiB for a book; the means of a book may take 16 bytes more since, their checks serve both.
+ * The rescue's (W-207): 10 KiB for lists and 26 KiB for a book; the means of a book may take 16 bytes more since, by a run in the emulator.
  * They are x86-64's; another back end lays its frames out in another way, and may take this much more. */
 #ifdef __x86_64__
 #define MORE 0
