@@ -1,6 +1,8 @@
 // Whole numbers, exactly: the steps on 64-bit numbers that every layer shares. Each says its value in ℤ; none can overflow.
+#![tactic(auto)]
+
 ghost use mathlib.Core.Path.{_≡_};
-ghost use lib.IntN.{ℤ, pos, natAbs};
+ghost use lib.IntN.{ℤ, pos, nat_abs};
 ghost use lib.Signed.{_<ℤ_};
 ghost use Rattle·exact·specs.specs.Nearest.{nearest};
 ghost use Rattle·exact·specs.specs.Circle.{floor, modulo};
@@ -41,7 +43,7 @@ pub fn modulo(z: i64, m: i64) -> i64
 
 // The size of z, also of the least 64-bit number, which has no negative of its own.
 pub fn magnitude(z: i64) -> u64
-    ensures { λ r. ⌜ r ≡ natAbs z ⌝ }
+    ensures { λ r. ⌜ r ≡ nat_abs z ⌝ }
 {
     if z < 0 {
         let w = -(z + 1);
