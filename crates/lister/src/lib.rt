@@ -5,8 +5,6 @@
 //
 // What cannot be done is said on standard error, a line for each file that opens with the program's name, and nothing else
 // is. A program has no exit status of its own, so the command that runs it goes by these lines.
-#![tactic(auto)]
-
 pub mod archive;
 pub mod sheets;
 pub mod sums;
@@ -28,7 +26,7 @@ const ROOM: usize = 65536;
 const MOST_READS: u64 = 18_446_744_073_709_551_615;
 
 // What the files of a call are, all of them alike, and what is listed of them: nothing in a file says it.
-#[derive(Clone, Copy)]
+#[derive(Drop)]
 pub enum Files {
     Networks,
     NetworksWithErrors,
@@ -38,7 +36,7 @@ pub enum Files {
 }
 
 // The same with the files that are read in parts, each by itself.
-#[derive(Clone, Copy)]
+#[derive(Drop)]
 pub enum Kind {
     Whole(Files),
     Archives,
@@ -46,14 +44,14 @@ pub enum Kind {
 }
 
 // How many bytes came, or that a read failed.
-#[derive(Clone, Copy)]
+#[derive(Drop)]
 enum Input {
     Bytes(usize),
     Failed,
 }
 
 // What became of one file.
-#[derive(Clone, Copy)]
+#[derive(Drop)]
 pub enum Outcome {
     Listed,
     Unread,

@@ -1,7 +1,5 @@
 // The listing of a network file: its ADJ, V and K lines, an E line where the sheet has errors, and the operations on a whole file: `adjust`, which
 // answers the reply and lists an accepted net, and above it `list`, for programs.
-#![tactic(auto)]
-
 mod lines;
 mod solve;
 
@@ -14,7 +12,7 @@ use page::Listed;
 use reply::{Refusal, Reply};
 
 // What a listing holds: the adjustment alone, or at its end also the mean and the probable error of a direction, on an E line.
-#[derive(Clone, Copy)]
+#[derive(Drop)]
 pub enum Sheet {
     Plain,
     WithErrors,

@@ -1,6 +1,4 @@
 // What the programs that run vectors print with: words, numbers, lists and replies.
-#![tactic(auto)]
-
 use libc::STDOUT_FILENO;
 use reply::{Refusal, Reply};
 
