@@ -1,4 +1,6 @@
 // The program that adds up season reports: those that come on standard input, one after another.
+#![tactic(auto)]
+
 use libc::STDIN_FILENO;
 
 fn main() {

@@ -1,5 +1,7 @@
 // The adjusting program. With no argument the network file is standard input; otherwise each argument names a file, and the
 // listings follow each other.
+#![tactic(auto)]
+
 use libc::STDIN_FILENO;
 use lister::Files;
 

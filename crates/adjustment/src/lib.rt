@@ -1,6 +1,8 @@
 // Adjustment of a condition table: the one public operation, `adjust`. It checks the lent table, solves it, and only then writes the lent answer lists.
 // `adjust_own` is for `listing` and `season` alone, whose answer lists are their own: there a refusal may leave anything, and no second set of lists is needed.
 // `correct` is for `sheet` too: what follows from a table that has passed its checks and any correlates within 10^8.
+#![tactic(auto)]
+
 pub mod correct;
 mod table;
 

@@ -1,6 +1,8 @@
 // Lends the adjustment what no network file can say: lists of wrong lengths, numbers out of range that the file's own checks would meet first, and
 // numbers past a file's eleven digits. It prints the reply and the six answer lists as they are left (they held 7 everywhere): of an accepted table
 // the unrounded corrections with them, which no listing has. What it must print was worked out apart from it. What a file can say is run by `figures`.
+#![tactic(auto)]
+
 ghost use Rattle.std.specs.Prelude.{◌≤◌};
 
 const LEAST: i64 = -9_223_372_036_854_775_808;

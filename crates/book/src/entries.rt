@@ -7,7 +7,7 @@ use text::row::RowEnd;
 use text::{MOST_DIGITS, row};
 
 // How many sightings a book has, or the line that is malformed.
-#[derive(Drop)]
+#[derive(Clone, Copy)]
 pub enum Entries {
     Sightings(usize),
     Broken(u64),

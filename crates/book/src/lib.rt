@@ -1,6 +1,8 @@
 // The sighting book of a station: its lines (`entries`), the means of its sightings by `station`, and the listing of these (`lines`). `means` answers the
 // reply and lists an accepted book; `list` above it is for programs. A spoiled book is judged (`spoiled`) and parted (`parts`): `rescue` answers the
 // reply and lists what is kept or what is dropped of it, and `list_rescued` is for programs.
+#![tactic(auto)]
+
 mod entries;
 mod lines;
 pub mod parts;
@@ -34,7 +36,7 @@ fn list_sightings(
 ) -> Listed
     requires { 1136 ≤ length out.old }
     ensures { ListedBy (reply_of (book position.now object.now face.now reading.now) 16 16)
-        (stationListing (book position.now object.now face.now reading.now)) out.old result out.new }
+        (station_listing (book position.now object.now face.now reading.now)) out.old result out.new }
 {
     let mut directions = [0i64; 16];
     let mut pairs = [0i64; 16];

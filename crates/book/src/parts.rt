@@ -11,7 +11,7 @@ ghost use Rattle.book.specs.Rescue.{x_line, kept_by, dropped_by, room_for, part_
 use text::{LF, TAB, decimal, find, writer};
 
 // What of a spoiled book is listed.
-#[derive(Drop)]
+#[derive(Clone, Copy)]
 pub enum Part {
     Kept,
     Dropped,

@@ -9,7 +9,7 @@ use reply::{Refusal, Reply};
 use station::MOST;
 
 // The reply to a spoiled book, and how many sightings it has where it is accepted.
-#[derive(Drop)]
+#[derive(Clone, Copy)]
 pub struct Judged {
     pub reply: Reply,
     pub sightings: usize,

@@ -1,5 +1,7 @@
 // Runs the sighting books of `data/`: for each file that `args` names, a line with its name and then its listing. `stdout` has what
 // that must be, worked out by the independent program (see `answers`).
+#![tactic(auto)]
+
 use lister::Files;
 
 fn main() {

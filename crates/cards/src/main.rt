@@ -1,5 +1,7 @@
 // Runs the network files of `data/` that show the errors of a direction: for each file that `args` names, a line with its name and then its
 // listing with its E line. `stdout` has what that must be, worked out by the independent program (see `answers`).
+#![tactic(auto)]
+
 use lister::Files;
 
 fn main() {

@@ -1,5 +1,7 @@
 // The program that checks another office's sheet, `check` on the command line: two arguments, a net and a listing. (The crate has a longer name, since
 // the toolchain has a library of that one.)
+#![tactic(auto)]
+
 use libc::STDERR_FILENO;
 
 fn main() {

@@ -68,7 +68,7 @@ fn terms_check(
 ) -> Reply
     requires { Fields kinds.now values.now d.now i.now k.now }
     ensures { result ≡ terms_check kind m (length kinds.now)
-        (termAt kinds.now values.now d.now i.now k.now) }
+        (term_at kinds.now values.now d.now i.now k.now) }
 {
     let mut j: usize = 0;
     while j < kinds.len() {

@@ -63,7 +63,7 @@ pub fn total(
     requires small { Within 1296000000 directions.now }
     requires terms { AllSound (length directions.now) (length kinds.now) (term_at kinds.now values.now d.now i.now k.now) }
     ensures { result ≡ sum (length kinds.now) (λ j. part directions.now
-        (termAt kinds.now values.now d.now i.now k.now j)) }
+        (term_at kinds.now values.now d.now i.now k.now j)) }
 {
     let mut so_far: i64 = 0;
     let mut j: usize = 0;

@@ -1,4 +1,6 @@
 // One condition's lent terms: its coefficients and its misclosure. Both operations make the same checks, in checks.rt.
+#![tactic(auto)]
+
 ghost use Rattle.std.specs.Prelude.{◌≡◌};
 ghost use Rattle.condition.specs.Rules.{lent, target_fault};
 ghost use Rattle.condition.specs.Promise.{Coefficients, Misclosed};
@@ -13,7 +15,7 @@ mod tally;
 mod term;
 
 // The kind of a condition. An angle condition has a target; a side condition has none.
-#[derive(Drop)]
+#[derive(Clone, Copy)]
 pub enum Kind {
     Angle,
     Side,

@@ -17,7 +17,7 @@ const L: i64 = b'L' as i64;
 const R: i64 = b'R' as i64;
 
 // The kind of a term, by its letter in the network file: an angle, a fixed angle, a left and a right side term.
-#[derive(Drop)]
+#[derive(Clone, Copy)]
 pub enum Letter {
     P,
     F,
@@ -26,7 +26,7 @@ pub enum Letter {
     Unknown,
 }
 
-#[derive(Drop)]
+#[derive(Clone, Copy)]
 pub struct Term {
     pub letter: Letter,
     pub value: i64,

@@ -1,6 +1,8 @@
 // Lends both operations on a condition what no network file can say: lists of wrong lengths, numbers past a file's eleven digits, codes that are no
 // letter, fields that are not read, and refusals by direction and by term. It prints the coefficients' reply and the lent list as it is left (it held
 // 7 everywhere), then the misclosure. What it must print was worked out apart from it. What a file can say is run by `figures`.
+#![tactic(auto)]
+
 ghost use Rattle.std.specs.Prelude.{◌≤◌};
 
 use condition::Kind;

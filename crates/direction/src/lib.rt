@@ -1,4 +1,6 @@
 // The record of a direction: its value and its inverse weight q, and the check of a lent list of them.
+#![tactic(auto)]
+
 ghost use Rattle.std.specs.Prelude.{◌≡◌, length};
 ghost use Rattle.reply.specs.Verdicts.{Replies};
 ghost use Rattle.direction.specs.Ranges.{weight_out_of_range, out_of_range, directions_reply};

@@ -1,5 +1,7 @@
 // The program that lists what a rescue drops of spoiled sighting books. With no argument the book is standard input; otherwise each argument
 // names a file, and the lists follow each other.
+#![tactic(auto)]
+
 use libc::STDIN_FILENO;
 use lister::Files;
 

@@ -1,4 +1,6 @@
 // Whole numbers, exactly: the steps on 64-bit numbers that every layer shares. Each says its value in ℤ; none can overflow.
+#![tactic(auto)]
+
 ghost use Rattle.std.specs.Prelude.{◌≡◌, ℤ, pos, nat_abs, ◌<ℤ◌};
 ghost use Rattle.exact.specs.Nearest.{nearest};
 ghost use Rattle.exact.specs.Circle.{floor, modulo};

@@ -1,5 +1,7 @@
 // Runs the steps of `exact` on chosen numbers and prints what they answer: halves of both signs, the largest numerators and divisors of the
 // rules, the ends of the 64-bit range, figure 7's -12.5. What it must print was worked out apart from it.
+#![tactic(auto)]
+
 ghost use Rattle.std.specs.Prelude.{pos, _<ℤ_};
 
 // A line: the two numbers, and what they gave.

@@ -75,7 +75,7 @@ fn feed_arguments(program: &[u8], held: &mut [u8], totals: &mut [u64], place: &m
 // Ends the stream, and prints its report into a lent buffer; how many bytes that has.
 fn print(held: &[u8], totals: &mut [u64], place: &mut [u64], out: &mut [u8]) -> usize
     ensures report { Wrote out.old 0
-        (endedIn (length out.old) held.now totals.old place.old) out.new result }
+        (ended_in (length out.old) held.now totals.old place.old) out.new result }
     ensures within { result ≤ length out.old }
 {
     let verdict = reply::tell(stream::end(held, totals, place));

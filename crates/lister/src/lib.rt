@@ -5,6 +5,8 @@
 //
 // What cannot be done is said on standard error, a line for each file that opens with the program's name, and nothing else
 // is. A program has no exit status of its own, so the command that runs it goes by these lines.
+#![tactic(auto)]
+
 pub mod archive;
 pub mod sheets;
 pub mod sums;
@@ -26,7 +28,7 @@ const ROOM: usize = 65536;
 const MOST_READS: u64 = 18_446_744_073_709_551_615;
 
 // What the files of a call are, all of them alike, and what is listed of them: nothing in a file says it.
-#[derive(Drop)]
+#[derive(Clone, Copy)]
 pub enum Files {
     Networks,
     NetworksWithErrors,
@@ -36,7 +38,7 @@ pub enum Files {
 }
 
 // The same with the files that are read in parts, each by itself.
-#[derive(Drop)]
+#[derive(Clone, Copy)]
 pub enum Kind {
     Whole(Files),
     Archives,
@@ -44,14 +46,14 @@ pub enum Kind {
 }
 
 // How many bytes came, or that a read failed.
-#[derive(Drop)]
+#[derive(Clone, Copy)]
 enum Input {
     Bytes(usize),
     Failed,
 }
 
 // What became of one file.
-#[derive(Drop)]
+#[derive(Clone, Copy)]
 pub enum Outcome {
     Listed,
     Unread,

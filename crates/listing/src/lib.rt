@@ -1,5 +1,7 @@
 // The listing of a network file: its ADJ, V and K lines, an E line where the sheet has errors, and the operations on a whole file: `adjust`, which
 // answers the reply and lists an accepted net, and above it `list`, for programs.
+#![tactic(auto)]
+
 mod lines;
 mod solve;
 
@@ -12,7 +14,7 @@ use page::Listed;
 use reply::{Refusal, Reply};
 
 // What a listing holds: the adjustment alone, or at its end also the mean and the probable error of a direction, on an E line.
-#[derive(Drop)]
+#[derive(Clone, Copy)]
 pub enum Sheet {
     Plain,
     WithErrors,

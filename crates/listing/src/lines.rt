@@ -49,7 +49,7 @@ fn put_ks(out: &mut [u8], at: usize, k: &[i64], r: &[i64], q: &[i64], n: usize) 
     requires n_in_bounds_3 { n ≤ length r.now }
     requires n_in_bounds_4 { n ≤ length q.now }
     ensures { Wrote out.old at
-        (kLines n k.now r.now q.now) out.new result }
+        (k_lines n k.now r.now q.now) out.new result }
 {
     let mut next = at;
     let mut j = 0;

@@ -50,8 +50,8 @@ fn list_table(
     requires v_len { (length v.old ≡ length directions.now) × (length u.old ≡ length directions.now) × (length adjusted.old ≡ length directions.now) }
     requires k_len { (length k.old ≡ length w.now) × (length r.old ≡ length w.now) × (length misses.old ≡ length w.now) }
     ensures { ListedBy
-        (adjustReply directions.now q.now a.now w.now (room (length directions.now) (length w.now)))
-        (tableListing sheet directions.now q.now a.now w.now) out.old result out.new }
+        (adjust_reply directions.now q.now a.now w.now (room (length directions.now) (length w.now)))
+        (table_listing sheet directions.now q.now a.now w.now) out.old result out.new }
 {
     let reply = adjustment::adjust_own(directions, q, a, w, v, u, adjusted, k, r, misses);
     if let Reply::Refused(why) = reply {
@@ -79,8 +79,8 @@ pub fn solve(
 ) -> Listed
     requires { (length directions.now ≤ 64) × (length w.now ≤ 24) × (room_of sheet ≤ length out.old) × (length q.now ≡ length directions.now) }
     ensures { ListedBy
-        (adjustReply directions.now q.now a.now w.now (room (length directions.now) (length w.now)))
-        (tableListing sheet directions.now q.now a.now w.now) out.old result out.new }
+        (adjust_reply directions.now q.now a.now w.now (room (length directions.now) (length w.now)))
+        (table_listing sheet directions.now q.now a.now w.now) out.old result out.new }
 {
     let m = directions.len();
     let n = w.len();

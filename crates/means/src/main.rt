@@ -1,5 +1,7 @@
 // The program of station means. With no argument the sighting book is standard input; otherwise each argument names a file, and the
 // listings follow each other.
+#![tactic(auto)]
+
 use libc::STDIN_FILENO;
 use lister::Files;
 

@@ -13,7 +13,7 @@ use condition::Kind;
 use reply::{Figure, Refusal, Reply};
 
 // The heading that a line is, or none.
-#[derive(Drop)]
+#[derive(Clone, Copy)]
 pub enum Heading {
     Of { kind: Kind, target: i64 },
     NoHeading,
@@ -73,13 +73,13 @@ fn form(
 ) -> Figure
     requires { length row.old ≡ length directions.now }
     ensures figure { result ≡ figure_of
-        (conditionReply directions.now q.now j
-        (conditionIn kind target kinds.now values.now d.now i.now k.now))
-        (misclosureOf directions.now q.now
-        (conditionIn kind target kinds.now values.now d.now i.now k.now)) }
+        (condition_reply directions.now q.now j
+        (condition_in kind target kinds.now values.now d.now i.now k.now))
+        (misclosure_of directions.now q.now
+        (condition_in kind target kinds.now values.now d.now i.now k.now)) }
     ensures list { row.new ≡ coefficients_list
         (lent_of directions.now q.now
-        (conditionIn kind target kinds.now values.now d.now i.now k.now)) row.old }
+        (condition_in kind target kinds.now values.now d.now i.now k.now)) row.old }
 {
     let checked = condition::coefficients(directions, q, kind, target, kinds, values, d, i, k, row);
     if let Reply::Refused(_) = checked {
@@ -94,7 +94,7 @@ fn form(
 
 // What has become of one condition: its misclosure, or why not; and the first line after its terms: where it starts, what it says, and where the next
 // one starts.
-#[derive(Drop)]
+#[derive(Clone, Copy)]
 pub struct Closed {
     pub figure: Figure,
     pub at: usize,
@@ -149,7 +149,7 @@ fn form_at(
 }
 
 // What has been formed: n rows, misclosures and letters, or why not.
-#[derive(Drop)]
+#[derive(Clone, Copy)]
 pub struct Formed {
     pub reply: Reply,
     pub n: usize,

@@ -9,7 +9,7 @@ use crate::record;
 use crate::record::Record;
 
 // How many there are, where the first line after them starts, and what it says, with the start of the next if it says something.
-#[derive(Drop)]
+#[derive(Clone, Copy)]
 pub struct Directions {
     pub m: usize,
     pub at: usize,

@@ -1,4 +1,6 @@
 // The network file: refusals 1 to 5, and the condition table of a file that gets none of them.
+#![tactic(auto)]
+
 mod conditions;
 mod directions;
 mod record;
@@ -12,7 +14,7 @@ ghost use Rattle.text.specs.Lines.{lines_of};
 use reply::Reply;
 
 // What has become of a file: the reply, and of an accepted one the counts of its directions and conditions.
-#[derive(Drop)]
+#[derive(Clone, Copy)]
 pub struct Tabled {
     pub reply: Reply,
     pub m: usize,

@@ -10,7 +10,7 @@ use text::row::RowEnd;
 use text::{LF, MOST_DIGITS, TAB, row};
 
 // What a line says.
-#[derive(Drop)]
+#[derive(Clone, Copy)]
 pub enum Record {
     // D: number, direction, q.
     Direction {
@@ -37,7 +37,7 @@ pub enum Record {
 }
 
 // What the line at a start says, and where the next one starts if it says something.
-#[derive(Drop)]
+#[derive(Clone, Copy)]
 pub struct Turn {
     pub said: Record,
     pub next: usize,

@@ -16,7 +16,7 @@ const MOST_CONDITIONS: u64 = 24;
 const MOST_TERMS: u64 = 12;
 
 // What has been counted so far: directions, conditions, terms of the last condition, and its letter (0 before any).
-#[derive(Drop)]
+#[derive(Clone, Copy)]
 pub struct Counts {
     pub m: u64,
     pub n: u64,

@@ -1,5 +1,7 @@
 // The public operations for programs in C, C++ and Rust. Each calls the library's own operation and tells its reply in numbers; nothing is worked
 // out here. A lent list comes as a pointer and a length. include/molsadriu.h declares these functions.
+#![tactic(auto)]
+
 ghost use Rattle.std.specs.Prelude.{◌≡◌, ◌≤◌, length, take, drop};
 ghost use Rattle.reply.specs.Checks.{leaves};
 ghost use Rattle.reply.specs.Verdicts.{verdict_of};
@@ -28,7 +30,7 @@ use station::Rescued;
 use text::line::LineStatus;
 
 // The kind of condition that a letter names.
-#[derive(Drop)]
+#[derive(Clone, Copy)]
 enum Heading {
     Named(Kind),
     Unknown,
@@ -173,7 +175,7 @@ pub extern "C" fn molsadriu_coefficients(
     a: &mut [i64],
 ) -> Verdict
     ensures { Coefficients (heading_of letter)
-        (termsOf directions.now q.now target
+        (terms_of directions.now q.now target
         kinds.now values.now d.now i.now k.now)
         a.old result a.new }
 {
@@ -200,7 +202,7 @@ pub extern "C" fn molsadriu_misclosure(
     w: &mut i64,
 ) -> Verdict
     ensures { Misclosed (heading_of letter)
-        (termsOf directions.now q.now target
+        (terms_of directions.now q.now target
         kinds.now values.now d.now i.now k.now)
         w.old result w.new }
 {

@@ -1,4 +1,6 @@
 // What the listings of all files have in common: their lines, the REFUSED line of a refusal, and what is printed of a file once it has been listed.
+#![tactic(auto)]
+
 pub mod lines;
 
 ghost use Rattle.std.specs.Prelude.{◌≤◌, length};
@@ -11,7 +13,7 @@ use reply::{Reply, Verdict};
 pub const REFUSED_LINE: usize = 52;
 
 // What becomes of a file: the reply, and how many bytes the listing of an accepted one has.
-#[derive(Drop)]
+#[derive(Clone, Copy)]
 pub struct Listed {
     pub reply: Reply,
     pub length: usize,

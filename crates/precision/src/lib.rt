@@ -1,5 +1,7 @@
 // Mean and probable error of a direction, from printed corrections u, their inverse weights q and the number n of conditions: the public
 // operation on lent lists, `probable_error`, and `estimate`, for lists that it accepts.
+#![tactic(auto)]
+
 mod root;
 mod squares;
 
@@ -12,7 +14,7 @@ use adjustment::MINUTE;
 use reply::{Refusal, Reply};
 
 // The mean and the probable error of a direction, in 0.001 second.
-#[derive(Drop)]
+#[derive(Clone, Copy)]
 pub struct Errors {
     pub mean: i64,
     pub probable: i64,

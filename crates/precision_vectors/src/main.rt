@@ -1,6 +1,8 @@
 // Lends `precision::probable_error` what no network file can say: lists of unequal length, counts out of range, numbers out of range, and
 // corrections that no adjustment gives. It prints the reply and the two lent numbers as they are left, which held 7 and 8. What it must print
 // was worked out apart from it. What a file can say is run by `cards`.
+#![tactic(auto)]
+
 ghost use Rattle.std.specs.Prelude.{◌≤◌};
 
 const LEAST: i64 = -9_223_372_036_854_775_808;

@@ -1,5 +1,7 @@
 // The program of a direction's probable error. With no argument the network file is standard input; otherwise each argument names a file,
 // and the listings follow each other, each with its E line.
+#![tactic(auto)]
+
 use libc::STDIN_FILENO;
 use lister::Files;
 

@@ -1,11 +1,13 @@
 // The replies: why an input is refused, what an operation answers, and what a caller is told of it in the rules' numbers. Number and place stand in
 // one definition each (specs/Numbers.antt), which `number` and `place` give; `refuse` and `tell` give both as a verdict (specs/Verdicts.antt).
+#![tactic(auto)]
+
 ghost use Rattle.std.specs.Prelude.{◌≡◌};
 ghost use Rattle.reply.specs.Numbers.{number_of, place_of};
 ghost use Rattle.reply.specs.Verdicts.{refused, verdict_of};
 
 // Why an input is refused. Lines, ordinals, directions, rows and conditions count from 1; 0 is a place seen only at the end or from the length.
-#[derive(Drop)]
+#[derive(Clone, Copy)]
 pub enum Refusal {
     // A line is malformed, unknown or under the wrong heading; a term's kind doesn't fit: its line or ordinal.
     Malformed(u64),
@@ -46,14 +48,14 @@ pub enum Refusal {
 }
 
 // What an operation answers that leaves its results in lent lists.
-#[derive(Drop)]
+#[derive(Clone, Copy)]
 pub enum Reply {
     Accepted,
     Refused(Refusal),
 }
 
 // What an operation answers whose result is one number.
-#[derive(Drop)]
+#[derive(Clone, Copy)]
 pub enum Figure {
     Value(i64),
     Refused(Refusal),
@@ -61,7 +63,7 @@ pub enum Figure {
 
 // What a caller is told: 0 and 0 where the input is accepted, else the rules' number and place of the refusal.
 #[repr(C)]
-#[derive(Drop)]
+#[derive(Clone, Copy)]
 pub struct Verdict {
     pub number: u64,
     pub place: u64,

@@ -1,5 +1,7 @@
 // The program of the season report. With no argument the archive is standard input; otherwise the files that the arguments name are one archive,
 // joined byte by byte.
+#![tactic(auto)]
+
 use libc::STDIN_FILENO;
 use lister::archive;
 

@@ -1,5 +1,7 @@
 // The program that rescues spoiled sighting books. With no argument the book is standard input; otherwise each argument names a file, and the
 // lines that are kept of each follow each other.
+#![tactic(auto)]
+
 use libc::STDIN_FILENO;
 use lister::Files;
 

@@ -1,4 +1,6 @@
 // Season reports: of an archive in memory (`report`), and of one that comes in parts (`stream`).
+#![tactic(auto)]
+
 mod archive;
 mod net;
 pub mod stream;

@@ -124,7 +124,7 @@ fn reply_to(directions: &[i64], q: &[i64], a: &[i64], w: &[i64]) -> Reply
 fn table_share(directions: &[i64], q: &[i64], a: &[i64], w: &[i64], letters: &[u8]) -> [u64; 16]
     requires { (length directions.now ≤ 64) × (length w.now ≤ 24) × (length letters.now ≡ length w.now) }
     ensures { result ≡ share_with
-        (adjustReply directions.now q.now a.now w.now (room (length directions.now) (length w.now)))
+        (adjust_reply directions.now q.now a.now w.now (room (length directions.now) (length w.now)))
         (figures letters.now w.now a.now (length directions.now)) }
 {
     let reply = reply_to(directions, q, a, w);

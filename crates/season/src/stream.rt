@@ -21,7 +21,7 @@ pub const PLACES: usize = 3;
 
 // Where a stream stands: how many bytes the open net has, counted to 65,537; 0 at the start of a line, 1 after a full stop there, 2 elsewhere;
 // and 1 once a net past 100,000 has come.
-#[derive(Drop)]
+#[derive(Clone, Copy)]
 pub struct Place {
     pub bytes: u64,
     pub line: u64,

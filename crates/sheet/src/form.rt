@@ -17,7 +17,7 @@ const MOST_DIGITS: usize = 18;
 pub const NUMBERS: usize = 352;
 
 // The counts of a listing that is well formed, or the line that is not the one due.
-#[derive(Drop)]
+#[derive(Clone, Copy)]
 pub enum Form {
     Lines(usize, usize),
     Malformed(u64),

@@ -1,5 +1,7 @@
 // Another office's sheet: a listing, whoever made it, held against a network file. `check` says yes, no with the line of the first test that fails, or
 // why there is nothing to check; `print` writes that down for programs.
+#![tactic(auto)]
+
 mod compare;
 mod form;
 
@@ -14,7 +16,7 @@ use reply::{Refusal, Reply};
 use text::{LF, writer};
 
 // What is said of a sheet.
-#[derive(Drop)]
+#[derive(Clone, Copy)]
 pub enum Opinion {
     // It agrees with the net, line by line.
     Yes,

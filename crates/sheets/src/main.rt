@@ -1,5 +1,7 @@
 // Runs the sheets of `data/`: for each net and sheet that `args` names by turns, a line with the sheet's name and then the answer's line. `stdout` has
 // what that must be, worked out by the independent program (see `answers`).
+#![tactic(auto)]
+
 fn main() {
     lister::sheets::check_arguments(b"sheets");
 }

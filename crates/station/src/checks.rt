@@ -15,7 +15,7 @@ const MOST_APART: u64 = 60000;
 const MOST_SPREAD: u64 = 120000;
 
 // What a check over the table asks of each place.
-#[derive(Drop)]
+#[derive(Clone, Copy)]
 pub enum Check {
     // 23: each object sighted in a position has one left and one right sighting there.
     PairsWhole,

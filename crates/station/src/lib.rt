@@ -2,6 +2,8 @@
 // The list is read twice, once to check its fields (`fields`) and once into a table by face, position and object (`table`). All that follows works
 // on the table: the checks of pairs and positions (`checks`) on the figures of a pair (`pair`), and the directions (`answer`).
 // A spoiled list is rescued by the same table and checks (`steps`): what they find at fault is dropped, and the list is parted (`parting`).
+#![tactic(auto)]
+
 mod answer;
 mod checks;
 mod fields;
@@ -22,7 +24,7 @@ use reply::{Refusal, Reply};
 pub const MOST: usize = 512;
 
 // What becomes of a spoiled list: the reply, and how many sightings are kept and dropped where it is accepted.
-#[derive(Drop)]
+#[derive(Clone, Copy)]
 pub struct Rescued {
     pub reply: Reply,
     pub kept: usize,

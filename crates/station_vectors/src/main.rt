@@ -1,6 +1,8 @@
 // Lends `station::means` what no sighting book can say: lists of unequal length, answer lists of another length than 16, and fields past a file's
 // eleven digits. It prints the reply and the answer lists as they are left, which held 7 everywhere: a refusal changes neither, and an answer fills
 // the 16 places of both, with 0 and 0 for an object never seen. What it must print was worked out apart from it. What a book can say is run by `books`.
+#![tactic(auto)]
+
 ghost use Rattle.std.specs.Prelude.{◌≤◌};
 
 const LEAST: i64 = -9_223_372_036_854_775_808;

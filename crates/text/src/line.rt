@@ -5,7 +5,7 @@ ghost use Rattle.text.specs.Lines.{line_at, status_at};
 use crate::{LF, find};
 
 // What stands at a start.
-#[derive(Drop)]
+#[derive(Clone, Copy)]
 pub enum LineStatus {
     // A line with its LF.
     Whole,

@@ -13,34 +13,34 @@ const NINE: u8 = 57;
 const MINUS: u8 = 45;
 
 // What a text without its minus holds.
-#[derive(Drop)]
+#[derive(Clone, Copy)]
 enum Digits {
     Whole(u64),
     NoDigits,
 }
 
-#[derive(Drop)]
+#[derive(Clone, Copy)]
 pub enum Number {
     Value(i64),
     Malformed,
 }
 
 // The digits that stand at a start, so many at most: their value, and where they end.
-#[derive(Drop)]
+#[derive(Clone, Copy)]
 struct Span {
     value: u64,
     end: usize,
 }
 
 // The digits up to a byte, and the place after that byte.
-#[derive(Drop)]
+#[derive(Clone, Copy)]
 struct Unsigned {
     digits: Digits,
     next: usize,
 }
 
 // The number up to a byte, and the place after that byte.
-#[derive(Drop)]
+#[derive(Clone, Copy)]
 pub struct Read {
     pub number: Number,
     pub next: usize,

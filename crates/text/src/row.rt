@@ -6,7 +6,7 @@ use crate::number::Number;
 use crate::{LF, TAB, number};
 
 // Where the next line starts, or that there is no such row.
-#[derive(Drop)]
+#[derive(Clone, Copy)]
 pub enum RowEnd {
     Next(usize),
     NoRow,

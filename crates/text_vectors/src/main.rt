@@ -1,4 +1,6 @@
 // Runs the line reader and the numbers on chosen inputs and prints what they answer. What it must print was worked out apart from it.
+#![tactic(auto)]
+
 use text::line::LineStatus;
 use text::number::Number;
 use text::{LF, MOST_DIGITS, line, number};

@@ -18,14 +18,14 @@ pub const HELD: usize = 64;
 const DIGITS: usize = 18;
 
 // What a line says: its one or two numbers, the second 0 where it has one; or that it is not the line due.
-#[derive(Drop)]
+#[derive(Clone, Copy)]
 enum Entry {
     Numbers(u64, u64),
     Malformed,
 }
 
 // What is known of the reports read so far.
-#[derive(Drop)]
+#[derive(Clone, Copy)]
 pub struct Tally {
     // Lines read, and the line of a report that is due, from 0.
     pub line: u64,
@@ -42,7 +42,7 @@ pub struct Tally {
 }
 
 // The same, and how many bytes of the next line the lent buffer holds.
-#[derive(Drop)]
+#[derive(Clone, Copy)]
 pub struct Adding {
     pub length: usize,
     pub tally: Tally,

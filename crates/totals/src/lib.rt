@@ -1,5 +1,7 @@
 // The sixteen totals of a season report (specs/Totals.antt has their places): a net's share added to them, the public operation on two reports, a report as
 // text, and the sum of reports that come as text.
+#![tactic(auto)]
+
 pub mod adding;
 pub mod report;
 

@@ -1,5 +1,7 @@
 // Whether two conditions of a table share three or more directions. The touched directions of each condition are the ones of a 64-bit word, the first
 // direction lowest; those that two conditions share are the ones that both words have.
+#![tactic(auto)]
+
 ghost use Rattle.std.specs.Prelude.{◌≡◌, not, ◌+◌, ◌*◌, ◌^◌, ◌≤◌, ◌<◌, length, pos};
 ghost use Rattle.exact.specs.Same.{same};
 ghost use Rattle.exact.specs.First.{some_below};

@@ -1,4 +1,6 @@
 // What the programs that run vectors print with: words, numbers, lists and replies.
+#![tactic(auto)]
+
 use libc::STDOUT_FILENO;
 use reply::{Refusal, Reply};
 
