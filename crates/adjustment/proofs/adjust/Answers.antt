@@ -34,16 +34,16 @@ module _ (s : Start) where
 
 pub returns-in-Refused : goal.returns-in-Refused
 returns-in-Refused c =
-    let k = c.before.before.before in let s = k.before in
-    refused_adjusts (ds s) (q s) (a s) (w s) (lent s) _ (refused_input (ds s) (q s) (a s) (w s) (lent s) (sym k.check-input.ensures ∙ c.before.input-1.given.1))
+    let s = c.before.before in
+    refused_adjusts (ds s) (q s) (a s) (w s) (lent s) _ (refused_input (ds s) (q s) (a s) (w s) (lent s) (sym c.check-input.ensures ∙ c.in-Refused.is))
 
 -- the table has passed its input checks
 module _ (c : In_default) where
   abbrev start : Start
-  start = c.before.before.before
+  start = c.before.before
 
   passed : Passed (ds start) (q start) (a start) (w start) (lent start)
-  passed = passed_table (ds start) (q start) (a start) (w start) (lent start) (sym c.before.before.check-input.ensures ∙ c.enum_told-1.given.1)
+  passed = passed_table (ds start) (q start) (a start) (w start) (lent start) (sym c.check-input.ensures ∙ c.in_default.is)
 
 pub solve-reply-requires : goal.solve-reply-requires
 solve-reply-requires c = let s = (passed c.before.before.before.before).sound in record {
@@ -54,25 +54,25 @@ solve-reply-requires c = let s = (passed c.before.before.before.before).sound in
 
 pub returns-in-Refused-reply : goal.returns-in-Refused-reply
 returns-in-Refused-reply c =
-    let k = c.before.before.before.before.before.before.before in let d = k.before.before.before.before.before in let s = start d in
-    refused_adjusts (ds s) (q s) (a s) (w s) (lent s) _ ((passed d).reply-1 ∙ sym k.solve-reply.ensures.value ∙ c.before.reply-1.given.1)
+    let d = c.before.before.before.before.before.before.before.before.before.before in let s = start d in
+    refused_adjusts (ds s) (q s) (a s) (w s) (lent s) _ ((passed d).reply-1 ∙ sym c.solve-reply.ensures.value ∙ c.in-Refused-reply.is)
 
 -- the table is solved
 module _ (c : In_default-reply) where
   abbrev solved : After-solve-reply
-  solved = c.before.before.before.before.before.before
+  solved = c.before.before.before.before.before
 
   abbrev told : In_default
   told = solved.before.before.before.before.before
 
   accepted : solution_reply (t (start told)) ≡ Accepted
-  accepted = sym solved.solve-reply.ensures.value ∙ c.enum_told-in_default-reply-1.given.1
+  accepted = sym solved.solve-reply.ensures.value ∙ c.in_default-reply.is
 
 pub answer-requires : goal.answer-requires
 answer-requires c =
     let e = c.before.before.before.before.before.before.before.before.before.before in let k = (solved e).solve-reply.auto.1.1.1 in let p = passed (told e) in let s = p.sound in record {
       sound = s;
-      solved = (solved e).solve-reply.ensures.solved e.enum_told-in_default-reply-1.given.1;
+      solved = (solved e).solve-reply.ensures.solved e.in_default-reply.is;
       q_in_bounds = (omega (arith, k.0, s.m_most), omega (arith, k.1.0, s.m_most), omega (arith, k.1.1.0, s.n_most), omega (arith, k.1.1.1.0, s.n_most));
       directions_len = (p.directions, p.in_circle);
       corrections_len = p.by_direction;
@@ -81,5 +81,5 @@ answer-requires c =
 
 pub returns : goal.returns
 returns c =
-    let r = c.before.before.before.before.before.before in let e = r.before.before.before.before.before.before.before.before.before.before.before in let d = told e in let s = start d in
-    accepted_adjusts (ds s) (q s) (a s) (w s) (lent s) (accepted e) (passed d).sound (passed d).reply-1 _ r.answer.ensures
+    let e = c.before.before.before.before.before.before.before.before.before.before.before.before.before.before.before.before.before in let d = told e in let s = start d in
+    accepted_adjusts (ds s) (q s) (a s) (w s) (lent s) (accepted e) (passed d).sound (passed d).reply-1 _ c.answer.ensures

@@ -42,16 +42,16 @@ module _ (s : Start) where
 
 pub returns-in-Refused : goal.returns-in-Refused
 returns-in-Refused c =
-    let k = c.before.before.before in let s = k.before in
-    record { answer = sym (refused_input (ds s) (q s) (a s) (w s) (lent s) (sym k.check-input.ensures ∙ c.before.input-1.given.1)); lists = never _ }
+    let s = c.before.before in
+    record { answer = sym (refused_input (ds s) (q s) (a s) (w s) (lent s) (sym c.check-input.ensures ∙ c.in-Refused.is)); lists = never _ }
 
 -- the table has passed its input checks
 module _ (c : In_default) where
   abbrev start : Start
-  start = c.before.before.before
+  start = c.before.before
 
   passed : Passed (ds start) (q start) (a start) (w start) (lent start)
-  passed = passed_table (ds start) (q start) (a start) (w start) (lent start) (sym c.before.before.check-input.ensures ∙ c.enum_told-1.given.1)
+  passed = passed_table (ds start) (q start) (a start) (w start) (lent start) (sym c.check-input.ensures ∙ c.in_default.is)
 
 pub solve-reply-requires : goal.solve-reply-requires
 solve-reply-requires c =
@@ -64,45 +64,45 @@ solve-reply-requires c =
 
 pub returns-in-Refused-reply : goal.returns-in-Refused-reply
 returns-in-Refused-reply c =
-    let k = c.before.before.before.before.before.before.before in let d = k.before.before.before.before.before in
-    record { answer = sym ((passed d).reply-1 ∙ sym k.solve-reply.ensures.value ∙ c.before.reply-1.given.1); lists = never _ }
+    let d = c.before.before.before.before.before.before.before.before.before.before in
+    record { answer = sym ((passed d).reply-1 ∙ sym c.solve-reply.ensures.value ∙ c.in-Refused-reply.is); lists = never _ }
 
 -- the table is solved, in the lists themselves
 module _ (c : In_default-reply) where
   abbrev after : After-solve-reply
-  after = c.before.before.before.before.before.before
+  after = c.before.before.before.before.before
 
   abbrev told : In_default
   told = after.before.before.before.before.before
 
   abbrev v : List ℤ
-  v = after.solve-reply.last.1.1.1.0
+  v = after.solve-reply.new.v
 
   abbrev u : List ℤ
-  u = after.solve-reply.last.1.1.1.1.0
+  u = after.solve-reply.new.u
 
   abbrev k : List ℤ
-  k = after.solve-reply.last.1.1.1.1.1.0
+  k = after.solve-reply.new.k
 
   abbrev r : List ℤ
-  r = after.solve-reply.last.1.1.1.1.1.1.0
+  r = after.solve-reply.new.r
 
   u_long : length u ≡ length (q (start told))
-  u_long = after.solve-reply.kept.1.1.1.1.0 ∙ (passed told).by_direction.1
+  u_long = after.solve-reply.auto.u ∙ (passed told).by_direction.1
 
   solved : Solved (t (start told)) k v u r
-  solved = after.solve-reply.ensures.solved c.enum_told-in_default-reply-1.given.1
+  solved = after.solve-reply.ensures.solved c.in_default-reply.is
 
 pub adjust_directions-requires : goal.adjust_directions-requires
 adjust_directions-requires c =
-    let e = c.before.before in let p = passed (told e) in let l = p.by_direction.2 in record {
+    let e = c.before in let p = passed (told e) in let l = p.by_direction.2 in record {
       adjusted_in_bounds = (omega (arith, l, p.directions), omega (arith, l, u_long e));
       small = ((λ i h. p.in_circle i (omega (arith, l))), λ i h. u_size (solved e) i (omega (arith, l)));
     }
 
 pub print_remainders-requires : goal.print_remainders-requires
 print_remainders-requires c =
-    let e = c.before.before.before.before.before.before in let p = passed (told e) in record {
+    let e = c.before.before.before.before in let p = passed (told e) in record {
       sound = p.sound;
       q_in_bounds = (omega (arith, u_long e), p.by_condition.2);
       small = u_size (solved e);
@@ -110,14 +110,14 @@ print_remainders-requires c =
 
 pub returns : goal.returns
 returns c =
-    let g = c.before.before.before.before.before in let e = g.before.before.before in let d = told e in let p = passed d in let s = start d in let l = solved e in let kept = (after e).solve-reply.auto.1.1.1 in
+    let e = c.before.before.before.before.before.before in let d = told e in let p = passed d in let s = start d in let l = solved e in let kept = (after e).solve-reply.auto.1.1.1 in
     record {
-      answer = sym (p.reply-1 ∙ sym (after e).solve-reply.ensures.value ∙ e.enum_told-in_default-reply-1.given.1);
+      answer = sym (p.reply ∙ sym (after e).solve-reply.ensures.value ∙ e.in_default-reply.is);
       lists = λ f i. lists
-          (tabulate_is (pos 0) (t s).m (V_of (t s) (K (t s))) (v e) (kept.0 ∙ p.by_direction.0) l.v-1 i)
-          (tabulate_is (pos 0) (t s).m (u_of (t s) (K (t s))) (u e) (u_long e) l.u-1 i)
-          ((g.adjust_directions.ensures ∙ ap (λ (m : ℕ). tabulate m (λ i. modulo (get_or (ds s) i (pos 0) +ℤ get_or (u e) i (pos 0)) C)) p.by_direction.2 ∙ adjusted_list l (ds s)) i)
-          (tabulate_is (pos 0) (t s).n (K (t s)) (k e) (kept.1.1.0 ∙ p.by_condition.0) l.k-1 i)
-          (tabulate_is (pos 0) (t s).n (R_of (t s) (K (t s))) (r e) (kept.1.1.1.0 ∙ p.by_condition.1) l.r-1 i)
-          ((c.before.print_remainders.ensures ∙ misses_list l) i);
+          (tabulate_is (pos 0) (t s).m (V_of (t s) (K (t s))) (v e) (kept.0 ∙ p.by_direction.0) l.v i)
+          (tabulate_is (pos 0) (t s).m (u_of (t s) (K (t s))) (u e) (u_long e) l.u i)
+          ((c.adjust_directions.ensures ∙ ap (λ (m : ℕ). tabulate m (λ i. modulo (get_or (ds s) i (pos 0) +ℤ get_or (u e) i (pos 0)) C)) p.by_direction.2 ∙ adjusted_list l (ds s)) i)
+          (tabulate_is (pos 0) (t s).n (K (t s)) (k e) (kept.1.1.0 ∙ p.by_condition.0) l.k i)
+          (tabulate_is (pos 0) (t s).n (R_of (t s) (K (t s))) (r e) (kept.1.1.1.0 ∙ p.by_condition.1) l.r i)
+          ((c.print_remainders.ensures ∙ misses_list l) i);
     }

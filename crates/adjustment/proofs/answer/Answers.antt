@@ -33,18 +33,18 @@ module _ (s : Start) where
   r = s.args.r.now
 
   solved : Solved t k v u r
-  solved = s.requires.solved.0
+  solved = s.requires.solved
 
 pub adjust_directions-requires : goal.adjust_directions-requires
 adjust_directions-requires c =
-    let s = c.before.before.before.before.before.before.before.before.before.before.before.before.before in let p = s.requires.solved.1 in let e = p.1.1.0.2 in record {
+    let s = c.before.before.before.before.before.before.before.before.before.before.before.before.before in let p = s.requires.1.1 in let e = p.1.1.0.2 in record {
       adjusted_in_bounds = (omega (arith, e, p.1.0.0), omega (arith, e, p.0.1));
       small = ((λ i l. p.1.0.1 i (omega (arith, e))), λ i l. u_size (solved s) i (omega (arith, e)));
     }
 
 pub print_remainders-requires : goal.print_remainders-requires
 print_remainders-requires c =
-    let s = c.before.before.before.before.before.before.before.before.before.before.before.before.before.before.before.before in let p = s.requires.solved.1 in record {
+    let s = c.before.before.before.before.before.before.before.before.before.before.before.before.before.before.before.before in let p = s.requires.1.1 in record {
       sound = s.requires.sound;
       q_in_bounds = (p.0.1, p.1.1.1.2);
       small = u_size (solved s);
@@ -52,11 +52,11 @@ print_remainders-requires c =
 
 pub returns : goal.returns
 returns c =
-    let a = c.before.before.before.before in let st4 = a.before.before.before in let st3 = st4.before.before.before in let st2 = st3.before.before.before in let st = st2.before.before.before in let s = st.before.before in let p = s.requires.solved.1.1.1 in let e = solved s in
+    let s = c.before.before.before.before.before.before.before.before.before.before.before.before.before.before.before.before.before.before in let p = s.requires.1.1.1.1 in let e = solved s in
     λ i. lists
-    ((st.store.ensures ∙ ap (λ (m : ℕ). tabulate m (at (v s))) p.0.0 ∙ corrections_list e) i)
-    ((st2.store-2.ensures ∙ ap (λ (m : ℕ). tabulate m (at (u s))) p.0.1 ∙ printed_list e) i)
-    ((a.adjust_directions.ensures ∙ ap (λ (m : ℕ). tabulate m (λ i. modulo (get_or s.args.directions.now i (pos 0) +ℤ get_or (u s) i (pos 0)) C)) p.0.2 ∙ adjusted_list e s.args.directions.now) i)
-    ((st3.store-3.ensures ∙ ap (λ (n : ℕ). tabulate n (at (k s))) p.1.0 ∙ correlates_list e) i)
-    ((st4.store-4.ensures ∙ ap (λ (n : ℕ). tabulate n (at (r s))) p.1.1 ∙ remainders_list e) i)
-    ((c.before.print_remainders.ensures ∙ misses_list e) i)
+    ((c.store.ensures ∙ ap (λ (m : ℕ). tabulate m (at (v s))) p.0.0 ∙ corrections_list e) i)
+    ((c.store-2.ensures ∙ ap (λ (m : ℕ). tabulate m (at (u s))) p.0.1 ∙ printed_list e) i)
+    ((c.adjust_directions.ensures ∙ ap (λ (m : ℕ). tabulate m (λ i. modulo (get_or s.args.directions.now i (pos 0) +ℤ get_or (u s) i (pos 0)) C)) p.0.2 ∙ adjusted_list e s.args.directions.now) i)
+    ((c.store-3.ensures ∙ ap (λ (n : ℕ). tabulate n (at (k s))) p.1.0 ∙ correlates_list e) i)
+    ((c.store-4.ensures ∙ ap (λ (n : ℕ). tabulate n (at (r s))) p.1.1 ∙ remainders_list e) i)
+    ((c.print_remainders.ensures ∙ misses_list e) i)

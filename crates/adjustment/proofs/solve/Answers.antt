@@ -26,31 +26,31 @@ table s = table_of s.args.q.now s.args.a.now s.args.w.now
 
 module _ (c : Else-sound-n) where
   abbrev start1 : Start
-  start1 = c.before.before.before
+  start1 = c.before.before.before.before
 
   abbrev rows : List (List ℤ)
-  rows = c.before.reduce-sound.new.1.1.1.0
+  rows = c.reduce-sound.new.rows
 
   no_weak : (rows_reply (table start1) ≡ Accepted) × Failed (weak (table start1)) (table start1).n
-  no_weak = none_weak (table start1) c.before.reduce-sound.result c.before.reduce-sound.ensures.value c.if-sound-n.false
+  no_weak = none_weak (table start1) c.reduce-sound.result c.reduce-sound.ensures.value c.if-sound-n.false
 
   triangle : Triangle (table start1) rows
   triangle =
-      let r = c.before.reduce-sound.ensures.rows in
+      let r = c.reduce-sound.ensures.rows in
       record { all = record { reduced = λ h l. r.reduced h (omega arith); multiplied = λ h l. r.multiplied h (omega arith) }; sound = no_weak.1 }
 
 module _ (c : After-correlates-from) where
   abbrev sound : Else-sound-n
-  sound = c.before.before.before
+  sound = (record { before = c.before.before.before; type_inv = record { rows = c.reduce-sound.given } })
 
   abbrev start2 : Start
   start2 = start1 sound
 
   abbrev k : List ℤ
-  k = c.correlates-from.new.1.1.0
+  k = c.correlates-from.new.k
 
   k_long : length k ≡ length start2.args.k.now
-  k_long = c.correlates-from.auto.1.1.0
+  k_long = c.correlates-from.auto.k
 
   solves : Solves (table start2) k c.correlates-from.result
   solves = c.correlates-from.ensures (table start2) refl (triangle sound)
@@ -75,37 +75,37 @@ module _ (c : Else-from-gt0) where
 
 module _ (c : After-corrections) where
   abbrev small : Else-from-gt0
-  small = c.before.before.before
+  small = c.before.before
 
   abbrev start4 : Start
   start4 = start3 small
 
   abbrev v : List ℤ
-  v = c.corrections.new.1.1.1.1.0
+  v = c.corrections.new.v
 
   v_long : length v ≡ length start4.args.v.now
-  v_long = c.corrections.auto.1.1.1.1.0
+  v_long = c.corrections.auto.v
 
   v_is : (i : ℕ) → i < (table start4).m → get_or v i (pos 0) ≡ V_of (table start4) (K (table start4)) i
   v_is i l = c.corrections.ensures i l ∙ V_ext (table start4) (at (k (correlated small))) (K (table start4)) (k_is small) i
 
 pub reduce-sound-requires : goal.reduce-sound-requires
 reduce-sound-requires c = record {
-      sound = c.before.requires.sound;
+      sound = c.requires.sound;
       shaped = zero_rows;
     }
 
 pub returns-then-sound-n : goal.returns-then-sound-n
 returns-then-sound-n c =
-    let b = c.before in record {
-      value = weak_refused (table b.before.before) b.reduce-sound.result b.reduce-sound.ensures.value c.if-sound-n.true;
+    record {
+      value = weak_refused (table c.before.before.before) c.reduce-sound.result c.reduce-sound.ensures.value c.if-sound-n.true;
       solved = never _;
     }
 
 pub correlates-from-requires : goal.correlates-from-requires
 correlates-from-requires c =
-    let e = c.before.before in record {
-      n_bound = ((start1 e).requires.sound.n_most, (start1 e).requires.q_in_bounds.1.0);
+    let e : Else-sound-n = record { before = c.before.before; type_inv = record { rows = c.reduce-sound.given } } in record {
+      n_bound = ((start1 e).requires.sound.n_most, (start1 e).requires.w_in_bounds.0);
       by_index = triangle_within (table (start1 e)) (rows e) (triangle e);
     }
 
@@ -119,27 +119,27 @@ returns-then-from-gt0 c =
 
 pub corrections-requires : goal.corrections-requires
 corrections-requires c =
-    let e = c.before.before in let s = start3 e in record {
+    let e = c.before in let s = start3 e in record {
       sound = s.requires.sound;
-      w_in_bounds = (omega (arith, k_long (correlated e), s.requires.q_in_bounds.1.0), k_small e);
-      q_in_bounds = s.requires.q_in_bounds.0.0;
+      w_in_bounds = (omega (arith, k_long (correlated e), s.requires.w_in_bounds.0), k_small e);
+      q_in_bounds = s.requires.q_in_bounds.0;
     }
 
 pub remainders-close-requires : goal.remainders-close-requires
 remainders-close-requires c =
-    let b = c.before.before.before in let s = start4 b in record {
+    let b = c.before.before in let s = start4 b in record {
       sound = s.requires.sound;
       q_in_bounds = (
-          omega (arith, v_long b, s.requires.q_in_bounds.0.0),
+          omega (arith, v_long b, s.requires.q_in_bounds.0),
           λ i l. rw (v_is b i l) (V_size s.args.q.now s.args.a.now s.args.w.now s.requires.sound (K (table s)) (none_large (small b)).1 i l),
         );
-      w_in_bounds = s.requires.q_in_bounds.1.1;
+      w_in_bounds = s.requires.w_in_bounds.1;
     }
 
 -- the remainders
 module _ (c : After-remainders-close) where
   abbrev corrected : After-corrections
-  corrected = c.before.before.before.before
+  corrected = c.before.before.before
 
   abbrev start5 : Start
   start5 = start4 corrected
@@ -170,28 +170,28 @@ module _ (c : Else-close-n) where
 
 pub print_corrections-within-requires : goal.print_corrections-within-requires
 print_corrections-within-requires c =
-    let b = corrected (remaining c.before.before) in let s = start4 b in (omega (arith, v_long b, s.requires.q_in_bounds.0.0), s.requires.q_in_bounds.0.1)
+    let b = corrected (remaining c.before) in let s = start4 b in (omega (arith, v_long b, s.requires.q_in_bounds.0), s.requires.q_in_bounds.1)
 
 pub overflow_add-result-then-within-m : goal.overflow_add-result-then-within-m
-overflow_add-result-then-within-m c = let s = start5 (remaining c.before.before.before.before.before) in omega (arith, c.if-within-m.true, s.requires.sound.m_most)
+overflow_add-result-then-within-m c = let s = start5 (remaining c.before.before.before.before) in omega (arith, c.if-within-m.true, s.requires.sound.m_most)
 
 pub returns-then-within-m : goal.returns-then-within-m
 returns-then-within-m c =
-    let p = c.before.before in let l = p.before.before.before in let r = remaining l in let b = corrected r in
+    let l = c.before.before.before.before in let r = remaining l in let b = corrected r in
     record {
-      value = past_refused (table (start5 r)) (v b) (v_is b) p.print_corrections-within.result p.print_corrections-within.ensures.value (rows_accepted r) (correlates_accepted r) (none_left l) c.if-within-m.true;
+      value = past_refused (table (start5 r)) (v b) (v_is b) c.print_corrections-within.result c.print_corrections-within.ensures.value (rows_accepted r) (correlates_accepted r) (none_left l) c.if-within-m.true;
       solved = never _;
     }
 
 pub returns : goal.returns
 returns c =
-    let p = c.before.before in let l = p.before.before.before in let r = remaining l in let b = corrected r in let t = table (start5 r) in
-    let none = none_past t (v b) (v_is b) p.print_corrections-within.result p.print_corrections-within.ensures.value c.if-within-m.false in record {
+    let l = c.before.before.before.before in let r = remaining l in let b = corrected r in let t = table (start5 r) in
+    let none = none_past t (v b) (v_is b) c.print_corrections-within.result c.print_corrections-within.ensures.value c.if-within-m.false in record {
       value = all_accepted t (rows_accepted r) (correlates_accepted r) (none_left l) none;
       solved = λ f. record {
         k = k_is (small b);
         v = v_is b;
-        u = λ i h. p.print_corrections-within.ensures.by_index i (omega arith) ∙ rounding_is t (K t) (v b) (v_is b) i h;
+        u = λ i h. c.print_corrections-within.ensures.by_index i (omega arith) ∙ rounding_is t (K t) (v b) (v_is b) i h;
         r = λ j h. r.remainders-close.ensures.by_index j (omega arith) ∙ closing_is t (K t) (v b) (v_is b) j;
         u_most = corrections_small t (K t) none;
       };

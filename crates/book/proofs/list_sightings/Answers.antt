@@ -8,10 +8,9 @@ use Rattle.book.proofs.list_sightings.Goals as goal
 
 pub returns-in-Refused : goal.returns-in-Refused
 returns-in-Refused c =
-    let r = c.before in let m = r.before.before.before.before in
-    listed_refused _ (sym m.means-reply.ensures.replied ∙ r.reply-1.given.1)
+    listed_refused _ (sym c.means-reply.ensures.replied ∙ c.in-Refused.is)
 
 pub returns : goal.returns
 returns c =
-    let p = c.before.before in let t = p.before.before.before.before in let m = t.before.before.before.before in let e = t.enum_told-1.given.1 in
-    listed_accepted (sym m.means-reply.ensures.replied ∙ e) (rewrote (station_listed m.means-reply.ensures e) p.put_means-length.ensures)
+    let e = c.in_default.is in
+    listed_accepted (sym c.means-reply.ensures.replied ∙ e) (rewrote (station_listed c.means-reply.ensures e) c.put_means-length.ensures)

@@ -25,20 +25,20 @@ l c = let a = c.args in lent a.directions.now a.q.now a.kind a.target a.kinds.no
 
 -- ---- the checks
 checked : (c : After-all-checked) → c.all-checked.result ≡ checks (l c.before.before)
-checked c = let f = c.before.before.ranges.target in c.all-checked.ensures ∙ simp to_z-of_z
+checked c = let f = c.ranges.target in c.all-checked.ensures ∙ simp to_z-of_z
 
-passed : (c : In-Accepted) → checks (l c.before.before.before.before) ≡ Accepted
-passed c = sym (checked c.before.before) ∙ c.enum_told-1.given.1
+passed : (c : In-Accepted) → checks (l c.before.before.before) ≡ Accepted
+passed c = sym (checked c.before) ∙ c.in-Accepted.is
 
-right : (c : In-Accepted) → Accepts (l c.before.before.before.before)
-right c = accepted (l c.before.before.before.before) (passed c)
+right : (c : In-Accepted) → Accepts (l c.before.before.before)
+right c = accepted (l c.before.before.before) (passed c)
 
 -- ---- the tally
 module _ (c : After-add_terms) where
   abbrev s : Start
-  s = c.before.before.before.before.before.before
+  s = c.before.before.before.before.before
 
-  tally_is : (n : ℕ) → get_or c.add_terms.new.0 n (pos 0) ≡ coefficient (l s) n
+  tally_is : (n : ℕ) → get_or c.add_terms.new.tally n (pos 0) ≡ coefficient (l s) n
   unfolding coefficient
   tally_is n = c.add_terms.ensures n
 
@@ -60,12 +60,12 @@ returns-then-a-directions c = let s = c.before in refusal s (Count 0) (no_room (
 
 pub returns-in-Refused : goal.returns-in-Refused
 returns-in-Refused c =
-    let e = c.before.before.before in let s = e.before.before in
-    refusal s _ (not_checked (l s) (length s.args.a.now) e.before.if-a-directions.false _ (sym (checked e) ∙ c.before.checked-1.given.1))
+    let e = c.before in let s = e.before.before in
+    refusal s _ (not_checked (l s) (length s.args.a.now) e.if-a-directions.false _ (sym (checked e) ∙ c.in-Refused.is))
 
 pub add_terms-requires : goal.add_terms-requires
 add_terms-requires c =
-    let e = c.before in let r = right e in let l = l e.before.before.before.before in
+    let e = c.before in let r = right e in let l = l e.before.before.before in
     record {
       whole = refl;
       zeros = tally_none 65;
@@ -80,19 +80,19 @@ pub returns-then-beyond : goal.returns-then-beyond
 returns-then-beyond c =
     let o = summed c.before in let e = o.before.before in
     refusal (s o) (Coefficient 1)
-    (too_large (l (s o)) (length (s o).args.a.now) e.before.before.before.if-a-directions.left (passed e) (sym (test c.before) ∙ c.if-beyond.true))
+    (too_large (l (s o)) (length (s o).args.a.now) e.if-a-directions.left (passed e) (sym (test c.before) ∙ c.if-beyond.true))
 
 pub hand_over-requires : goal.hand_over-requires
 hand_over-requires c =
     let e = (summed c.before.before.before).before.before in
-    omega (arith, e.before.before.before.if-a-directions.left, (right e).counts.few_directions)
+    omega (arith, e.if-a-directions.left, (right e).counts.few_directions)
 
 pub returns : goal.returns
 returns c =
-    let u = c.before.before.before.before in let o = summed u.before in let e = o.before.before in let s = s o in
-    let b = s.args.a.now in let same = e.before.before.before.if-a-directions.left in
-    let r = all_right (l s) (length b) same (passed e) (sym (test u.before) ∙ u.if-beyond.false) in
+    let o = summed c.before.before.before.before.before in let e = o.before.before in let s = s o in
+    let b = s.args.a.now in let same = e.if-a-directions.left in
+    let r = all_right (l s) (length b) same (passed e) (sym (test c.before.before.before.before.before) ∙ c.if-beyond.false) in
     coefficients_kept (sym r)
-    (c.before.hand_over.ensures
+    (c.hand_over.ensures
     ∙ (λ d. tabulate (same d) (λ h. tally_is o (h + 1) d))
     ∙ sym (filled (l s) b r))

@@ -26,15 +26,15 @@ l c = let a = c.args in lent a.directions.now a.q.now a.kind a.target a.kinds.no
 
 -- ---- the checks
 checked : (c : After-all-checked) → c.all-checked.result ≡ checks (l c.before)
-checked c = let f = c.before.ranges.target in c.all-checked.ensures ∙ simp to_z-of_z
+checked c = let f = c.ranges.target in c.all-checked.ensures ∙ simp to_z-of_z
 
 -- ---- past the checks, the total of the terms
 module _ (c : After-total-total) where
   abbrev s : Start
-  s = c.before.before.before.before
+  s = c.before.before.before
 
   passed : checks (l s) ≡ Accepted
-  passed = sym (checked c.before.before.before) ∙ c.before.enum_told-1.given.1
+  passed = sym (checked c.before.before) ∙ c.in-Accepted.is
 
   right : Accepts (l s)
   right = accepted (l s) passed
@@ -43,7 +43,7 @@ module _ (c : After-total-total) where
   total = sum (length (l s).kinds) (λ j. part (l s).directions (term (l s) j))
 
   total_is : to_z w64 (of_z w64 c.total-total.result) ≡ total
-  total_is = read (fits_of_mag c.total-total.result c.total-total.type-inv) ∙ c.total-total.ensures
+  total_is = read (fits_of_mag c.total-total.result c.total-total.type_inv) ∙ c.total-total.ensures
 
   total_small : nat_abs total ≤ 15552000000
   total_small = total_size (l s).directions (length (l s).directions) (length (l s).kinds) (term (l s)) right.counts.fields.few right.terms
@@ -56,11 +56,11 @@ module _ (c : After-total-total) where
 
 pub returns-in-Refused : goal.returns-in-Refused
 unfolding misclosure_figure
-returns-in-Refused c = misclosure_kept (rw (sym (checked c.before.before.before) ∙ c.before.checked-1.given.1))
+returns-in-Refused c = misclosure_kept (rw (sym (checked c.before) ∙ c.in-Refused.is))
 
 pub total-total-requires : goal.total-total-requires
 total-total-requires c =
-    let e = accepted (l c.before.before.before) (sym (checked c.before.before) ∙ c.enum_told-1.given.1) in
+    let e = accepted (l c.before.before) (sym (checked c.before) ∙ c.in-Accepted.is) in
     record {
       lists = e.counts.fields;
       small = e.directions;
@@ -70,10 +70,10 @@ total-total-requires c =
 -- ---- an angle condition's w
 module _ (c : In-Angle) where
   abbrev t : After-total-total
-  t = c.before.before
+  t = c.before
 
   angle_fits : SFits w64 (total t -ℤ (s t).args.target)
-  angle_fits = let x = bounded (total t) (total_small t) in let y = bounded (s t).args.target ((right t).target c.enum_told-in-Angle-1.given.1) in fits_in (search bounds) tt
+  angle_fits = let x = bounded (total t) (total_small t) in let y = bounded (s t).args.target ((right t).target c.in-Angle.is) in fits_in (search bounds) tt
 
   target_is : to_z w64 (of_z w64 (s t).args.target) ≡ (s t).args.target
   target_is = read (s t).fits.target
@@ -85,21 +85,21 @@ pub overflow_sub-total : goal.overflow_sub-total
 overflow_sub-total c = rw (total_is (t c), target_is c) (angle_fits c)
 
 -- ---- a side condition's w
-side_fits : (c : In-Side) → SFits w64 (pos 100 *ℤ total c.before.before)
-side_fits c = let x = bounded (total c.before.before) (total_small c.before.before) in fits_in (search bounds) tt
+side_fits : (c : In-Side) → SFits w64 (pos 100 *ℤ total c.before)
+side_fits c = let x = bounded (total c.before) (total_small c.before) in fits_in (search bounds) tt
 
-side_w : (c : In-Side) → to_z w64 (of_z w64 (pos 100 *ℤ to_z w64 (of_z w64 c.before.before.total-total.result))) ≡ pos 100 *ℤ total c.before.before
-side_w c = rw (total_is c.before.before) (read (side_fits c))
+side_w : (c : In-Side) → to_z w64 (of_z w64 (pos 100 *ℤ to_z w64 (of_z w64 c.total-total.result))) ≡ pos 100 *ℤ total c.before
+side_w c = rw (total_is c.before) (read (side_fits c))
 
 pub overflow_mul-total : goal.overflow_mul-total
-overflow_mul-total c = rw (total_is c.before.before) (side_fits c)
+overflow_mul-total c = rw (total_is c.before) (side_fits c)
 
 pub returns-in-Angle : goal.returns-in-Angle
 returns-in-Angle c =
     let e = c.before in
-    misclosure_kept (c.judged.ensures ∙ answer (t e) Angle _ e.enum_told-in-Angle-1.given.1 (angle_w e))
+    misclosure_kept (c.judged.ensures ∙ answer (t e) Angle _ e.in-Angle.is (angle_w e))
 
 pub returns-in-Side : goal.returns-in-Side
 returns-in-Side c =
     let e = c.before in
-    misclosure_kept (c.judged-in-Side.ensures ∙ answer e.before.before Side _ e.enum_told-in-Side-1.given.1 (side_w e))
+    misclosure_kept (c.judged-in-Side.ensures ∙ answer e.before Side _ e.in-Side.is (side_w e))

@@ -5,4 +5,4 @@ use mir.ValLaws.{to_z-of_z}
 use Rattle.condition.proofs.target_fault.Goals as goal
 
 pub returns : goal.returns
-returns c = let f = c.before.ranges.target in c.outside.ensures ∙ simp to_z-of_z
+returns c = let f = c.ranges.target in c.outside.ensures ∙ simp to_z-of_z

@@ -10,6 +10,5 @@ use Rattle.condition.proofs.term_fault.Goals as goal
 pub returns : goal.returns
 unfolding term_fault
 returns c =
-    let s = c.before.before in
-    let f = s.ranges.m in let g = s.ranges.value in let h = s.ranges.d in let j = s.ranges.i in let l = s.ranges.k in
-    c.fault.ensures ∙ rw (c.before.read-letter.ensures, to_z_pos w64 s.args.letter (omega (arith, s.ranges.letter))) (simp to_z-of_z)
+    let f = c.ranges.m in let g = c.ranges.value in let h = c.ranges.d in let j = c.ranges.i in let l = c.ranges.k in
+    c.fault.ensures ∙ rw (c.read-letter.ensures, to_z_pos w64 c.args.letter (omega (arith, c.ranges.letter))) (simp to_z-of_z)

@@ -6,13 +6,12 @@ use Rattle.listing.proofs.list.Goals as goal
 
 pub returns-then-out-room : goal.returns-then-out-room
 returns-then-out-room c =
-    let a = c.before.before.before.before.args in
+    let a = c.args in
     record {
-      listing = no_listing a.file.now a.sheet a.out-1.now (omega (arith, c.if-out-room.true, c.before.room.ensures));
+      listing = no_listing a.file.now a.sheet a.out.now (omega (arith, c.if-out-room.true, c.room.ensures));
       within = omega arith;
     }
 
 pub returns : goal.returns
 returns c =
-    let p = c.before.before in let a = p.before.before.before.before in let f = a.before.before in let s = f.before.before.before.before in
-    listed_by s.args.file.now s.args.sheet s.args.out.now (omega (arith, f.if-out-room.false, f.before.room.ensures)) a.adjust-listed.ensures p.print.ensures
+    listed_by c.args.file.now c.args.sheet c.args.out.now (omega (arith, c.if-out-room.false, c.room.ensures)) c.adjust-listed.ensures c.print.ensures

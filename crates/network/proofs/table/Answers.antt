@@ -21,36 +21,35 @@ module _ (c : In_default) where
   start = c.before.before.before.before.before
 
   accepts : scan_reply start.args.file.now ≡ Accepted
-  accepts = sym c.before.before.scan-scanned.ensures.answer ∙ c.enum_told-1.given.1
+  accepts = sym c.scan-scanned.ensures.answer ∙ c.in_default.is
 
 pub returns-in-Refused : goal.returns-in-Refused
 returns-in-Refused c =
-    let s = c.before.before.before.before.before.before in
-    table_refused s.args.file.now _ (sym c.before.before.before.scan-scanned.ensures.answer ∙ c.before.scanned-1.given.1)
+    table_refused c.args.file.now _ (sym c.scan-scanned.ensures.answer ∙ c.in-Refused.is)
 
 pub read-read-requires : goal.read-read-requires
 read-read-requires c =
-    let s = start c.before.before in let file = s.args.file.now in let accepted = accepts c.before.before in
+    let s = start (record { before = c.before.before.before; type_inv = record { letters = c.slice_known-1.given; file = c.shared_slice_known-1.given } }) in let file = s.args.file.now in let accepted = accepts (record { before = c.before.before.before; type_inv = record { letters = c.slice_known-1.given; file = c.shared_slice_known-1.given } }) in
     record {
       file_len_bound = (omega (arith, (scan_bounds file accepted).m), file_led file accepted);
       directions_len = (s.requires.0, s.requires.1);
     }
 
 pub slice_bounds-form_all-end-2 : goal.slice_bounds-form_all-end-2
-slice_bounds-form_all-end-2 c = let d = c.before.before.before.read-read.ensures.directions in sym (length-take-le _ _ (omega (arith, d.most, d.long)))
+slice_bounds-form_all-end-2 c = let d = c.read-read.ensures.directions in sym (length-take-le _ _ (omega (arith, d.most, d.long)))
 
 pub slice_bounds-form_all-end-4 : goal.slice_bounds-form_all-end-4
-slice_bounds-form_all-end-4 c = let d = c.before.before.before.before.read-read.ensures.directions in sym (length-take-le _ _ (omega (arith, d.most, d.q_long)))
+slice_bounds-form_all-end-4 c = let d = c.read-read.ensures.directions in sym (length-take-le _ _ (omega (arith, d.most, d.q_long)))
 
 pub form_all-formed-requires : goal.form_all-formed-requires
 form_all-formed-requires c =
-    let r = c.before.before.before.before.before.before.before in let d = r.read-read.ensures.directions in let told = r.before.before.before in let s = start told in let room = scan_bounds s.args.file.now (accepts told) in record {
+    let d = c.read-read.ensures.directions in let told : In_default = record { before = c.before.before.before.before.before.before.before.before.before; type_inv = record { letters = c.slice_known-1.given; file = c.shared_slice_known-1.given } } in let s = start told in let room = scan_bounds s.args.file.now (accepts told) in record {
       first_in_bounds = (d.within, omega (arith, directions_long d, d.most), s.requires.2, s.requires.3, s.requires.4);
-      stands = r.read-read.ensures.after;
+      stands = c.read-read.ensures.after;
       first_len_bound = (omega (arith, room.n, ap (λ (cs : List Condition). length cs) d.conditions), subst Fit (sym d.conditions) room.fit, d.opened);
     }
 
 pub returns : goal.returns
 returns c =
-    let formed = c.before.before.before.before in let r = formed.before.before.before.before.before.before.before.before in let told = r.before.before.before in
-    table_formed (start told).args.file.now (accepts told) r.read-read.ensures.directions formed.form_all-formed.ensures
+    let told : In_default = record { before = c.before.before.before.before.before.before.before.before.before.before.before.before.before.before; type_inv = record { letters = c.slice_known-1.given; file = c.shared_slice_known-1.given } } in
+    table_formed (start told).args.file.now (accepts told) c.read-read.ensures.directions c.form_all-formed.ensures

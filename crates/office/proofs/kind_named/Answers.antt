@@ -3,10 +3,10 @@ use borrow.Author.Tests.{eq-eqb, ne_eqb}
 use Rattle.office.proofs.kind_named.Goals as goal
 
 pub returns-then-letter-eq65 : goal.returns-then-letter-eq65
-returns-then-letter-eq65 c = rw (eq-eqb c.before.args.letter 65 c.if-letter-eq65.true)
+returns-then-letter-eq65 c = rw (eq-eqb c.args.letter 65 c.if-letter-eq65.true)
 
 pub returns-then-letter-eq83 : goal.returns-then-letter-eq83
-returns-then-letter-eq83 c = rw (ne_eqb c.before.before.args.letter 65 c.before.if-letter-eq65.false, eq-eqb c.before.before.args.letter 83 c.if-letter-eq83.true)
+returns-then-letter-eq83 c = rw (ne_eqb c.args.letter 65 c.if-letter-eq65.false, eq-eqb c.args.letter 83 c.if-letter-eq83.true)
 
 pub returns-else-letter-eq83 : goal.returns-else-letter-eq83
-returns-else-letter-eq83 c = rw (ne_eqb c.before.before.args.letter 65 c.before.if-letter-eq65.false, ne_eqb c.before.before.args.letter 83 c.if-letter-eq83.false)
+returns-else-letter-eq83 c = rw (ne_eqb c.args.letter 65 c.if-letter-eq65.false, ne_eqb c.args.letter 83 c.if-letter-eq83.false)

@@ -4,4 +4,4 @@ use borrow.Author.Rules.{rules}
 use Rattle.office.proofs.molsadriu_adjust_table.Goals as goal
 
 pub returns : goal.returns
-returns c = table_told _ _ c.tell.ensures _ _ _ _ _ _ c.before.before.before.before.before.before.before.adjust-reply.ensures
+returns c = table_told _ _ c.tell.ensures _ _ _ _ _ _ c.adjust-reply.ensures

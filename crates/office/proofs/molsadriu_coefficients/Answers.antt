@@ -15,12 +15,12 @@ l s = let a = s.args in terms_of a.directions.now a.q.now a.target a.kinds.now a
 
 pub returns-in_default : goal.returns-in_default
 returns-in_default c =
-    let s = c.before.before.before.before in
-    coefficients_unknown _ _ (l s) (sym c.before.before.before.kind_named-heading.ensures ∙ c.before.enum_told-1.given.1) c.refuse.ensures _
+    let s = c.before.before.before in
+    coefficients_unknown _ _ (l s) (sym c.kind_named-heading.ensures ∙ c.in_default.is) c.refuse.ensures _
 
 pub returns : goal.returns
 returns c =
-    let k = c.before.before in let n = k.before.before.before in let s = n.before.before.before in
+    let s = c.before.before.before.before.before.before in
     let f = s.ranges.target in
-    coefficients_named _ _ (l s) _ (sym n.before.before.kind_named-heading.ensures ∙ n.heading-1.given.1) _ _ _ c.tell.ensures
-    (simp to_z-of_z at k.coefficients-reply.ensures)
+    coefficients_named _ _ (l s) _ (sym c.kind_named-heading.ensures ∙ c.in-Named.is) _ _ _ c.tell.ensures
+    (simp to_z-of_z at c.coefficients-reply.ensures)

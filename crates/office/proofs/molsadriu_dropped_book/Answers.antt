@@ -4,4 +4,4 @@ use borrow.Author.Rules.{rules}
 use Rattle.office.proofs.molsadriu_dropped_book.Goals as goal
 
 pub returns : goal.returns
-returns c = part_told c.tell_listed.ensures.verdict c.tell_listed.ensures.number _ _ c.before.before.before.before.rescue-listed.ensures
+returns c = part_told c.tell_listed.ensures.verdict c.tell_listed.ensures.number _ _ c.rescue-listed.ensures

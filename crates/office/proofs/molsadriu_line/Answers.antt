@@ -10,7 +10,7 @@ use Rattle.office.proofs.molsadriu_line.Goals as goal
 
 pub returns : goal.returns
 returns c =
-    let a = c.before.before.args in
+    let a = c.args in
     let same : c.line-line.result.now ≡ line_at a.file.now a.start = c.line-line.ensures in
     record {
       length = ap length same;

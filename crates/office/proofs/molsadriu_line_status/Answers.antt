@@ -5,10 +5,10 @@ use borrow.Author.Rules.{rules}
 use Rattle.office.proofs.molsadriu_line_status.Goals as goal
 
 pub returns-in-Whole : goal.returns-in-Whole
-returns-in-Whole c = ap status_number (sym c.enum_told-1.given.1 ∙ c.before.before.line_status-status.ensures)
+returns-in-Whole c = ap status_number (sym c.in-Whole.is ∙ c.line_status-status.ensures)
 
 pub returns-in-NoneLeft : goal.returns-in-NoneLeft
-returns-in-NoneLeft c = ap status_number (sym c.enum_told-in-NoneLeft-1.given.1 ∙ c.before.before.line_status-status.ensures)
+returns-in-NoneLeft c = ap status_number (sym c.in-NoneLeft.is ∙ c.line_status-status.ensures)
 
 pub returns-in-LfMissing : goal.returns-in-LfMissing
-returns-in-LfMissing c = ap status_number (sym c.enum_told-in-LfMissing-1.given.1 ∙ c.before.before.line_status-status.ensures)
+returns-in-LfMissing c = ap status_number (sym c.in-LfMissing.is ∙ c.line_status-status.ensures)

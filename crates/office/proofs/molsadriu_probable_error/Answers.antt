@@ -4,4 +4,4 @@ use borrow.Author.Rules.{rules}
 use Rattle.office.proofs.molsadriu_probable_error.Goals as goal
 
 pub returns : goal.returns
-returns c = errors_told _ _ c.tell.ensures _ _ _ _ _ c.before.probable_error-reply.ensures
+returns c = errors_told _ _ c.tell.ensures _ _ _ _ _ c.probable_error-reply.ensures

@@ -4,4 +4,4 @@ use borrow.Author.Rules.{rules}
 use Rattle.office.proofs.molsadriu_probable_file.Goals as goal
 
 pub returns : goal.returns
-returns c = file_told c.tell_listed.ensures.verdict c.tell_listed.ensures.number _ _ c.before.before.before.before.adjust-listed.ensures
+returns c = file_told c.tell_listed.ensures.verdict c.tell_listed.ensures.number _ _ c.adjust-listed.ensures

@@ -4,4 +4,4 @@ use borrow.Author.Rules.{rules}
 use Rattle.office.proofs.molsadriu_report.Goals as goal
 
 pub returns : goal.returns
-returns c = report_told _ _ c.tell.ensures _ _ _ c.before.before.before.report-reply.ensures
+returns c = report_told _ _ c.tell.ensures _ _ _ c.report-reply.ensures

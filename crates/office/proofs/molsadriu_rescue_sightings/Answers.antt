@@ -5,5 +5,4 @@ use Rattle.office.proofs.molsadriu_rescue_sightings.Goals as goal
 
 pub returns : goal.returns
 returns c =
-    let r = c.before.before.before.before.before.before.before.before.before.before.before in
-    rescue_told c.tell_rescued.ensures.verdict c.tell_rescued.ensures.numbers r.rescue-rescued.ensures
+    rescue_told c.tell_rescued.ensures.verdict c.tell_rescued.ensures.numbers c.rescue-rescued.ensures

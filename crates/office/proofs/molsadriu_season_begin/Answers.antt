@@ -4,4 +4,4 @@ use borrow.Author.Rules.{rules}
 use Rattle.office.proofs.molsadriu_season_begin.Goals as goal
 
 pub returns : goal.returns
-returns c = begun_told _ _ c.tell.ensures _ _ _ _ _ c.before.before.before.before.before.begin-reply.ensures
+returns c = begun_told _ _ c.tell.ensures _ _ _ _ _ c.begin-reply.ensures

@@ -4,4 +4,4 @@ use borrow.Author.Rules.{rules}
 use Rattle.office.proofs.molsadriu_season_end.Goals as goal
 
 pub returns : goal.returns
-returns c = ended_told _ _ c.tell.ensures _ _ _ _ _ c.before.before.before.before.before.end-reply.ensures
+returns c = ended_told _ _ c.tell.ensures _ _ _ _ _ c.end-reply.ensures

@@ -4,4 +4,4 @@ use borrow.Author.Rules.{rules}
 use Rattle.office.proofs.molsadriu_season_next.Goals as goal
 
 pub returns : goal.returns
-returns c = next_told _ _ c.tell.ensures _ _ _ _ _ _ _ c.before.before.before.before.before.before.before.next-reply.ensures
+returns c = next_told _ _ c.tell.ensures _ _ _ _ _ _ _ c.next-reply.ensures

@@ -4,4 +4,4 @@ use borrow.Author.Rules.{rules}
 use Rattle.office.proofs.molsadriu_station_means.Goals as goal
 
 pub returns : goal.returns
-returns c = means_told _ _ c.tell.ensures _ _ _ _ _ c.before.before.before.means-reply.ensures
+returns c = means_told _ _ c.tell.ensures _ _ _ _ _ c.means-reply.ensures

@@ -5,7 +5,7 @@ use borrow.Author.Rules.{rules}
 use Rattle.office.proofs.tell_listed.Goals as goal
 
 pub returns-in-Refused : goal.returns-in-Refused
-returns-in-Refused c = let e = c.before.before.reply-1.given.1 in record {
+returns-in-Refused c = let e = c.in-Refused.is in record {
       verdict = c.refuse.ensures ∙ ap verdict_of (sym e);
       number = rw e refl;
     }

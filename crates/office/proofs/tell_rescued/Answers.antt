@@ -5,13 +5,13 @@ use borrow.Author.Rules.{rules}
 use Rattle.office.proofs.tell_rescued.Goals as goal
 
 pub returns-in-Refused : goal.returns-in-Refused
-returns-in-Refused c = let e = c.before.before.reply-1.given.1 in record {
+returns-in-Refused c = let e = c.in-Refused.is in record {
       verdict = c.refuse.ensures ∙ ap verdict_of (sym e);
       numbers = (rw e refl, rw e refl);
     }
 
 pub returns : goal.returns
-returns c = let e = c.before.enum_told-1.given.1 in record {
+returns c = let e = c.in_default.is in record {
       verdict = c.tell.ensures ∙ ap verdict_of (sym e);
       numbers = (rw e refl, rw e refl);
     }

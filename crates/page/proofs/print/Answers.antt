@@ -5,8 +5,7 @@ use Rattle.page.proofs.print.Goals as goal
 
 pub returns-in-Refused : goal.returns-in-Refused
 returns-in-Refused c =
-    let p = c.before.before in let f = p.before.before in let r = f.before.before in
-    prints_refusal r.reply-1.given.0.0 r.reply-1.given.1 f.refuse.ensures p.refused_line.ensures.line
+    prints_refusal c.in-Refused.why c.in-Refused.is c.refuse.ensures c.refused_line.ensures.line
 
 pub returns : goal.returns
-returns c = prints_listing c.enum_told-1.given.1
+returns c = prints_listing c.in_default.is

@@ -32,16 +32,16 @@ module _ (c : After-magnitude) where
   l = c.before.before.before
 
   abbrev us : List ℤ
-  us = l.before.args.u.now
+  us = l.args.u.now
 
   abbrev qs : List ℤ
-  qs = l.before.args.q.now
+  qs = l.args.q.now
 
   abbrev i : ℕ
   i = l.loop-i.i
 
   size_is : c.magnitude.result ≡ nat_abs (at us i)
-  size_is = c.magnitude.ensures ∙ ap nat_abs (read_at (at us i) c.before.x-1.given)
+  size_is = c.magnitude.ensures ∙ ap nat_abs (read_at (at us i) c.x-1.given)
 
   refuses : out_of_range_at us qs i ≡ true → Refused (why i) ≡ ranges_reply us qs
   refuses e = sym (refuse_at (length us) (out_of_range_at us qs) why i (omega arith) l.loop-i.invariant.1 e)
@@ -56,8 +56,8 @@ module _ (c : After-weight_out_of_range) where
 
   by_weight : out_of_range_at (us sized) (qs sized) (i sized) ≡ c.weight_out_of_range.result
   by_weight =
-      rw (le-ltb 60000 _ (rw (size_is sized) at c.before.before.if-magnitude-gt-MINUTE.false))
-      (sym (c.weight_out_of_range.ensures ∙ ap weight_out_of_range (read_at (at (qs sized) (i sized)) c.before.y-1.given)))
+      rw (le-ltb 60000 _ (rw (size_is sized) at c.if-magnitude-gt-MINUTE.false))
+      (sym (c.weight_out_of_range.ensures ∙ ap weight_out_of_range (read_at (at (qs sized) (i sized)) c.y-1.given)))
 
 pub returns-then-weight_out_of_range : goal.returns-then-weight_out_of_range
 returns-then-weight_out_of_range c = let b = c.before in refuses (sized b) (by_weight b ∙ c.if-weight_out_of_range.true)
@@ -69,5 +69,5 @@ loop-i-preserved c =
 
 pub returns : goal.returns
 returns c =
-    let l = c.before in let us = l.before.args.u.now in let qs = l.before.args.q.now in let e : l.loop-i.i ≡ length us = omega arith in
-    sym (refuse_none (length us) (out_of_range_at us qs) why (subst (Failed (out_of_range_at us qs)) e l.loop-i.invariant.1))
+    let us = c.args.u.now in let qs = c.args.q.now in let e : c.loop-i.i ≡ length us = omega arith in
+    sym (refuse_none (length us) (out_of_range_at us qs) why (subst (Failed (out_of_range_at us qs)) e c.loop-i.invariant.1))

@@ -29,12 +29,12 @@ pub overflow_mul-n : goal.overflow_mul-n
 overflow_mul-n c = omega (arith, (known c.before).n_most)
 
 -- S, and its size
-sum_is : (c : After-sum-s) → c.sum-s.result ≡ nat_abs (S_of c.before.args.u.now c.before.args.q.now)
+sum_is : (c : After-sum-s) → c.sum-s.result ≡ nat_abs (S_of c.args.u.now c.args.q.now)
 sum_is c = ap nat_abs c.sum-s.ensures
 
 pub root-e-requires : goal.root-e-requires
 root-e-requires c =
-    let k = known c.before in let a = c.before.args in
+    let k = known c.before in let a = c.args in
     (omega (arith, k.n_most), omega (arith, sum_is c, S_most (length a.u.now) (at a.q.now) (at a.u.now) k.m_most k.u_most, k.n_least))
 
 -- e, as a signed number
@@ -45,9 +45,9 @@ module _ (c : After-root-e) where
   e_read : to_z w64 e ≡ pos e
   e_read = read (fits_within (pos e) {m = 524288} (omega (arith, c.root-e.ensures.upper_bound)) tt)
 
-  e_is : pos e ≡ mean_error c.before.before.args.n (S_of c.before.before.args.u.now c.before.before.args.q.now)
+  e_is : pos e ≡ mean_error c.args.n (S_of c.args.u.now c.args.q.now)
   unfolding mean_error
-  e_is = ap pos (c.root-e.ensures.value ∙ ap (root (2520 * c.before.before.args.n)) (sum_is c.before))
+  e_is = ap pos (c.root-e.ensures.value ∙ ap (root (2520 * c.args.n)) (sum_is c.before))
 
   scaled_fits : SFits w64 (pos 6745 *ℤ pos e)
   scaled_fits = fits_within (pos (6745 * e)) {m = 3536322560} (omega (arith, c.root-e.ensures.upper_bound)) tt
@@ -60,5 +60,5 @@ unfolding probable_error errors_of
 returns c =
     let r = c.before in
     let probable : to_z w64 (of_z w64 c.nearest.result) ≡ probable_error (pos (e r)) =
-    read_at c.nearest.result c.nearest.type-inv ∙ c.nearest.ensures ∙ ap (λ (z : ℤ). nearest z (pos 10000)) (read (overflow_mul-e r) ∙ ap (λ (x : ℤ). pos 6745 *ℤ x) (e_read r)) in
+    read_at c.nearest.result c.nearest.type_inv ∙ c.nearest.ensures ∙ ap (λ (z : ℤ). nearest z (pos 10000)) (read (overflow_mul-e r) ∙ ap (λ (x : ℤ). pos 6745 *ℤ x) (e_read r)) in
     ap₂ errors (e_read r) probable ∙ ap (λ (x : ℤ). errors x (probable_error x)) (e_is r)

@@ -6,13 +6,13 @@ use Rattle.reply.proofs.place.Goals as goal
 
 -- of a missing face, a missing initial, faces apart, and a spread
 pub returns-in-Faces : goal.returns-in-Faces
-returns-in-Faces c = sym (ap place_of c.before.r-in-Faces-1.given.1)
+returns-in-Faces c = sym (ap place_of c.in-Faces.is)
 
 pub returns-in-Initial : goal.returns-in-Initial
-returns-in-Initial c = sym (ap place_of c.before.r-in-Initial-1.given.1)
+returns-in-Initial c = sym (ap place_of c.in-Initial.is)
 
 pub returns-in-FacesApart : goal.returns-in-FacesApart
-returns-in-FacesApart c = sym (ap place_of c.before.r-in-FacesApart-1.given.1)
+returns-in-FacesApart c = sym (ap place_of c.in-FacesApart.is)
 
 pub returns-in-Spread : goal.returns-in-Spread
-returns-in-Spread c = sym (ap place_of c.before.r-in-Spread-1.given.1)
+returns-in-Spread c = sym (ap place_of c.in-Spread.is)

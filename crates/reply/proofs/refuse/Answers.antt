@@ -3,4 +3,4 @@ use borrow.Author.Rules.{rules}
 use Rattle.reply.proofs.refuse.Goals as goal
 
 pub returns : goal.returns
-returns c = λ i. record { number = c.before.number-number.ensures i; place = c.place-place.ensures i }
+returns c = λ i. record { number = c.number-number.ensures i; place = c.place-place.ensures i }

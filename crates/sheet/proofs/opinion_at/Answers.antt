@@ -11,4 +11,4 @@ no_at zero n = absurd (n refl)
 no_at (suc line) n = refl
 
 pub returns : goal.returns
-returns c = no_at c.before.args.line c.if-line-eq0.false
+returns c = no_at c.args.line c.if-line-eq0.false

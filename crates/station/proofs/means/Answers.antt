@@ -31,8 +31,8 @@ fit_true : (c : Else-not-lengths_fit) → fits c.before.before ≡ true
 fit_true c = upheld c.before.lengths_fit_lem.ensures c.if-not-lengths_fit.false
 
 -- what the test of the lengths told
-lengths : (c : Else-not-lengths_fit) → let a = c.before.before.args in
-    LengthsFit (length a.position.now) (length a.object.now) (length a.face.now) (length a.reading.now) (length a.direction-1.now) (length a.pairs-1.now)
+lengths : (c : Else-not-lengths_fit) → let a = c.args in
+    LengthsFit (length a.position.now) (length a.object.now) (length a.face.now) (length a.reading.now) (length a.direction.now) (length a.pairs.now)
 lengths c = lengths_fit_lem _ _ _ _ _ _ (fit_true c)
 
 pub first_out_of_range-h-requires : goal.first_out_of_range-h-requires
@@ -40,12 +40,11 @@ first_out_of_range-h-requires c = let f = lengths c in (f.objects_fit, (f.faces_
 
 pub returns-then-h-n : goal.returns-then-h-n
 returns-then-h-n c =
-    let d = c.before in
-    answers_kept (sym (reply_field (sighted d.before.before.before) _ _ (fit_true d.before) d.first_out_of_range-h.result d.first_out_of_range-h.ensures c.if-h-n.true)) refl refl
+    answers_kept (sym (reply_field (sighted c.before.before.before.before) _ _ (fit_true c.before.before) c.first_out_of_range-h.result c.first_out_of_range-h.ensures c.if-h-n.true)) refl refl
 
 -- lists that pass both checks are in range
 sound : (c : Else-h-n) → InRange (sighted c.before.before.before.before)
-sound c = let d = c.before in in_range (sighted d.before.before.before) _ _ (fit_true d.before) d.first_out_of_range-h.result d.first_out_of_range-h.ensures c.if-h-n.false
+sound c = in_range (sighted c.before.before.before.before) _ _ (fit_true c.before.before) c.first_out_of_range-h.result c.first_out_of_range-h.ensures c.if-h-n.false
 
 pub tally-requires : goal.tally-requires
 tally-requires c = (sound c.before.before, (refl, refl))
@@ -53,43 +52,42 @@ tally-requires c = (sound c.before.before, (refl, refl))
 -- the two tables, as the tally left them
 module _ (c : After-tally) where
   abbrev passed : Else-h-n
-  passed = c.before.before.before
+  passed = c.before.before.before.before
 
   abbrev list : Book
   list = sighted passed.before.before.before.before
 
   abbrev n : List ℤ
-  n = c.tally.new.1.1.1.1.0
+  n = c.tally.new.count
 
   abbrev r : List ℤ
-  r = c.tally.new.1.1.1.1.1.0
+  r = c.tally.new.sums
 
   small : Within 512 n × Within 663552000000 r
   small = (subst (Within 512) (sym c.tally.ensures.0) (counts_within list (sound passed)), subst (Within 663552000000) (sym c.tally.ensures.1) (readings_within list (sound passed)))
 
 pub table_reply-reply-requires : goal.table_reply-reply-requires
-table_reply-reply-requires c = small c.before.before
+table_reply-reply-requires c = small (record { before = c.before.before; type_inv = record { sums = c.tally.given; count = c.tally.given } })
 
 -- past 21 and 22 the reply is that of the table's checks
 replied_as : (c : After-table_reply-reply) →
-    let t = c.before.before.before in let a = (passed t).before.before.before.before.args in
-    c.table_reply-reply.result ≡ reply_of (list t) (length a.direction-1.now) (length a.pairs-1.now)
+    let t : After-tally = record { before = c.before.before.before; type_inv = record { sums = c.tally.given; count = c.tally.given } } in let a = (passed t).args in
+    c.table_reply-reply.result ≡ reply_of (list t) (length a.direction.now) (length a.pairs.now)
 replied_as c =
-    let t = c.before.before.before in let d = (passed t).before in
+    let t : After-tally = record { before = c.before.before.before; type_inv = record { sums = c.tally.given; count = c.tally.given } } in let d = (passed t).before in
     c.table_reply-reply.ensures ∙ (λ i. table_reply (t.tally.ensures.0 i) (t.tally.ensures.1 i))
-    ∙ sym (reply_table (list t) _ _ (fit_true d.before) d.first_out_of_range-h.result d.first_out_of_range-h.ensures (passed t).if-h-n.false)
+    ∙ sym (reply_table (list t) _ _ (fit_true d.before) d.first-out-of-range.result d.first-out-of-range.ensures (passed t).if-h-n.false)
 
 pub returns-in-Refused : goal.returns-in-Refused
-returns-in-Refused c = answers_kept (sym c.before.reply-1.given.1 ∙ replied_as c.before.before.before) refl refl
+returns-in-Refused c = answers_kept (sym c.in-Refused.is ∙ replied_as c.before) refl refl
 
 pub write-requires : goal.write-requires
 write-requires c =
-    let t = c.before.before.before.before.before.before.before.before.before in let f = lengths (passed t).before.before in
+    let t : After-tally = record { before = c.before.before.before.before.before.before.before.before; type_inv = record { sums = c.tally.given; count = c.tally.given } } in let f = lengths (passed t).before.before in
     ((small t).0, ((small t).1, (f.directions_fit, f.pairs_fit)))
 
 pub returns : goal.returns
 returns c =
-    let w = c.before.before in let e = w.before.before.before.before.before in let t = e.before.before.before.before.before in
-    answers_kept (sym e.enum_told-1.given.1 ∙ replied_as e.before.before)
-    (w.write.ensures.0 ∙ (λ i. directions (t.tally.ensures.0 i) (t.tally.ensures.1 i)))
-    (w.write.ensures.1 ∙ (λ i. pair_counts (t.tally.ensures.0 i)))
+    answers_kept (sym c.in_default.is ∙ replied_as c.before.before.before.before.before.before.before.before)
+    (c.write.ensures.0 ∙ (λ i. directions (c.tally.ensures.0 i) (c.tally.ensures.1 i)))
+    (c.write.ensures.1 ∙ (λ i. pair_counts (c.tally.ensures.0 i)))

@@ -20,16 +20,16 @@ lists s = lent s.args.kept-position.now s.args.kept-object.now s.args.kept-face.
 
 pub returns-then-not-rooms_fit : goal.returns-then-not-rooms_fit
 returns-then-not-rooms_fit c =
-    let t = c.before in let s = t.before.before.before.before in
-    refused_keeps (sighted s) (lists s) Sightings c.refused.result c.refused.ensures (sym (rescue_room (sighted s) (rooms (sighted s) (lists s)) (refuted t.before.rooms_fit_lem.ensures t.if-not-rooms_fit.true)))
+    let s = c.before.before.before.before.before.before in
+    refused_keeps (sighted s) (lists s) Sightings c.refused.result c.refused.ensures (sym (rescue_room (sighted s) (rooms (sighted s) (lists s)) (refuted c.before.rooms_fit_lem.ensures c.if-not-rooms_fit.true)))
 
 pub returns-then-n-gt-MOST : goal.returns-then-n-gt-MOST
 returns-then-n-gt-MOST c =
-    let t = c.before in let s = t.before.before.before.before.before in
-    refused_keeps (sighted s) (lists s) Sightings c.refused-then-n-gt-MOST.result c.refused-then-n-gt-MOST.ensures (sym (rescue_lengths (sighted s) (rooms (sighted s) (lists s)) (too_many (sighted s) t.if-n-gt-MOST.true)))
+    let s = c.before.before.before.before.before.before.before in
+    refused_keeps (sighted s) (lists s) Sightings c.refused-then-n-gt-MOST.result c.refused-then-n-gt-MOST.ensures (sym (rescue_lengths (sighted s) (rooms (sighted s) (lists s)) (too_many (sighted s) c.if-n-gt-MOST.true)))
 
 pub slice_bounds-part-end : goal.slice_bounds-part-end
 slice_bounds-part-end c = sym (length-take-le _ _ (omega arith))
 
 pub part-requires : goal.part-requires
-part-requires c = (upheld c.before.before.before.before.before.before.before.before.before.rooms_fit_lem.ensures c.before.before.before.before.before.before.before.before.if-not-rooms_fit.false, length-take-le _ _ (omega arith))
+part-requires c = (upheld c.before.before.before.before.before.before.before.before.before.rooms_fit_lem.ensures c.if-not-rooms_fit.false, length-take-le _ _ (omega arith))

@@ -14,44 +14,44 @@ use Rattle.totals.proofs.add_reports.Goals as goal
 use Rattle.totals.proofs.add_reports.Goals.{In_default}
 
 -- no number is too large
-sized : (e : In_default) → let s = e.before.before.before.before.before.before.before.before.before in sizes_reply s.args.first.now s.args.second.now ≡ Accepted
-sized e = sym e.before.before.check-by_place.ensures ∙ e.enum_told-1.given.1
+sized : (e : In_default) → sizes_reply e.args.first.now e.args.second.now ≡ Accepted
+sized e = sym e.check-by_place.ensures ∙ e.in_default.is
 
 pub returns-then-first-ne-TOTALS : goal.returns-then-first-ne-TOTALS
 returns-then-first-ne-TOTALS c =
-    let s = c.before.before.before.before in let first = s.args.first.now in let second = s.args.second.now in let sum = s.args.sum.now in
+    let first = c.args.first.now in let second = c.args.second.now in let sum = c.args.sum.now in
     refused_adds first second sum (Count 0) (by_first first second (length sum) c.if-first-ne-TOTALS.true)
 
 pub returns-then-second-ne-TOTALS : goal.returns-then-second-ne-TOTALS
 returns-then-second-ne-TOTALS c =
-    let s = c.before.before.before.before.before in let first = s.args.first.now in let second = s.args.second.now in let sum = s.args.sum.now in
+    let first = c.args.first.now in let second = c.args.second.now in let sum = c.args.sum.now in
     refused_adds first second sum (Count 0) (by_second first second (length sum) (omega arith) c.if-second-ne-TOTALS.true)
 
 pub returns-then-sum-ne-TOTALS : goal.returns-then-sum-ne-TOTALS
 returns-then-sum-ne-TOTALS c =
-    let s = c.before.before.before.before.before.before in let first = s.args.first.now in let second = s.args.second.now in let sum = s.args.sum.now in
+    let first = c.args.first.now in let second = c.args.second.now in let sum = c.args.sum.now in
     refused_adds first second sum (Count 0) (by_room first second (length sum) (omega arith) (omega arith) c.if-sum-ne-TOTALS.true)
 
 pub returns-in-Refused : goal.returns-in-Refused
 returns-in-Refused c =
-    let s = c.before.before.before.before.before.before.before.before.before.before in let first = s.args.first.now in let second = s.args.second.now in let sum = s.args.sum.now in
-    let why = c.before.by_place-1.given.0.0 in
-    refused_adds first second sum why (by_sizes first second (length sum) (omega arith) (omega arith) (omega arith) why (sym c.before.before.before.check-by_place.ensures ∙ c.before.by_place-1.given.1))
+    let first = c.args.first.now in let second = c.args.second.now in let sum = c.args.sum.now in
+    let why = c.in-Refused.why in
+    refused_adds first second sum why (by_sizes first second (length sum) (omega arith) (omega arith) (omega arith) why (sym c.check-by_place.ensures ∙ c.in-Refused.is))
 
 pub overflow_add-first : goal.overflow_add-first
 overflow_add-first c =
-    let s = c.before.before.before.before.before.before.before.before.before.before.before in let first = s.args.first.now in let second = s.args.second.now in let sum = s.args.sum.now in
-    record { fits = omega (arith, small first second (sized c.before.before) 0 (omega arith)) }
+    let first = c.args.first.now in let second = c.args.second.now in let sum = c.args.sum.now in
+    record { fits = omega (arith, small first second (sized (record { before = c.before.before.before; type_inv = record { sum = c.slice_known-1.given; second = c.shared_slice_known-2-1.given; first = c.shared_slice_known-1.given } })) 0 (omega arith)) }
 
 pub returns-then-first-second-gt-MOST_NETS : goal.returns-then-first-second-gt-MOST_NETS
 returns-then-first-second-gt-MOST_NETS c =
-    let s = c.before.before.before.before.before.before.before.before.before.before.before.before in let first = s.args.first.now in let second = s.args.second.now in let sum = s.args.sum.now in
-    refused_adds first second sum (Nets 100001) (past_nets first second (length sum) (omega arith) (omega arith) (omega arith) (sized c.before.before.before) (omega arith))
+    let first = c.args.first.now in let second = c.args.second.now in let sum = c.args.sum.now in
+    refused_adds first second sum (Nets 100001) (past_nets first second (length sum) (omega arith) (omega arith) (omega arith) (sized (record { before = c.before.before.before.before; type_inv = record { sum = c.slice_known-1.given; second = c.shared_slice_known-2-1.given; first = c.shared_slice_known-1.given } })) (omega arith))
 
 pub add-requires : goal.add-requires
 add-requires c =
-    let s = c.before.before.before.before.before.before.before.before.before.before.before.before.before.before.before.before.before in let first = s.args.first.now in let second = s.args.second.now in
-    let copied = c.before.before.before.copy.ensures in let fits = small first second (sized c.before.before.before.before.before.before.before.before) in
+    let first = c.args.first.now in let second = c.args.second.now in
+    let copied = c.copy.ensures in let fits = small first second (sized (record { before = c.before.before.before.before.before.before.before.before.before; type_inv = record { sum = c.slice_known-1.given; second = c.shared_slice_known-2-1.given; first = c.shared_slice_known-1.given } })) in
     record {
       totals_len = (omega (arith, ap length copied), omega arith);
       by_index = λ i l. omega (arith, fits i l, ap (λ (x : List ℕ). get_or x i 0) copied);
@@ -59,6 +59,6 @@ add-requires c =
 
 pub returns : goal.returns
 returns c =
-    let s = c.before.before.before.before.before.before.before.before.before.before.before.before.before.before.before.before.before.before.before.before in let first = s.args.first.now in let second = s.args.second.now in let sum = s.args.sum.now in
-    accepted_adds first second sum (within_nets first second (length sum) (omega arith) (omega arith) (omega arith) (sized c.before.before.before.before.before.before.before.before.before.before.before) (omega arith))
-    (c.before.before.add.ensures ∙ ap (λ (x : List ℕ). sum_of x second) c.before.before.before.before.before.before.copy.ensures)
+    let first = c.args.first.now in let second = c.args.second.now in let sum = c.args.sum.now in
+    accepted_adds first second sum (within_nets first second (length sum) (omega arith) (omega arith) (omega arith) (sized (record { before = c.before.before.before.before.before.before.before.before.before.before.before.before; type_inv = record { sum = c.slice_known-1.given; second = c.shared_slice_known-2-1.given; first = c.shared_slice_known-1.given } })) (omega arith))
+    (c.add.ensures ∙ ap (λ (x : List ℕ). sum_of x second) c.copy.ensures)

@@ -14,12 +14,11 @@ loop-i-init c = (omega arith, filled_none 0 _ 0 _)
 pub loop-i-preserved : goal.loop-i-preserved
 unfolding total
 loop-i-preserved c =
-    let l = c.before in let s = l.before in
-    (omega arith, filled_more 0 (λ k. total k []) 0 l.loop-i.i s.args.totals.now l.loop-i.totals 0 (omega (arith, s.requires)) l.loop-i.invariant.1 refl)
+    (omega arith, filled_more 0 (λ k. total k []) 0 c.loop-i.i c.args.totals.now c.loop-i.totals 0 (omega (arith, c.requires)) c.loop-i.invariant.1 refl)
 
 pub returns : goal.returns
 unfolding report_of
 returns c =
-    let l = c.before in let s = l.before in let g : ℕ → ℕ = λ k. total k [] in
-    let e : l.loop-i.i ≡ 16 = omega arith in
-    filled_all 0 g 16 s.args.totals.now l.loop-i.totals s.requires (subst (λ (n : ℕ). Filled 0 g 0 n s.args.totals.now l.loop-i.totals) e l.loop-i.invariant.1)
+    let g : ℕ → ℕ = λ k. total k [] in
+    let e : c.loop-i.i ≡ 16 = omega arith in
+    filled_all 0 g 16 c.args.totals.now c.loop-i.totals c.requires (subst (λ (n : ℕ). Filled 0 g 0 n c.args.totals.now c.loop-i.totals) e c.loop-i.invariant.1)

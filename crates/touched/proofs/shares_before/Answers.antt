@@ -18,31 +18,31 @@ abbrev three : List ℕ → ℕ → ℕ → Bool
 three words j k = leb 3 (shared_ones (get_or words j 0) (get_or words k 0))
 
 pub loop-k-init : goal.loop-k-init
-loop-k-init c = let s = c.before in (omega arith, failed_none (three s.args.words.now s.args.j))
+loop-k-init c = (omega arith, failed_none (three c.args.words.now c.args.j))
 
 -- in a turn
 module _ (c : After-shared) where
   abbrev loop : At-loop-k
-  loop = c.before.before.before
+  loop = (record { before = c.before.before.before.before.before; type_inv = record { words = c.way_told-1.given } })
 
   abbrev j : ℕ
-  j = loop.before.before.args.j
+  j = loop.args.j
 
   abbrev test : ℕ → Bool
-  test = three loop.before.before.args.words.now j
+  test = three loop.args.words.now j
 
 pub returns-then-shared-ge3 : goal.returns-then-shared-ge3
 returns-then-shared-ge3 c =
-    let b = c.before in let l = loop b in
+    let b : After-shared = record { before = c.before.before; type_inv = record { words = c.way_told-in-loop-k-1.given } } in let l = loop b in
     sym (some_at (j b) (test b) l.loop-k.k (omega arith) l.loop-k.invariant.1 (le-leb 3 _ (rw b.shared.ensures at c.if-shared-ge3.true)))
 
 pub loop-k-preserved : goal.loop-k-preserved
 loop-k-preserved c =
-    let b = c.before in let l = loop b in
+    let b : After-shared = record { before = c.before.before; type_inv = record { words = c.way_told-in-loop-k-1.given } } in let l = loop b in
     (omega arith, failed_more (test b) l.loop-k.k l.loop-k.invariant.1 (lt-leb 3 _ (rw b.shared.ensures at c.if-shared-ge3.false)))
 
 pub returns : goal.returns
 returns c =
-    let l = c.before in let s = l.before.before in let e : l.loop-k.k ≡ s.args.j = omega arith in
-    let test = three s.args.words.now s.args.j in
-    sym (some_none s.args.j test (subst (Failed test) e l.loop-k.invariant.1))
+    let e : c.loop-k.k ≡ c.args.j = omega arith in
+    let test = three c.args.words.now c.args.j in
+    sym (some_none c.args.j test (subst (Failed test) e c.loop-k.invariant.1))

@@ -6,5 +6,5 @@ use Rattle.touched.proofs.shares_three.Goals as goal
 
 pub returns : goal.returns
 returns c =
-    let w = c.before.before in let a = w.before.args in
-    c.some_Share.ensures ∙ shares_three_lem a.a.now a.m a.n w.words-all.result w.words-all.ensures
+    let a = c.args in
+    c.some_Share.ensures ∙ shares_three_lem a.a.now a.m a.n c.words-all.result c.words-all.ensures

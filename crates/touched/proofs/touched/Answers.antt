@@ -22,13 +22,13 @@ loop-i-init c = (omega arith, refl)
 -- in a turn: the directions before i, each with whether the condition touches it
 module _ (l : At-loop-i) where
   abbrev a : List ℤ
-  a = l.before.args.a.now
+  a = l.args.a.now
 
   abbrev at : ℕ
-  at = l.before.args.j * l.before.args.m + l.loop-i.i
+  at = l.args.j * l.args.m + l.loop-i.i
 
   before_i : l.loop-i.word < 2 ^ l.loop-i.i
-  before_i = rw l.loop-i.invariant.1 (word_below l.loop-i.i (touches a l.before.args.m l.before.args.j))
+  before_i = rw l.loop-i.invariant.1 (word_below l.loop-i.i (touches a l.args.m l.args.j))
 
 pub with_direction-word-requires : goal.with_direction-word-requires
 with_direction-word-requires c = let l = c.before.before in (omega arith, before_i l)
@@ -37,12 +37,12 @@ pub loop-i-preserved : goal.loop-i-preserved
 loop-i-preserved c =
     let l = c.before.before.before in let i = l.loop-i.i in (
       omega arith,
-      c.with_direction-word.ensures ∙ ap (λ (z : ℤ). one_if (not (same z (pos 0))) * 2 ^ i + l.loop-i.word) (read_at (get_or (a l) (at l) (pos 0)) c.before.x-1.given)
+      c.with_direction-word.ensures ∙ ap (λ (z : ℤ). one_if (not (same z (pos 0))) * 2 ^ i + l.loop-i.word) (read_at (get_or (a l) (at l) (pos 0)) c.x-1.given)
           ∙ ap (λ (w : ℕ). one_if (not (same (get_or (a l) (at l) (pos 0)) (pos 0))) * 2 ^ i + w) l.loop-i.invariant.1
-          ∙ sym (word_more i (touches (a l) l.before.args.m l.before.args.j)),
+          ∙ sym (word_more i (touches (a l) l.args.m l.args.j)),
     )
 
 pub returns : goal.returns
 returns c =
-    let l = c.before in let e : l.loop-i.i ≡ l.before.args.m = omega arith in
-    l.loop-i.invariant.1 ∙ ap (λ (n : ℕ). word n (touches l.before.args.a.now l.before.args.m l.before.args.j)) e
+    let e : c.loop-i.i ≡ c.args.m = omega arith in
+    c.loop-i.invariant.1 ∙ ap (λ (n : ℕ). word n (touches c.args.a.now c.args.m c.args.j)) e

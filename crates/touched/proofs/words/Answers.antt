@@ -13,13 +13,13 @@ loop-j-init c = (omega arith, filled_none 0 (word_of c.args.a.now c.args.m) 0 _)
 -- row j ends within the coefficients
 pub touched-requires : goal.touched-requires
 touched-requires c =
-    let s = c.before.before in let j = c.before.loop-j.j in let l : j < s.args.n = omega arith in
-    (s.requires.0, omega (arith, mul-le-mul_right s.args.m l, suc-mul j s.args.m, s.requires.2))
+    let j = c.loop-j.j in let l : j < c.args.n = omega arith in
+    (c.requires.0, omega (arith, mul-le-mul_right c.args.m l, suc-mul j c.args.m, c.requires.2))
 
 pub loop-j-preserved : goal.loop-j-preserved
 loop-j-preserved c =
-    let l = c.before.before in let a = l.before.args in
-    (omega arith, filled_more 0 (word_of a.a.now a.m) 0 l.loop-j.j _ l.loop-j.all c.touched.result (omega arith) l.loop-j.invariant.1 c.touched.ensures)
+    let a = c.args in
+    (omega arith, filled_more 0 (word_of a.a.now a.m) 0 c.loop-j.j _ c.loop-j.all c.touched.result (omega arith) c.loop-j.invariant.1 c.touched.ensures)
 
 pub returns : goal.returns
-returns c = λ j h. c.before.loop-j.invariant.1.done j zero-le (omega arith)
+returns c = λ j h. c.loop-j.invariant.1.done j zero-le (omega arith)

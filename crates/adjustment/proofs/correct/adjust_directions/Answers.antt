@@ -22,22 +22,22 @@ loop-i-init c = (omega arith, filled_none (pos 0) (added c.args.directions.now c
 
 pub turned-requires : goal.turned-requires
 turned-requires c =
-    let l = c.before.before.before in let s = l.before in let i = l.loop-i.i in let h : i < length s.args.adjusted.now = omega (arith, l.loop-i.invariant.1.long) in (
-      read_within (get_or s.args.directions.now i (pos 0)) c.before.x-1.given (s.requires.small.0 i h),
-      read_within (get_or s.args.u.now i (pos 0)) c.y-1.given (s.requires.small.1 i h),
+    let i = c.loop-i.i in let h : i < length c.args.adjusted.now = omega (arith, c.loop-i.invariant.1.long) in (
+      read_within (get_or c.args.directions.now i (pos 0)) c.x-1.given (c.requires.small.0 i h),
+      read_within (get_or c.args.u.now i (pos 0)) c.y-1.given (c.requires.small.1 i h),
     )
 
 pub loop-i-preserved : goal.loop-i-preserved
 loop-i-preserved c =
-    let l = c.before.before.before.before in let s = l.before in let i = l.loop-i.i in
-    let x = get_or s.args.directions.now i (pos 0) in let y = get_or s.args.u.now i (pos 0) in (
+    let i = c.loop-i.i in
+    let x = get_or c.args.directions.now i (pos 0) in let y = get_or c.args.u.now i (pos 0) in (
       omega arith,
-      filled_more (pos 0) (added s.args.directions.now s.args.u.now) 0 i s.args.adjusted.now l.loop-i.adjusted (to_z w64 (of_z w64 c.turned.result)) (omega (arith, l.loop-i.invariant.1.long)) l.loop-i.invariant.1
-          (read_at c.turned.result c.turned.type-inv ∙ c.turned.ensures ∙ ap₂ (λ (u v : ℤ). modulo (u +ℤ v) C) (read_at x c.before.before.x-1.given) (read_at y c.before.y-1.given)),
+      filled_more (pos 0) (added c.args.directions.now c.args.u.now) 0 i c.args.adjusted.now c.loop-i.adjusted (to_z w64 (of_z w64 c.turned.result)) (omega (arith, c.loop-i.invariant.1.long)) c.loop-i.invariant.1
+          (read_at c.turned.result c.turned.type_inv ∙ c.turned.ensures ∙ ap₂ (λ (u v : ℤ). modulo (u +ℤ v) C) (read_at x c.x-1.given) (read_at y c.y-1.given)),
     )
 
 pub returns : goal.returns
 returns c =
-    let l = c.before in let s = l.before in let e : l.loop-i.i ≡ length s.args.adjusted.now = omega (arith, l.loop-i.invariant.1.long) in
-    filled_all (pos 0) (added s.args.directions.now s.args.u.now) (length s.args.adjusted.now) s.args.adjusted.now l.loop-i.adjusted refl
-    (subst (λ (i : ℕ). Filled (pos 0) (added s.args.directions.now s.args.u.now) 0 i s.args.adjusted.now l.loop-i.adjusted) e l.loop-i.invariant.1)
+    let e : c.loop-i.i ≡ length c.args.adjusted.now = omega (arith, c.loop-i.invariant.1.long) in
+    filled_all (pos 0) (added c.args.directions.now c.args.u.now) (length c.args.adjusted.now) c.args.adjusted.now c.loop-i.adjusted refl
+    (subst (λ (i : ℕ). Filled (pos 0) (added c.args.directions.now c.args.u.now) 0 i c.args.adjusted.now c.loop-i.adjusted) e c.loop-i.invariant.1)

@@ -30,10 +30,9 @@ loop-j-init c =
 within : (j n m i : ℕ) {len at : ℕ} → j < n → i < m → len ≡ n * m → at ≡ j * m + i → at < len
 within j n m i {len} {at} l k e f = omega (arith, f, row_end j n m {len = len} {at = j * m} l e refl)
 
-in_list : (c : In-loop-j) → c.before.loop-j.at < length c.before.before.args.a.now
+in_list : (c : In-loop-j) → c.loop-j.at < length c.args.a.now
 in_list c =
-    let l = c.before in let s = l.before in
-    within l.loop-j.j s.args.n s.args.m s.args.i (omega arith) s.requires.i_lt_m.0 s.requires.i_lt_m.3 l.loop-j.invariant.1
+    within c.loop-j.j c.args.n c.args.m c.args.i (omega arith) c.requires.i_lt_m.0 c.requires.i_lt_m.3 c.loop-j.invariant.1
 
 pub offset_bounds-a-at : goal.offset_bounds-a-at
 offset_bounds-a-at c = omega (arith, in_list c)
@@ -58,25 +57,25 @@ module _ (c : After-y-1) where
   abbrev j : ℕ
   j = loop.loop-j.j
 
-  sum_size : nat_abs (to_z w64 loop.loop-j.s) ≤ 7000000000000000000
+  sum_size : nat_abs (to_z w64 loop.loop-j.s-bits) ≤ 7000000000000000000
   sum_size =
       rw loop.loop-j.invariant.2
       (omega (
         arith,
         sum_within j 24 200000000000 terms (omega arith)
-            (λ h l. product_size (get_or a (h * start.args.m + start.args.i) (pos 0)) (get_or start.args.k.now h (pos 0)) (start.requires.by_index.0 h (omega arith)) (start.requires.by_index.1.1 h (omega arith))),
+            (λ h l. product_size (get_or a (h * start.args.m + start.args.i) (pos 0)) (get_or start.args.k.now h (pos 0)) (start.requires.by_index h (omega arith)) (start.requires.n_in_bounds.1 h (omega arith))),
       ))
 
   -- the coefficient, as the code finds it
   coefficient_is : to_z w64 (of_z w64 (get_or a loop.loop-j.at (pos 0))) ≡ get_or a (j * start.args.m + start.args.i) (pos 0)
-  coefficient_is = read_at (get_or a loop.loop-j.at (pos 0)) c.before.x-1.given ∙ ap (λ (k : ℕ). get_or a k (pos 0)) loop.loop-j.invariant.1
+  coefficient_is = read_at (get_or a loop.loop-j.at (pos 0)) c.x-1.given ∙ ap (λ (k : ℕ). get_or a k (pos 0)) loop.loop-j.invariant.1
 
 pub plus_product-s-requires : goal.plus_product-s-requires
 plus_product-s-requires c =
     let s = start c in let l : j c < s.args.n = omega arith in (
       sum_size c,
-      rw (coefficient_is c) (omega (arith, s.requires.by_index.0 (j c) l)),
-      omega (arith, read_within (get_or s.args.k.now (j c) (pos 0)) c.y-1.given (s.requires.by_index.1.1 (j c) l)),
+      rw (coefficient_is c) (omega (arith, s.requires.by_index (j c) l)),
+      omega (arith, read_within (get_or s.args.k.now (j c) (pos 0)) c.y-1.given (s.requires.n_in_bounds.1 (j c) l)),
     )
 
 pub overflow_add-at : goal.overflow_add-at
@@ -87,12 +86,12 @@ loop-j-preserved c =
     let b = c.before in let s = start b in (
       omega arith,
       omega (arith, (loop b).loop-j.invariant.1, next_row (j b) s.args.m {at = j b * s.args.m} refl),
-      read_at c.plus_product-s.result c.plus_product-s.type-inv ∙ c.plus_product-s.ensures
+      read_at c.plus_product-s.result c.plus_product-s.type_inv ∙ c.plus_product-s.ensures
           ∙ ap₂ ◌+ℤ◌ (loop b).loop-j.invariant.2 (ap₂ ◌*ℤ◌ (coefficient_is b) (read_at (get_or s.args.k.now (j b) (pos 0)) b.y-1.given))
           ∙ sym (sum_more (j b) (terms b)),
     )
 
 pub returns : goal.returns
 returns c =
-    let s = c.before.before in let e : c.before.loop-j.j ≡ s.args.n = omega arith in
-    c.before.loop-j.invariant.2 ∙ ap (λ (k : ℕ). sum k (term s.args.a.now s.args.k.now s.args.i s.args.m)) e
+    let e : c.loop-j.j ≡ c.args.n = omega arith in
+    c.loop-j.invariant.2 ∙ ap (λ (k : ℕ). sum k (term c.args.a.now c.args.k.now c.args.i c.args.m)) e

@@ -21,7 +21,7 @@ abbrev term : List ℤ → List ℤ → ℕ → ℕ → ℕ → ℤ
 term a k i m j = get_or a (j * m + i) (pos 0) *ℤ get_or k j (pos 0)
 
 abbrev pub invariant-loop-j : goal.invariant-loop-j
-invariant-loop-j l = (l.j ≤ l.n) × (l.at ≡ l.j * l.m + l.i) × (to_z w64 l.s ≡ sum l.j (term l.a l.k l.i l.m))
+invariant-loop-j l = (l.j ≤ l.n) × (l.at ≡ l.j * l.m + l.i) × (l.s ≡ sum l.j (term l.a l.k l.i l.m))
 
 abbrev pub decreases-loop-j : goal.decreases-loop-j
 decreases-loop-j l = l.n - l.j

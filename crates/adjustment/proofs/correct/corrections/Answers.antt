@@ -22,11 +22,11 @@ loop-i-init c =
 
 pub combined-s-requires : goal.combined-s-requires
 combined-s-requires c =
-    let l = c.before.before in let s = l.before in let t = s.requires.sound in let h : l.loop-i.i < length s.args.q.now = omega arith in
+    let t = c.requires.sound in let h : c.loop-i.i < length c.args.q.now = omega arith in
     record {
       i_lt_m = (h, t.m_most, t.n_most, t.long);
-      by_index = (λ j e. t.a_most j e l.loop-i.i h);
-      n_in_bounds = s.requires.w_in_bounds.0;
+      by_index = (λ j e. t.a_most j e c.loop-i.i h);
+      n_in_bounds = c.requires.w_in_bounds;
     }
 
 -- in a turn
@@ -50,29 +50,29 @@ module _ (c : After-combined-s) where
   sum_size =
       rw c.combined-s.ensures
       (sum_within t.n 24 200000000000 (λ j. t.a j i *ℤ at start.args.k.now j) start.requires.sound.n_most
-      (λ j e. product_size (t.a j i) (at start.args.k.now j) (start.requires.sound.a_most j e i below) (start.requires.w_in_bounds.0.1 j e)))
+      (λ j e. product_size (t.a j i) (at start.args.k.now j) (start.requires.sound.a_most j e i below) (start.requires.w_in_bounds.1 j e)))
 
 pub weighted-requires : goal.weighted-requires
 weighted-requires c = (
-  read_within (get_or (start c).args.q.now (i c) (pos 0)) c.before.g-1.given ((start c).requires.sound.q_most (i c) (below c)),
-  read_within c.combined-s.result c.combined-s.type-inv (sum_size c),
+  read_within (get_or (start c).args.q.now (i c) (pos 0)) c.g-1.given ((start c).requires.sound.q_most (i c) (below c)),
+  read_within c.combined-s.result c.combined-s.type_inv (sum_size c),
 )
 
 pub bounds-v-i : goal.bounds-v-i
-bounds-v-i c = let b = c.before in omega (arith, below b, (loop b).loop-i.invariant.1.long, (start b).requires.w_in_bounds.1)
+bounds-v-i c = let b = c.before in omega (arith, below b, (loop b).loop-i.invariant.1.long, (start b).requires.q_in_bounds)
 
 pub loop-i-preserved : goal.loop-i-preserved
 unfolding V_of
 loop-i-preserved c =
     let b = c.before in let s = start b in (
       omega arith,
-      filled_more (pos 0) (V_of (t b) (at s.args.k.now)) 0 (i b) s.args.v.now (loop b).loop-i.v (to_z w64 (of_z w64 c.weighted.result)) (omega (arith, s.requires.w_in_bounds.1, below b)) (loop b).loop-i.invariant.1
-          (read_at c.weighted.result c.weighted.type-inv ∙ c.weighted.ensures
-          ∙ ap₂ ◌*ℤ◌ (read_at (get_or s.args.q.now (i b) (pos 0)) b.before.g-1.given) (read_at b.combined-s.result b.combined-s.type-inv ∙ b.combined-s.ensures)),
+      filled_more (pos 0) (V_of (t b) (at s.args.k.now)) 0 (i b) s.args.v.now (loop b).loop-i.v (to_z w64 (of_z w64 c.weighted.result)) (omega (arith, s.requires.q_in_bounds, below b)) (loop b).loop-i.invariant.1
+          (read_at c.weighted.result c.weighted.type_inv ∙ c.weighted.ensures
+          ∙ ap₂ ◌*ℤ◌ (read_at (get_or s.args.q.now (i b) (pos 0)) b.g-1.given) (read_at b.combined-s.result b.combined-s.type_inv ∙ b.combined-s.ensures)),
     )
 
 pub shape_of-v : goal.shape_of-v
-shape_of-v c = c.before.loop-i.invariant.1.long
+shape_of-v c = c.loop-i.invariant.1.long
 
 pub returns : goal.returns
-returns c = λ i l. c.before.loop-i.invariant.1.done i zero-le (omega arith)
+returns c = λ i l. c.loop-i.invariant.1.done i zero-le (omega arith)

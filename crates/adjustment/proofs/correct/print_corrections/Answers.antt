@@ -44,11 +44,11 @@ module _ (c : After-magnitude) where
   below : i < start.args.m
   below = omega arith
 
-  rounded : c.before.nearest-y.result ≡ rounding (at v) i
-  rounded = c.before.nearest-y.ensures ∙ ap (λ (z : ℤ). nearest z (pos 100000)) (read_at (at v i) c.before.before.x-1.given)
+  rounded : c.nearest-y.result ≡ rounding (at v) i
+  rounded = c.nearest-y.ensures ∙ ap (λ (z : ℤ). nearest z (pos 100000)) (read_at (at v i) c.x-1.given)
 
   size_is : c.magnitude.result ≡ nat_abs (rounding (at v) i)
-  size_is = c.magnitude.ensures ∙ ap nat_abs (read_at c.before.nearest-y.result c.before.nearest-y.type-inv ∙ rounded)
+  size_is = c.magnitude.ensures ∙ ap nat_abs (read_at c.nearest-y.result c.nearest-y.type_inv ∙ rounded)
 
 pub returns-then-magnitude-gt-MINUTE : goal.returns-then-magnitude-gt-MINUTE
 returns-then-magnitude-gt-MINUTE c =
@@ -59,17 +59,17 @@ returns-then-magnitude-gt-MINUTE c =
 
 pub loop-i-preserved : goal.loop-i-preserved
 loop-i-preserved c =
-    let b = c.before in let h = (loop b).loop-i.invariant in let y = b.before.nearest-y.result in (
+    let b = c.before in let h = (loop b).loop-i.invariant in let y = b.nearest-y.result in (
       omega arith,
       failed_more (past (v b)) (i b) h.1 (le-ltb 60000 (nat_abs (rounding (at (v b)) (i b))) (rw (size_is b) at c.if-magnitude-gt-MINUTE.false)),
       filled_more (pos 0) (rounding (at (v b))) 0 (i b) (start b).args.u.now (loop b).loop-i.u (to_z w64 (of_z w64 y))
-          (omega (arith, (start b).requires.1, h.2.long, below b)) h.2 (read_at y b.before.nearest-y.type-inv ∙ rounded b),
+          (omega (arith, (start b).requires.1, h.2.long, below b)) h.2 (read_at y b.nearest-y.type_inv ∙ rounded b),
     )
 
 pub returns : goal.returns
 returns c =
-    let l = c.before in let s = l.before in let test = past s.args.v.now in let e : l.loop-i.i ≡ s.args.m = omega arith in
+    let test = past c.args.v.now in let e : c.loop-i.i ≡ c.args.m = omega arith in
     record {
-      value = e ∙ sym (first_none s.args.m test (subst (Failed test) e l.loop-i.invariant.1));
-      by_index = λ h k. l.loop-i.invariant.2.done h zero-le k;
+      value = e ∙ sym (first_none c.args.m test (subst (Failed test) e c.loop-i.invariant.1));
+      by_index = λ h k. c.loop-i.invariant.2.done h zero-le k;
     }

@@ -30,10 +30,10 @@ loop-j-init c =
 
 pub sum_seen-s-requires : goal.sum_seen-s-requires
 sum_seen-s-requires c =
-    let l = c.before in let s = l.before in let t = s.requires.sound in let m = length s.args.q.now in let h : l.loop-j.j < length s.args.w.now = omega arith in record {
-      m_bound = (t.m_most, row_end l.loop-j.j (length s.args.w.now) m h t.long l.loop-j.invariant.1, s.requires.q_in_bounds.0.0);
-      within = subst (λ (k : ℕ). Within 2000 s.args.a.now k m) (sym l.loop-j.invariant.1) (t.a_most l.loop-j.j h);
-      small = λ i e. omega (arith, s.requires.q_in_bounds.1 i e);
+    let t = c.requires.sound in let m = length c.args.q.now in let h : c.loop-j.j < length c.args.w.now = omega arith in record {
+      m_bound = (t.m_most, row_end c.loop-j.j (length c.args.w.now) m h t.long c.loop-j.invariant.1, c.requires.q_in_bounds.0);
+      within = subst (λ (k : ℕ). Within 2000 c.args.a.now k m) (sym c.loop-j.invariant.1) (t.a_most c.loop-j.j h);
+      small = λ i e. omega (arith, c.requires.small i e);
     }
 
 -- in a turn
@@ -63,12 +63,12 @@ module _ (c : After-sum_seen-s) where
   sum_size =
       rw sum_is
       (sum_within t.m 64 120000000 (λ i. t.a j i *ℤ at u i) start.requires.sound.m_most
-      (λ i l. product_size (t.a j i) (at u i) (start.requires.sound.a_most j below i l) (start.requires.q_in_bounds.1 i l)))
+      (λ i l. product_size (t.a j i) (at u i) (start.requires.sound.a_most j below i l) (start.requires.small i l)))
 
 pub printed_remainder-requires : goal.printed_remainder-requires
 printed_remainder-requires c =
     let b = c.before in let s = start b in (
-      read_within b.sum_seen-s.result b.sum_seen-s.type-inv (sum_size b),
+      read_within b.sum_seen-s.result b.sum_seen-s.type_inv (sum_size b),
       read_within (get_or s.args.w.now (j b) (pos 0)) c.x-1.given (s.requires.sound.w_most (j b) (below b)),
     )
 
@@ -83,13 +83,13 @@ loop-j-preserved c =
       omega arith,
       next_row (j b) (t b).m i.1,
       filled_more (pos 0) (printed_at s.args.q.now s.args.a.now s.args.w.now (u b)) 0 (j b) s.args.printed.now (loop b).loop-j.printed (to_z w64 (of_z w64 c.printed_remainder.result))
-          (omega (arith, s.requires.q_in_bounds.0.1, below b)) i.2
-          (read_at c.printed_remainder.result c.printed_remainder.type-inv ∙ c.printed_remainder.ensures
-          ∙ ap₂ (λ (x y : ℤ). pos 100000 *ℤ x +ℤ pos 10000000 *ℤ y) (read_at b.sum_seen-s.result b.sum_seen-s.type-inv ∙ sum_is b) (read_at (at s.args.w.now (j b)) c.before.x-1.given)),
+          (omega (arith, s.requires.q_in_bounds.1, below b)) i.2
+          (read_at c.printed_remainder.result c.printed_remainder.type_inv ∙ c.printed_remainder.ensures
+          ∙ ap₂ (λ (x y : ℤ). pos 100000 *ℤ x +ℤ pos 10000000 *ℤ y) (read_at b.sum_seen-s.result b.sum_seen-s.type_inv ∙ sum_is b) (read_at (at s.args.w.now (j b)) c.x-1.given)),
     )
 
 pub returns : goal.returns
 returns c =
-    let l = c.before in let s = l.before in let n = length s.args.w.now in let e : l.loop-j.j ≡ n = omega arith in
-    let g = printed_at s.args.q.now s.args.a.now s.args.w.now s.args.u.now in
-    filled_all (pos 0) g n s.args.printed.now l.loop-j.printed s.requires.q_in_bounds.0.1 (subst (λ (i : ℕ). Filled (pos 0) g 0 i s.args.printed.now l.loop-j.printed) e l.loop-j.invariant.2)
+    let n = length c.args.w.now in let e : c.loop-j.j ≡ n = omega arith in
+    let g = printed_at c.args.q.now c.args.a.now c.args.w.now c.args.u.now in
+    filled_all (pos 0) g n c.args.printed.now c.loop-j.printed c.requires.q_in_bounds.1 (subst (λ (i : ℕ). Filled (pos 0) g 0 i c.args.printed.now c.loop-j.printed) e c.loop-j.invariant.2)

@@ -39,10 +39,10 @@ loop-j-init c =
 
 pub sum_seen-s-requires : goal.sum_seen-s-requires
 sum_seen-s-requires c =
-    let l = c.before in let s = l.before in let t = s.requires.sound in let m = length s.args.q.now in let h : l.loop-j.j < length s.args.w.now = omega arith in record {
-      m_bound = (t.m_most, row_end l.loop-j.j (length s.args.w.now) m h t.long l.loop-j.invariant.1, s.requires.q_in_bounds.0.0);
-      within = subst (λ (k : ℕ). Within 2000 s.args.a.now k m) (sym l.loop-j.invariant.1) (t.a_most l.loop-j.j h);
-      small = s.requires.q_in_bounds.0.1;
+    let t = c.requires.sound in let m = length c.args.q.now in let h : c.loop-j.j < length c.args.w.now = omega arith in record {
+      m_bound = (t.m_most, row_end c.loop-j.j (length c.args.w.now) m h t.long c.loop-j.invariant.1, c.requires.q_in_bounds.0);
+      within = subst (λ (k : ℕ). Within 2000 c.args.a.now k m) (sym c.loop-j.invariant.1) (t.a_most c.loop-j.j h);
+      small = c.requires.q_in_bounds.1;
     }
 
 -- in a turn
@@ -72,12 +72,12 @@ module _ (c : After-sum_seen-s) where
   sum_size =
       rw sum_is
       (sum_within t.m 64 96000000000000000 (λ i. t.a j i *ℤ at v i) start.requires.sound.m_most
-      (λ i l. product_size (t.a j i) (at v i) (start.requires.sound.a_most j below i l) (start.requires.q_in_bounds.0.1 i l)))
+      (λ i l. product_size (t.a j i) (at v i) (start.requires.sound.a_most j below i l) (start.requires.q_in_bounds.1 i l)))
 
 pub remainder-z-requires : goal.remainder-z-requires
 remainder-z-requires c =
     let b = c.before in let s = start b in (
-      read_within b.sum_seen-s.result b.sum_seen-s.type-inv (sum_size b),
+      read_within b.sum_seen-s.result b.sum_seen-s.type_inv (sum_size b),
       read_within (get_or s.args.w.now (j b) (pos 0)) c.x-1.given (s.requires.sound.w_most (j b) (below b)),
     )
 
@@ -86,13 +86,13 @@ module _ (c : After-magnitude) where
   abbrev turn : After-sum_seen-s
   turn = c.before.before.before
 
-  remainder_is : c.before.remainder-z.result ≡ closing (t turn) (at (v turn)) (j turn)
+  remainder_is : c.remainder-z.result ≡ closing (t turn) (at (v turn)) (j turn)
   remainder_is =
-      c.before.remainder-z.ensures
-      ∙ ap₂ (λ (x y : ℤ). x +ℤ pos 10000000 *ℤ y) (read_at turn.sum_seen-s.result turn.sum_seen-s.ok ∙ sum_is turn) (read_at (at (start turn).args.w.now (j turn)) c.before.before.x-1.given)
+      c.remainder-z.ensures
+      ∙ ap₂ (λ (x y : ℤ). x +ℤ pos 10000000 *ℤ y) (read_at turn.sum_seen-s.result turn.sum_seen-s.ok ∙ sum_is turn) (read_at (at (start turn).args.w.now (j turn)) c.x-1.given)
 
   size_is : c.magnitude.result ≡ nat_abs (closing (t turn) (at (v turn)) (j turn))
-  size_is = c.magnitude.ensures ∙ ap nat_abs (read_at c.before.remainder-z.result c.before.remainder-z.type-inv ∙ remainder_is)
+  size_is = c.magnitude.ensures ∙ ap nat_abs (read_at c.remainder-z.result c.remainder-z.type_inv ∙ remainder_is)
 
 pub shape_of-r-then-magnitude-gt50000000 : goal.shape_of-r-then-magnitude-gt50000000
 shape_of-r-then-magnitude-gt50000000 c = (loop (turn c.before)).loop-j.invariant.3.long
@@ -105,7 +105,7 @@ returns-then-magnitude-gt50000000 c =
     }
 
 pub bounds-r-j : goal.bounds-r-j
-bounds-r-j c = let u = turn c.before in omega (arith, below u, (loop u).loop-j.invariant.3.long, (start u).requires.q_in_bounds.1)
+bounds-r-j c = let u = turn c.before in omega (arith, below u, (loop u).loop-j.invariant.3.long, (start u).requires.w_in_bounds)
 
 pub overflow_add-at : goal.overflow_add-at
 overflow_add-at c =
@@ -118,18 +118,18 @@ loop-j-preserved c =
       omega arith,
       next_row (j u) (t u).m i.1,
       failed_more (large (t u) (v u)) (j u) i.2 (le-ltb 50000000 (nat_abs (closing (t u) (at (v u)) (j u))) (rw (size_is b) at c.if-magnitude-gt50000000.false)),
-      filled_more (pos 0) (closing (t u) (at (v u))) 0 (j u) (start u).args.r.now (loop u).loop-j.r (to_z w64 (of_z w64 b.before.remainder-z.result))
-          (omega (arith, (start u).requires.q_in_bounds.1, below u)) i.3 (read_at b.before.remainder-z.result b.before.remainder-z.type-inv ∙ remainder_is b),
+      filled_more (pos 0) (closing (t u) (at (v u))) 0 (j u) (start u).args.r.now (loop u).loop-j.r (to_z w64 (of_z w64 b.remainder-z.result))
+          (omega (arith, (start u).requires.w_in_bounds, below u)) i.3 (read_at b.remainder-z.result b.remainder-z.type_inv ∙ remainder_is b),
     )
 
 pub shape_of-r : goal.shape_of-r
-shape_of-r c = c.before.loop-j.invariant.3.long
+shape_of-r c = c.loop-j.invariant.3.long
 
 pub returns : goal.returns
 returns c =
-    let l = c.before in let s = l.before in let t = table_of s.args.q.now s.args.a.now s.args.w.now in let test = large t s.args.v.now in
-    let e : l.loop-j.j ≡ t.n = omega arith in
+    let t = table_of c.args.q.now c.args.a.now c.args.w.now in let test = large t c.args.v.now in
+    let e : c.loop-j.j ≡ t.n = omega arith in
     record {
-      value = e ∙ sym (first_none t.n test (subst (Failed test) e l.loop-j.invariant.2));
-      by_index = λ h k. l.loop-j.invariant.3.done h zero-le k;
+      value = e ∙ sym (first_none t.n test (subst (Failed test) e c.loop-j.invariant.2));
+      by_index = λ h k. c.loop-j.invariant.3.done h zero-le k;
     }

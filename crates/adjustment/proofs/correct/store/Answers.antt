@@ -17,13 +17,13 @@ loop-i-init c = (omega arith, filled_none (pos 0) (at c.args.from.now) 0 c.args.
 
 pub loop-i-preserved : goal.loop-i-preserved
 loop-i-preserved c =
-    let l = c.before.before in let s = l.before in let x = get_or s.args.from.now l.loop-i.i (pos 0) in (
+    let x = get_or c.args.from.now c.loop-i.i (pos 0) in (
       omega arith,
-      filled_more (pos 0) (at s.args.from.now) 0 l.loop-i.i s.args.to.now l.loop-i.to (to_z w64 (of_z w64 x)) (omega (arith, l.loop-i.invariant.1.long)) l.loop-i.invariant.1 (read_at x c.x-1.given),
+      filled_more (pos 0) (at c.args.from.now) 0 c.loop-i.i c.args.to.now c.loop-i.to (to_z w64 (of_z w64 x)) (omega (arith, c.loop-i.invariant.1.long)) c.loop-i.invariant.1 (read_at x c.x-1.given),
     )
 
 pub returns : goal.returns
 returns c =
-    let l = c.before in let s = l.before in let e : l.loop-i.i ≡ length s.args.to.now = omega (arith, l.loop-i.invariant.1.long) in
-    filled_all (pos 0) (at s.args.from.now) (length s.args.to.now) s.args.to.now l.loop-i.to refl
-    (subst (λ (i : ℕ). Filled (pos 0) (at s.args.from.now) 0 i s.args.to.now l.loop-i.to) e l.loop-i.invariant.1)
+    let e : c.loop-i.i ≡ length c.args.to.now = omega (arith, c.loop-i.invariant.1.long) in
+    filled_all (pos 0) (at c.args.from.now) (length c.args.to.now) c.args.to.now c.loop-i.to refl
+    (subst (λ (i : ℕ). Filled (pos 0) (at c.args.from.now) 0 i c.args.to.now c.loop-i.to) e c.loop-i.invariant.1)

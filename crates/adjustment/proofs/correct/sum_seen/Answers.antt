@@ -37,34 +37,34 @@ module _ (c : After-y-1) where
   abbrev i : ℕ
   i = loop.loop-i.i
 
-  sum_size : nat_abs (to_z w64 loop.loop-i.s) ≤ 7000000000000000000
+  sum_size : nat_abs (to_z w64 loop.loop-i.s-bits) ≤ 7000000000000000000
   sum_size =
       rw loop.loop-i.invariant.1
       (omega (
         arith,
         sum_within i 64 96000000000000000 terms (omega arith)
-            (λ h l. product_size (get_or start.args.a.now (start.args.at + h) (pos 0)) (get_or start.args.x.now h (pos 0)) (start.requires.within.0 h (omega arith)) (start.requires.within.1 h (omega arith))),
+            (λ h l. product_size (get_or start.args.a.now (start.args.at + h) (pos 0)) (get_or start.args.x.now h (pos 0)) (start.requires.within h (omega arith)) (start.requires.small h (omega arith))),
       ))
 
 pub plus_product-s-requires : goal.plus_product-s-requires
 plus_product-s-requires c =
     let s = start c in let l : i c < s.args.m = omega arith in (
       sum_size c,
-      omega (arith, read_within (get_or s.args.a.now (s.args.at + i c) (pos 0)) c.before.c-1.given (s.requires.within.0 (i c) l)),
-      omega (arith, read_within (get_or s.args.x.now (i c) (pos 0)) c.y-1.given (s.requires.within.1 (i c) l)),
+      omega (arith, read_within (get_or s.args.a.now (s.args.at + i c) (pos 0)) c.c-1.given (s.requires.within (i c) l)),
+      omega (arith, read_within (get_or s.args.x.now (i c) (pos 0)) c.y-1.given (s.requires.small (i c) l)),
     )
 
 pub loop-i-preserved : goal.loop-i-preserved
 loop-i-preserved c =
     let b = c.before in let s = start b in (
       omega arith,
-      read_at c.plus_product-s.result c.plus_product-s.type-inv ∙ c.plus_product-s.ensures
+      read_at c.plus_product-s.result c.plus_product-s.type_inv ∙ c.plus_product-s.ensures
           ∙ ap₂ ◌+ℤ◌ (loop b).loop-i.invariant.1
-          (ap₂ ◌*ℤ◌ (read_at (get_or s.args.a.now (s.args.at + i b) (pos 0)) b.before.c-1.given) (read_at (get_or s.args.x.now (i b) (pos 0)) b.y-1.given))
+          (ap₂ ◌*ℤ◌ (read_at (get_or s.args.a.now (s.args.at + i b) (pos 0)) b.c-1.given) (read_at (get_or s.args.x.now (i b) (pos 0)) b.y-1.given))
           ∙ sym (sum_more (i b) (terms b)),
     )
 
 pub returns : goal.returns
 returns c =
-    let s = c.before.before in let e : c.before.loop-i.i ≡ s.args.m = omega arith in
-    c.before.loop-i.invariant.1 ∙ ap (λ (k : ℕ). sum k (term s.args.a.now s.args.x.now s.args.at)) e
+    let e : c.loop-i.i ≡ c.args.m = omega arith in
+    c.loop-i.invariant.1 ∙ ap (λ (k : ℕ). sum k (term c.args.a.now c.args.x.now c.args.at)) e

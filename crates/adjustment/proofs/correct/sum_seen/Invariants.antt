@@ -20,7 +20,7 @@ abbrev term : List ℤ → List ℤ → ℕ → ℕ → ℤ
 term a x at i = get_or a (at + i) (pos 0) *ℤ get_or x i (pos 0)
 
 abbrev pub invariant-loop-i : goal.invariant-loop-i
-invariant-loop-i l = (l.i ≤ l.m) × (to_z w64 l.s ≡ sum l.i (term l.a l.x l.at))
+invariant-loop-i l = (l.i ≤ l.m) × (l.s ≡ sum l.i (term l.a l.x l.at))
 
 abbrev pub decreases-loop-i : goal.decreases-loop-i
 decreases-loop-i l = l.m - l.i

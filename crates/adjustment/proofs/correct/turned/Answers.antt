@@ -12,5 +12,5 @@ overflow_add-direction c = let x = bounded c.args.direction c.requires.0 in let 
 pub returns : goal.returns
 returns c =
     let s = c.before in
-    read_at c.modulo.result c.modulo.type-inv ∙ c.modulo.ensures
+    read_at c.modulo.result c.modulo.type_inv ∙ c.modulo.ensures
     ∙ ap (λ (z : ℤ). modulo z C) (read (overflow_add-direction s) ∙ ap₂ ◌+ℤ◌ (read s.ranges.direction) (read s.ranges.u))

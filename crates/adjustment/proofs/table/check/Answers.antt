@@ -30,11 +30,11 @@ module _ (s : Start) where
 pub returns-then-counts_amiss : goal.returns-then-counts_amiss
 returns-then-counts_amiss c =
     let s = c.before.before in
-    sym (by_counts (ds s) (q s) (a s) (w s) s.args.v s.args.u s.args.adjusted s.args.k s.args.r s.args.s (sym c.before.counts_amiss.ensures ∙ c.if-counts_amiss.true))
+    sym (by_counts (ds s) (q s) (a s) (w s) s.args.v s.args.u s.args.adjusted s.args.k s.args.r s.args.s (sym c.counts_amiss.ensures ∙ c.if-counts_amiss.true))
 
 -- the counts are right
 counts_right : (c : Else-counts_amiss) → counts_amiss (length (ds c.before.before)) (length (w c.before.before)) ≡ false
-counts_right c = sym c.before.counts_amiss.ensures ∙ c.if-counts_amiss.false
+counts_right c = sym c.counts_amiss.ensures ∙ c.if-counts_amiss.false
 
 pub lengths_amiss-requires : goal.lengths_amiss-requires
 lengths_amiss-requires c =
@@ -61,16 +61,16 @@ check-by_direction-requires c = (lengths c).of_q
 
 pub returns-in-Refused : goal.returns-in-Refused
 returns-in-Refused c =
-    let k = c.before.before.before in let e = k.before in let s = start e in
-    sym (by_directions (ds s) (q s) (a s) (w s) s.args.v s.args.u s.args.adjusted s.args.k s.args.r s.args.s (counts_right e.before.before) (lengths_right e) (sym k.check-by_direction.ensures.answer ∙ c.before.by_direction-1.given.1))
+    let e = c.before.before in let s = start e in
+    sym (by_directions (ds s) (q s) (a s) (w s) s.args.v s.args.u s.args.adjusted s.args.k s.args.r s.args.s (counts_right e.before.before) (lengths_right e) (sym c.check-by_direction.ensures.answer ∙ c.in-Refused.is))
 
 -- the directions are in range
 module _ (c : In_default) where
   abbrev else2 : Else-lengths_amiss
-  else2 = c.before.before.before
+  else2 = c.before.before
 
   directions_right : directions_reply (ds (start else2)) (q (start else2)) ≡ Accepted
-  directions_right = sym c.before.before.check-by_direction.ensures.answer ∙ c.enum_told-1.given.1
+  directions_right = sym c.check-by_direction.ensures.answer ∙ c.in_default.is
 
 pub check_conditions-requires : goal.check_conditions-requires
 check_conditions-requires c =

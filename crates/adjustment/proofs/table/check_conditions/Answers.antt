@@ -32,13 +32,13 @@ loop-j-init c =
 -- in a turn
 module _ (l : At-loop-j) where
   abbrev t : Table
-  t = table_of l.before.args.q.now l.before.args.a.now l.before.args.w.now
+  t = table_of l.args.q.now l.args.a.now l.args.w.now
 
   abbrev j : ℕ
   j = l.loop-j.j
 
-  row_within_lem : j < t.n → l.loop-j.at + t.m ≤ length l.before.args.a.now
-  row_within_lem h = row_end j t.n t.m h l.before.requires l.loop-j.invariant.1
+  row_within_lem : j < t.n → l.loop-j.at + t.m ≤ length l.args.a.now
+  row_within_lem h = row_end j t.n t.m h l.requires l.loop-j.invariant.1
 
 pub coefficient_fault-requires : goal.coefficient_fault-requires
 coefficient_fault-requires c = row_within_lem c.before (omega arith)
@@ -47,7 +47,7 @@ coefficient_is : (c : After-coefficient_fault) → c.coefficient_fault.result �
 unfolding coefficient_fault
 coefficient_is c =
     let l = c.before.before in
-    c.coefficient_fault.ensures ∙ ap (λ (k : ℕ). some_below (t l).m (λ i. ltb 2000 (nat_abs (get_or l.before.args.a.now (k + i) (pos 0))))) l.loop-j.invariant.1
+    c.coefficient_fault.ensures ∙ ap (λ (k : ℕ). some_below (t l).m (λ i. ltb 2000 (nat_abs (get_or l.args.a.now (k + i) (pos 0))))) l.loop-j.invariant.1
 
 -- why condition j is refused
 abbrev why : Table → ℕ → Refusal
@@ -65,10 +65,10 @@ module _ (c : After-magnitude) where
   outer = c.before.before.before.before.before
 
   coefficients_sound : coefficient_fault (t outer) (j outer) ≡ false
-  coefficients_sound = sym (coefficient_is c.before.before.before) ∙ c.before.before.if-coefficient_fault.false
+  coefficients_sound = sym (coefficient_is c.before.before.before) ∙ c.if-coefficient_fault.false
 
   size_is : c.magnitude.result ≡ nat_abs ((t outer).w (j outer))
-  size_is = c.magnitude.ensures ∙ ap nat_abs (read_at ((t outer).w (j outer)) c.before.x-1.given)
+  size_is = c.magnitude.ensures ∙ ap nat_abs (read_at ((t outer).w (j outer)) c.x-1.given)
 
 pub returns-then-magnitude-gt1000000 : goal.returns-then-magnitude-gt1000000
 unfolding conditions_reply misclosure_fault

@@ -28,15 +28,15 @@ module _ (c : After-magnitude) where
   loop = c.before.before.before
 
   abbrev test : ℕ → Bool
-  test = large loop.before.args.a.now loop.before.args.at
+  test = large loop.args.a.now loop.args.at
 
-  size_is : c.magnitude.result ≡ nat_abs (get_or loop.before.args.a.now (loop.before.args.at + loop.loop-i.i) (pos 0))
-  size_is = c.magnitude.ensures ∙ ap nat_abs (read_at (get_or loop.before.args.a.now (loop.before.args.at + loop.loop-i.i) (pos 0)) c.before.x-1.given)
+  size_is : c.magnitude.result ≡ nat_abs (get_or loop.args.a.now (loop.args.at + loop.loop-i.i) (pos 0))
+  size_is = c.magnitude.ensures ∙ ap nat_abs (read_at (get_or loop.args.a.now (loop.args.at + loop.loop-i.i) (pos 0)) c.x-1.given)
 
 pub returns-then-magnitude-gt2000 : goal.returns-then-magnitude-gt2000
 returns-then-magnitude-gt2000 c =
     let b = c.before in let l = loop b in
-    sym (some_at l.before.args.m (test b) l.loop-i.i (omega arith) l.loop-i.invariant.1 (lt-ltb 2000 _ (rw (size_is b) at c.if-magnitude-gt2000.true)))
+    sym (some_at l.args.m (test b) l.loop-i.i (omega arith) l.loop-i.invariant.1 (lt-ltb 2000 _ (rw (size_is b) at c.if-magnitude-gt2000.true)))
 
 pub loop-i-preserved : goal.loop-i-preserved
 loop-i-preserved c =
@@ -45,5 +45,5 @@ loop-i-preserved c =
 
 pub returns : goal.returns
 returns c =
-    let l = c.before in let s = l.before in let test = large s.args.a.now s.args.at in let e : l.loop-i.i ≡ s.args.m = omega arith in
-    sym (some_none s.args.m test (subst (Failed test) e l.loop-i.invariant.1))
+    let test = large c.args.a.now c.args.at in let e : c.loop-i.i ≡ c.args.m = omega arith in
+    sym (some_none c.args.m test (subst (Failed test) e c.loop-i.invariant.1))

@@ -9,18 +9,18 @@ use Rattle.book.proofs.entries.enter.Goals as goal
 
 pub returns-then-n-ge-MOST : goal.returns-then-n-ge-MOST
 returns-then-n-ge-MOST c =
-    let s = c.before in let a = s.args in record {
-      position = sym (set_out a.position-1.now a.n _ (omega (arith, s.requires.0, c.if-n-ge-MOST.true)));
-      object = sym (set_out a.object-1.now a.n _ (omega (arith, s.requires.1, c.if-n-ge-MOST.true)));
-      face = sym (set_out a.face-1.now a.n _ (omega (arith, s.requires.2, c.if-n-ge-MOST.true)));
-      reading = sym (set_out a.reading-1.now a.n _ (omega (arith, s.requires.3, c.if-n-ge-MOST.true)));
+    let a = c.args in record {
+      position = sym (set_out a.position.now a.n _ (omega (arith, c.requires.0, c.if-n-ge-MOST.true)));
+      object = sym (set_out a.object.now a.n _ (omega (arith, c.requires.1, c.if-n-ge-MOST.true)));
+      face = sym (set_out a.face.now a.n _ (omega (arith, c.requires.2, c.if-n-ge-MOST.true)));
+      reading = sym (set_out a.reading.now a.n _ (omega (arith, c.requires.3, c.if-n-ge-MOST.true)));
     }
 
 pub returns : goal.returns
 returns c =
-    let a = c.before.before.before.before.before.args in record {
-      position = ap (set a.position-1.now a.n) (read_at _ c.before.before.before.position-1.given);
-      object = ap (set a.object-1.now a.n) (read_at _ c.before.before.object-1.given);
-      face = ap (set a.face-1.now a.n) (read_at _ c.before.face-1.given);
-      reading = ap (set a.reading-1.now a.n) (read_at _ c.reading-1.given);
+    let a = c.args in record {
+      position = ap (set a.position.now a.n) (read_at _ c.position-1.given);
+      object = ap (set a.object.now a.n) (read_at _ c.object-1.given);
+      face = ap (set a.face.now a.n) (read_at _ c.face-1.given);
+      reading = ap (set a.reading.now a.n) (read_at _ c.reading-1.given);
     }

@@ -14,14 +14,14 @@ use Rattle.book.proofs.lines.put_object.Goals as goal
 
 pub returns-then-p-gt0 : goal.returns-then-p-gt0
 returns-then-p-gt0 c =
-    let p = c.before.before in let s = p.before.before.before.before.before.before in let a = s.args in
-    let read = read_at (get_or a.pairs.now a.j (pos 0)) p.before.before.before.before.p-1.given in
+    let a = c.args in
+    let read = read_at (get_or a.pairs.now a.j (pos 0)) c.p-1.given in
     rewrote
-    (ap₂ (o_line (a.j + 1)) (read_at _ p.before.put_numbered-arg-then-p-gt0-1.given) read ∙ line_seen a.directions.now a.pairs.now a.j (ap (lt_z (pos 0)) (sym read) ∙ p.before.before.before.if-p-gt0.true))
-    p.put_numbered.ensures
+    (ap₂ (o_line (a.j + 1)) (read_at _ c.put_numbered-arg-then-p-gt0-1.given) read ∙ line_seen a.directions.now a.pairs.now a.j (ap (lt_z (pos 0)) (sym read) ∙ c.if-p-gt0.true))
+    c.put_numbered.ensures
 
 pub returns : goal.returns
 returns c =
-    let a = c.before.before.before.args in
-    let read = read_at (get_or a.pairs.now a.j (pos 0)) c.before.p-1.given in
+    let a = c.args in
+    let read = read_at (get_or a.pairs.now a.j (pos 0)) c.p-1.given in
     rewrote (line_unseen a.directions.now a.pairs.now a.j (ap (lt_z (pos 0)) (sym read) ∙ c.if-p-gt0.false)) (record { buffer = refl; place = omega arith })

@@ -10,23 +10,20 @@ use Rattle.book.proofs.Composing.{object_most}
 use Rattle.book.proofs.lines.put_objects.Goals as goal
 
 pub loop-j-init : goal.loop-j-init
-loop-j-init c = (omega arith, lines_none c.before.args.out.now c.before.args.at _)
+loop-j-init c = (omega arith, lines_none c.args.out.now c.args.at _)
 
 pub put_object-next-requires : goal.put_object-next-requires
 put_object-next-requires c =
-    let t = c.before in let l = t.before in let s = l.before.before in
-    (lines_room 16 l.loop-j.j 68 _ (object_most s.args.directions.now s.args.pairs.now) s.requires.0 t.loop-j-test.true l.loop-j.invariant.1, s.requires.1, s.requires.2, t.loop-j-test.true)
+    (lines_room 16 c.loop-j.j 68 _ (object_most c.args.directions.now c.args.pairs.now) c.requires.0 c.loop-j-test.true c.loop-j.invariant.1, c.requires.1, c.requires.2, c.loop-j-test.true)
 
 pub loop-j-preserved : goal.loop-j-preserved
 loop-j-preserved c =
-    let p = c.before.before in let t = p.before.before in let l = t.before in let s = l.before.before in
-    (omega (arith, t.loop-j-test.true), lines_on_lem l.loop-j.j (object_line s.args.directions.now s.args.pairs.now) l.loop-j.invariant.1 p.put_object-next.ensures)
+    (omega (arith, c.loop-j-test.true), lines_on_lem c.loop-j.j (object_line c.args.directions.now c.args.pairs.now) c.loop-j.invariant.1 c.put_object-next.ensures)
 
 pub shape_of-out : goal.shape_of-out
-shape_of-out c = wrote_length c.before.loop-j.invariant.1
+shape_of-out c = wrote_length c.loop-j.invariant.1
 
 pub returns : goal.returns
 returns c =
-    let l = c.before in let s = l.before.before in
-    subst (λ (k : ℕ). Wrote s.args.out.now s.args.at (in_order k (object_line s.args.directions.now s.args.pairs.now)) l.loop-j.out l.loop-j.next)
-    (omega (arith, l.loop-j.invariant.0, c.loop-j-test.false)) l.loop-j.invariant.1
+    subst (λ (k : ℕ). Wrote c.args.out.now c.args.at (in_order k (object_line c.args.directions.now c.args.pairs.now)) c.loop-j.out c.loop-j.next)
+    (omega (arith, c.loop-j.invariant.0, c.loop-j-test.false)) c.loop-j.invariant.1

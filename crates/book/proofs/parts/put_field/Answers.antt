@@ -5,5 +5,4 @@ use Rattle.book.proofs.parts.put_field.Goals as goal
 
 pub returns : goal.returns
 returns c =
-    let p = c.before.before in let b = p.before.before.before.before in
-    then b.put_byte-next.ensures (record { buffer = p.put_digits.ensures.list; place = p.put_digits.ensures.next })
+    then c.put_byte-next.ensures (record { buffer = c.put_digits.ensures.list; place = c.put_digits.ensures.next })

@@ -18,15 +18,15 @@ use Rattle.book.proofs.parts.put_kept.Goals as goal
 use Rattle.book.proofs.parts.put_kept.Goals.{After-place_from-end, At-loop-h, Start}
 
 pub loop-h-init : goal.loop-h-init
-loop-h-init c = let a = c.before.before.before.args in (omega arith, (reached_none a.file.now, lines_none a.out-1.now 0 _))
+loop-h-init c = let a = c.args in (omega arith, (reached_none a.file.now, lines_none a.out.now 0 _))
 
 -- ---- the line at the start
 module _ (c : After-place_from-end) where
   abbrev turn : At-loop-h
-  turn = c.before.before
+  turn = (record { before = c.before.before.before; type_inv = record { reason = c.shared_slice_known-2-1.given; file = c.shared_slice_known-1.given } })
 
   abbrev begin : Start
-  begin = turn.before.before.before.before
+  begin = turn.before.before.before.before.before
 
   abbrev file : List ℕ
   file = begin.args.file.now
@@ -35,7 +35,7 @@ module _ (c : After-place_from-end) where
   reasons = begin.args.reason.now
 
   ends : place_from LF file turn.loop-h.start < length file
-  ends = end_within file turn.loop-h.invariant.1.0 (omega (arith, c.before.loop-h-test.true, begin.requires.2))
+  ends = end_within file turn.loop-h.invariant.1.0 (omega (arith, c.loop-h-test.true, begin.requires.2))
 
   cut : take (c.place_from-end.result + 1 - turn.loop-h.start) (drop turn.loop-h.start file) ≡ line_no file turn.loop-h.h ++ line_end
   cut =
@@ -50,18 +50,18 @@ pub overflow_add-end : goal.overflow_add-end
 overflow_add-end c = omega (arith, ends c, c.place_from-end.ensures)
 
 pub slice_bounds-put_word-count : goal.slice_bounds-put_word-count
-slice_bounds-put_word-count c = let p = c.before.before.before in omega (arith, p.place_from-end.ensures, place_after LF (file p) (turn p).loop-h.start)
+slice_bounds-put_word-count c = let p : After-place_from-end = record { before = c.before.before.before.before; type_inv = record { reason = c.shared_slice_known-2-1.given; file = c.shared_slice_known-1.given } } in omega (arith, p.place_from-end.ensures, place_after LF (file p) (turn p).loop-h.start)
 
 pub slice_bounds-put_word-start : goal.slice_bounds-put_word-start
-slice_bounds-put_word-start c = let p = c.before.before.before in omega (arith, p.place_from-end.ensures, place_after LF (file p) (turn p).loop-h.start)
+slice_bounds-put_word-start c = let p : After-place_from-end = record { before = c.before.before.before.before; type_inv = record { reason = c.shared_slice_known-2-1.given; file = c.shared_slice_known-1.given } } in omega (arith, p.place_from-end.ensures, place_after LF (file p) (turn p).loop-h.start)
 
 pub slice_bounds-put_word-end : goal.slice_bounds-put_word-end
-slice_bounds-put_word-end c = let p = c.before.before.before in omega (arith, p.place_from-end.ensures, ends p)
+slice_bounds-put_word-end c = let p : After-place_from-end = record { before = c.before.before.before.before; type_inv = record { reason = c.shared_slice_known-2-1.given; file = c.shared_slice_known-1.given } } in omega (arith, p.place_from-end.ensures, ends p)
 
 pub put_word-next-requires : goal.put_word-next-requires
 put_word-next-requires c =
-    let p = c.before.before.before.before in let l = turn p in let s = begin p in let n = length (reasons p) in let line = line_no (file p) l.loop-h.h in
-    let taken = p.before.loop-h-test.true in
+    let p : After-place_from-end = record { before = c.before.before.before.before.before; type_inv = record { reason = c.shared_slice_known-2-1.given; file = c.shared_slice_known-1.given } } in let l = turn p in let s = begin p in let n = length (reasons p) in let line = line_no (file p) l.loop-h.h in
+    let taken = p.loop-h-test.true in
     rw (cut p)
     (omega (
       arith,
@@ -72,8 +72,8 @@ put_word-next-requires c =
 
 pub loop-h-preserved : goal.loop-h-preserved
 loop-h-preserved c =
-    let p = c.before.before in let l = turn p in let h = l.loop-h.h in let lines = kept_by (file p) (reasons p) in (
-      omega (arith, p.before.loop-h-test.true),
+    let p : After-place_from-end = record { before = c.before.before.before; type_inv = record { reason = c.shared_slice_known-2-1.given; file = c.shared_slice_known-1.given } } in let l = turn p in let h = l.loop-h.h in let lines = kept_by (file p) (reasons p) in (
+      omega (arith, p.loop-h-test.true),
       (
         on p,
         ⊎_elim
@@ -84,10 +84,10 @@ loop-h-preserved c =
     )
 
 pub shape_of-out : goal.shape_of-out
-shape_of-out c = wrote_length c.before.loop-h.invariant.1.1
+shape_of-out c = wrote_length c.loop-h.invariant.1.1
 
 pub returns : goal.returns
 returns c =
-    let l = c.before in let a = l.before.before.before.before.args in
-    subst (λ (k : ℕ). Wrote a.out-1.now 0 (in_order k (kept_by a.file.now a.reason.now)) l.loop-h.out l.loop-h.next)
-    (omega (arith, l.loop-h.invariant.0, c.loop-h-test.false)) l.loop-h.invariant.1.1
+    let a = c.args in
+    subst (λ (k : ℕ). Wrote a.out.now 0 (in_order k (kept_by a.file.now a.reason.now)) c.loop-h.out c.loop-h.next)
+    (omega (arith, c.loop-h.invariant.0, c.loop-h-test.false)) c.loop-h.invariant.1.1

@@ -6,8 +6,8 @@ use Rattle.book.proofs.parts.room_for.Goals as goal
 
 pub returns-in-Kept : goal.returns-in-Kept
 unfolding room_for
-returns-in-Kept c = ap room_for (sym c.enum_told-1.given.1)
+returns-in-Kept c = ap room_for (sym c.in-Kept.is)
 
 pub returns-in-Dropped : goal.returns-in-Dropped
 unfolding room_for
-returns-in-Dropped c = ap room_for (sym c.enum_told-in-Dropped-1.given.1)
+returns-in-Dropped c = ap room_for (sym c.in-Dropped.is)

@@ -28,23 +28,21 @@ module _ (c : Start) where
   abbrev check : ℕ → Reply
   check j = term_check c.args.kind (to_z w64 (of_z w64 c.args.m)) (j + 1) (term j)
 
-checked : (c : After-check-reply) → c.check-reply.result ≡ check c.before.before.before.before c.before.before.before.loop-j.j
-checked c = c.check-reply.ensures ∙ rw c.before.at-t.ensures
+checked : (c : After-check-reply) → c.check-reply.result ≡ check c.before.before.before.before c.loop-j.j
+checked c = c.check-reply.ensures ∙ rw c.at-t.ensures
 
 pub returns-in-Refused : goal.returns-in-Refused
 unfolding terms_check
 returns-in-Refused c =
-    let e = c.before.before.before in let l = e.before.before.before in
-    rw (← read l.before.ranges.m)
-    (sym (turn_stops (check l.before) (length l.before.args.kinds.now) l.loop-j.j _ (omega arith) l.loop-j.invariant.1 (sym (checked e) ∙ c.before.reply-1.given.1)))
+    let e = c.before in rw (← read e.ranges.m)
+    (sym (turn_stops (check e.before.before.before.before) (length e.args.kinds.now) e.loop-j.j _ (omega arith) e.loop-j.invariant.1 (sym (checked e) ∙ c.in-Refused.is)))
 
 pub loop-j-preserved : goal.loop-j-preserved
 unfolding terms_check
 loop-j-preserved c =
-    let e = c.before.before in let l = e.before.before.before in
-    (omega arith, turn_more (check l.before) l.loop-j.j l.loop-j.invariant.1 (sym (checked e) ∙ c.enum_told-1.given.1))
+    let e = c.before in (omega arith, turn_more (check e.before.before.before.before) e.loop-j.j e.loop-j.invariant.1 (sym (checked e) ∙ c.in-Accepted.is))
 
 pub returns : goal.returns
 returns c =
-    let s = c.before.before in let e : c.before.loop-j.j ≡ length s.args.kinds.now = omega arith in
-    rw (← e, ← read s.ranges.m) (sym c.before.loop-j.invariant.1)
+    let e : c.loop-j.j ≡ length c.args.kinds.now = omega arith in
+    rw (← e, ← read c.ranges.m) (sym c.loop-j.invariant.1)

@@ -15,7 +15,7 @@ use Rattle.condition.specs.Rules.{term_check, terms_check, term_at}
 use Rattle.condition.proofs.checks.terms_check.Given as goal
 
 abbrev pub invariant-loop-j : goal.invariant-loop-j
-invariant-loop-j l = (l.j ≤ length l.kinds) × (terms_check l.kind (to_z w64 l.m) l.j (term_at l.kinds l.values l.d l.i l.k) ≡ Accepted)
+invariant-loop-j l = (l.j ≤ length l.kinds) × (terms_check l.kind l.m l.j (term_at l.kinds l.values l.d l.i l.k) ≡ Accepted)
 
 abbrev pub decreases-loop-j : goal.decreases-loop-j
 decreases-loop-j l = length l.kinds - l.j

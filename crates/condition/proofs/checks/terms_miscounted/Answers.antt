@@ -22,11 +22,11 @@ module _ (s : Start) where
   to_i = to_d || unequal s.args.i s.args.n
 
 -- ---- what each test leaves, where it is passed
-some : (c : Else-n-lt1) → ltb c.before.args.n 1 ≡ false
-some c = le-ltb c.before.args.n 1 c.if-n-lt1.false
+some : (c : Else-n-lt1) → ltb c.args.n 1 ≡ false
+some c = le-ltb c.args.n 1 c.if-n-lt1.false
 
 n_right : (c : Else-n-gt12) → to_n c.before.before ≡ false
-n_right c = rw (some c.before) (le-ltb 12 c.before.before.args.n c.if-n-gt12.false)
+n_right c = rw (some c.before) (le-ltb 12 c.args.n c.if-n-gt12.false)
 
 values_right : (c : Else-values-n) → to_values c.before.before.before ≡ false
 values_right c = rw (n_right c.before) (ap not (eq-eqb _ _ c.if-values-n.false))
@@ -40,23 +40,23 @@ i_right c = rw (d_right c.before) (ap not (eq-eqb _ _ c.if-i-n.false))
 -- ---- the answers
 pub returns-then-n-lt1 : goal.returns-then-n-lt1
 unfolding terms_miscounted
-returns-then-n-lt1 c = rw (lt-ltb c.before.args.n 1 c.if-n-lt1.true)
+returns-then-n-lt1 c = rw (lt-ltb c.args.n 1 c.if-n-lt1.true)
 
 pub returns-then-n-gt12 : goal.returns-then-n-gt12
 unfolding terms_miscounted
-returns-then-n-gt12 c = rw (some c.before, lt-ltb 12 c.before.before.args.n c.if-n-gt12.true)
+returns-then-n-gt12 c = rw (some c.before, lt-ltb 12 c.args.n c.if-n-gt12.true)
 
 pub returns-then-values-n : goal.returns-then-values-n
 unfolding terms_miscounted
-returns-then-values-n c = let a = c.before.before.before.args in rw (n_right c.before, ne_eqb a.values a.n c.if-values-n.true)
+returns-then-values-n c = let a = c.args in rw (n_right c.before, ne_eqb a.values a.n c.if-values-n.true)
 
 pub returns-then-d-n : goal.returns-then-d-n
 unfolding terms_miscounted
-returns-then-d-n c = let a = c.before.before.before.before.args in rw (values_right c.before, ne_eqb a.d a.n c.if-d-n.true)
+returns-then-d-n c = let a = c.args in rw (values_right c.before, ne_eqb a.d a.n c.if-d-n.true)
 
 pub returns-then-i-n : goal.returns-then-i-n
 unfolding terms_miscounted
-returns-then-i-n c = let a = c.before.before.before.before.before.args in rw (d_right c.before, ne_eqb a.i a.n c.if-i-n.true)
+returns-then-i-n c = let a = c.args in rw (d_right c.before, ne_eqb a.i a.n c.if-i-n.true)
 
 pub returns : goal.returns
 unfolding terms_miscounted

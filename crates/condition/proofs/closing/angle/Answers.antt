@@ -30,15 +30,15 @@ module _ (c : After-direction-to) where
   abbrev to : ℤ
   to = direction_at directions (nat_abs t.k)
 
-  from_is : to_z w64 (of_z w64 c.before.before.direction-from.result) ≡ from
+  from_is : to_z w64 (of_z w64 c.direction-from.result) ≡ from
   from_is =
-      let d = c.before.before in let f = fits_of_mag t.i d.before.struct_told-1.given.1.1.1.0.1 in
-      read (fits_of_mag d.direction-from.result d.direction-from.type-inv) ∙ d.direction-from.ensures ∙ simp to_z-of_z
+      let f = fits_of_mag t.i c.struct_told-1.given.1.1.1.0.1 in
+      read (fits_of_mag c.direction-from.result c.direction-from.type_inv) ∙ c.direction-from.ensures ∙ simp to_z-of_z
 
   to_is : to_z w64 (of_z w64 c.direction-to.result) ≡ to
   to_is =
-      let f = fits_of_mag t.k c.before.struct_told-2-1.given.1.1.1.1.0.1 in
-      read (fits_of_mag c.direction-to.result c.direction-to.type-inv) ∙ c.direction-to.ensures ∙ simp to_z-of_z
+      let f = fits_of_mag t.k c.struct_told-2-1.given.1.1.1.1.0.1 in
+      read (fits_of_mag c.direction-to.result c.direction-to.type_inv) ∙ c.direction-to.ensures ∙ simp to_z-of_z
 
   turn_fits : SFits w64 (to -ℤ from)
   turn_fits =
@@ -53,4 +53,4 @@ pub returns : goal.returns
 unfolding angle
 returns c =
     let d = c.before in
-    read (fits_of_mag c.modulo.result c.modulo.type-inv) ∙ c.modulo.ensures ∙ rw (from_is d, to_is d, read (turn_fits d))
+    read (fits_of_mag c.modulo.result c.modulo.type_inv) ∙ c.modulo.ensures ∙ rw (from_is d, to_is d, read (turn_fits d))

@@ -24,14 +24,14 @@ pub returns-then-h-eq0 : goal.returns-then-h-eq0
 returns-then-h-eq0 c = rw (sym (h_read c.before) ∙ c.if-h-eq0.true)
 
 pub offset_bounds-directions-h : goal.offset_bounds-directions-h
-offset_bounds-directions-h c = record { fits = omega (arith, h_read c.before, c.before.requires.high, c.before.well-formed.0.1) }
+offset_bounds-directions-h c = record { fits = omega (arith, h_read c.before, c.requires.high, c.before.well-formed.0.1) }
 
 pub bounds-directions-h : goal.bounds-directions-h
-bounds-directions-h c = omega (arith, h_read c.before, c.before.requires.high, c.if-h-eq0.false)
+bounds-directions-h c = omega (arith, h_read c.before, c.requires.high, c.if-h-eq0.false)
 
 pub returns : goal.returns
 returns c =
     let s = c.before.before in let ds = s.args.directions.now in
     read (fits_of_mag (get_or ds (nat_abs (to_z w64 (of_z w64 s.args.number)) - 1) (pos 0)) c.result-1.given)
     ∙ ap (λ (h : ℕ). get_or ds (h - 1) (pos 0)) (h_read s)
-    ∙ sym (direction_next ds (nat_abs s.args.number) (λ e. c.before.if-h-eq0.false (h_read s ∙ e)))
+    ∙ sym (direction_next ds (nat_abs s.args.number) (λ e. c.if-h-eq0.false (h_read s ∙ e)))

@@ -24,7 +24,7 @@ loop-j-init c = (omega arith, sym (sum_none _))
 
 pub at-t-requires : goal.at-t-requires
 at-t-requires c = record {
-      lists = c.before.before.requires.lists;
+      lists = c.requires.lists;
       place = omega arith;
     }
 
@@ -40,8 +40,8 @@ pub part-so_far-requires : goal.part-so_far-requires
 part-so_far-requires c =
     let s = c.before.before.before in
     record {
-      term = subst (λ (t : Term). Sound (length (directions s)) t) (sym c.at-t.ensures) (s.requires.small.1 c.before.before.loop-j.j (omega arith));
-      small = s.requires.small.0;
+      term = subst (λ (t : Term). Sound (length (directions s)) t) (sym c.at-t.ensures) (s.requires.terms c.loop-j.j (omega arith));
+      small = s.requires.small;
     }
 
 -- ---- a turn
@@ -50,7 +50,7 @@ module _ (c : After-part-so_far) where
   s = c.before.before.before.before
 
   abbrev j : ℕ
-  j = c.before.before.before.loop-j.j
+  j = c.loop-j.j
 
   abbrev so_far : ℤ
   so_far = sum j (λ j. part (directions s) (term s j))
@@ -58,16 +58,16 @@ module _ (c : After-part-so_far) where
   abbrev one_more : ℤ
   one_more = part (directions s) (term s j)
 
-  so_far_is : to_z w64 c.before.before.before.loop-j.so_far ≡ so_far
-  so_far_is = c.before.before.before.loop-j.invariant.1
+  so_far_is : to_z w64 c.loop-j.so_far-bits ≡ so_far
+  so_far_is = c.loop-j.invariant.1
 
   one_more_is : to_z w64 (of_z w64 c.part-so_far.result) ≡ one_more
-  one_more_is = read (fits_of_mag c.part-so_far.result c.part-so_far.type-inv) ∙ c.part-so_far.ensures ∙ ap (part (directions s)) c.before.at-t.ensures
+  one_more_is = read (fits_of_mag c.part-so_far.result c.part-so_far.type_inv) ∙ c.part-so_far.ensures ∙ ap (part (directions s)) c.at-t.ensures
 
   fits : SFits w64 (so_far +ℤ one_more)
   fits =
-      let x = bounded so_far (total_size (directions s) (length (directions s)) j (term s) (omega (arith, s.requires.lists.few)) (λ i l. s.requires.small.1 i (omega arith))) in
-      let y = bounded one_more (part_size (directions s) (term s j) (length (directions s)) (s.requires.small.1 j (omega arith))) in
+      let x = bounded so_far (total_size (directions s) (length (directions s)) j (term s) (omega (arith, s.requires.lists.few)) (λ i l. s.requires.terms i (omega arith))) in
+      let y = bounded one_more (part_size (directions s) (term s j) (length (directions s)) (s.requires.terms j (omega arith))) in
       fits_in (search bounds) tt
 
 pub overflow_add-so_far : goal.overflow_add-so_far
@@ -79,5 +79,5 @@ loop-j-preserved c =
 
 pub returns : goal.returns
 returns c =
-    let s = c.before.before in let e : c.before.loop-j.j ≡ length s.args.kinds.now = omega arith in
-    c.before.loop-j.invariant.1 ∙ ap (λ (n : ℕ). sum n (λ j. part (directions s) (term s j))) e
+    let s = c.before.before in let e : c.loop-j.j ≡ length s.args.kinds.now = omega arith in
+    c.loop-j.invariant.1 ∙ ap (λ (n : ℕ). sum n (λ j. part (directions s) (term s j))) e

@@ -19,8 +19,8 @@ use Rattle.condition.proofs.Parts.{part_size, total_size}
 use Rattle.condition.proofs.closing.total.Given as goal
 
 abbrev pub invariant-loop-j : goal.invariant-loop-j
-invariant-loop-j l =
-    (l.j ≤ length l.kinds) × (to_z w64 l.so_far ≡ sum l.j (λ l.j. part l.directions (term_at l.kinds l.values l.d l.i l.k l.j)))
+invariant-loop-j l = let j = l.j in
+    (j ≤ length l.kinds) × (l.so_far ≡ sum j (λ j. part l.directions (term_at l.kinds l.values l.d l.i l.k j)))
 
 abbrev pub decreases-loop-j : goal.decreases-loop-j
 decreases-loop-j l = length l.kinds - l.j

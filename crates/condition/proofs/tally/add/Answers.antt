@@ -31,4 +31,4 @@ overflow_add-tally c = let s = c.before in rw (read (fits_within (old s) (old_sm
 pub returns : goal.returns
 returns c n =
     let s = c.before in let a = s.args in
-    ap (λ (v : ℤ). get_or (set a.tally-1.now a.h v) n (pos 0)) (new_is s) ∙ placed_more a.tally-1.now a.h a.x s.requires.place n
+    ap (λ (v : ℤ). get_or (set a.tally.now a.h v) n (pos 0)) (new_is s) ∙ placed_more a.tally.now a.h a.x s.requires.place n

@@ -37,54 +37,54 @@ module _ (c : Start) where
   d_read s = read (fits_within t.d s.d tt)
 
 left : (c : In-L) → SideTerm 64 (t c.before.before.before)
-left c = sound_as c.before.before.before L c.enum_told-in-L-1.given.1
+left c = sound_as c.before.before.before L c.in-L.is
 
 right : (c : In-R) → SideTerm 64 (t c.before.before.before)
-right c = sound_as c.before.before.before R c.enum_told-in-R-1.given.1
+right c = sound_as c.before.before.before R c.in-R.is
 
 pub turn-requires : goal.turn-requires
 turn-requires c =
-    let e = c.before in let s = e.before.before.before in record {
-      ends = sound_as s P e.enum_told-1.given.1;
-      whole = s.requires.whole.0;
-      small = (s.requires.whole.1, omega arith);
+    let s = c.before.before.before.before in record {
+      ends = sound_as s P c.in-P.is;
+      whole = s.requires.whole;
+      small = (s.requires.small, omega arith);
     }
 
 pub turn-requires-in-L : goal.turn-requires-in-L
 turn-requires-in-L c =
-    let l = left c.before in let s = c.before.before.before.before in record {
+    let l = left (record { before = c.before.before; type_inv = record { t = c.struct_told-1.given } }) in let s = c.before.before.before.before in record {
       ends = l.ends;
-      whole = s.requires.whole.0;
-      small = (s.requires.whole.1, rw (d_read s l) l.d);
+      whole = s.requires.whole;
+      small = (s.requires.small, rw (d_read s l) l.d);
     }
 
 pub overflow_sub-d : goal.overflow_sub-d
-overflow_sub-d c = negated_fits (t c.before.before.before.before).d (right c.before).d tt
+overflow_sub-d c = negated_fits (t c.before.before.before.before).d (right (record { before = c.before.before; type_inv = record { t = c.struct_told-1.given } })).d tt
 
 pub turn-requires-in-R : goal.turn-requires-in-R
 turn-requires-in-R c =
-    let r = right c.before in let s = c.before.before.before.before in let d = (t s).d in
+    let r = right (record { before = c.before.before; type_inv = record { t = c.struct_told-1.given } }) in let s = c.before.before.before.before in let d = (t s).d in
     record {
       ends = r.ends;
-      whole = s.requires.whole.0;
-      small = (s.requires.whole.1, rw (negated_read d r.d tt) (negated_small d r.d));
+      whole = s.requires.whole;
+      small = (s.requires.small, rw (negated_read d r.d tt) (negated_small d r.d));
     }
 
 pub returns-in-P : goal.returns-in-P
-returns-in-P c n = let e = c.before.before.before in c.before.turn.ensures n ∙ share_as e.before.before.before P e.enum_told-1.given.1 n
+returns-in-P c n = c.turn.ensures n ∙ share_as c.before.before.before.before.before P c.in-P.is n
 
 pub returns-in-F : goal.returns-in-F
-returns-in-F c n = let s = c.before.before.before in sym (+ℤ_idr (before s n)) ∙ share_as s F c.enum_told-in-F-1.given.1 n
+returns-in-F c n = let s = c.before.before in sym (+ℤ_idr (before s n)) ∙ share_as s F c.in-F.is n
 
 pub returns-in-L : goal.returns-in-L
 returns-in-L c n =
-    let e = c.before.before.before in let s = e.before.before.before in
-    c.before.turn-in-L.ensures n ∙ (λ d. before s n +ℤ turned (d_read s (left e) d) (t s) n) ∙ share_as s L e.enum_told-in-L-1.given.1 n
+    let e : In-L = record { before = c.before.before.before; type_inv = record { t = c.struct_told-1.given } } in let s = e.before.before.before in
+    c.turn-in-L.ensures n ∙ (λ d. before s n +ℤ turned (d_read s (left e) d) (t s) n) ∙ share_as s L e.in-L.is n
 
 pub returns-in-R : goal.returns-in-R
 returns-in-R c n =
-    let e = c.before.before.before in let s = e.before.before.before in
-    c.before.turn-in-R.ensures n ∙ (λ d. before s n +ℤ turned (negated_read (t s).d (right e).d tt d) (t s) n) ∙ share_as s R e.enum_told-in-R-1.given.1 n
+    let e : In-R = record { before = c.before.before.before; type_inv = record { t = c.struct_told-1.given } } in let s = e.before.before.before in
+    c.turn-in-R.ensures n ∙ (λ d. before s n +ℤ turned (negated_read (t s).d (right e).d tt d) (t s) n) ∙ share_as s R e.in-R.is n
 
 pub returns-in-Unknown : goal.returns-in-Unknown
-returns-in-Unknown c n = let s = c.before.before.before in sym (+ℤ_idr (before s n)) ∙ share_as s Unknown c.enum_told-in-Unknown-1.given.1 n
+returns-in-Unknown c n = let s = c.before.before in sym (+ℤ_idr (before s n)) ∙ share_as s Unknown c.in-Unknown.is n

@@ -15,8 +15,8 @@ use Rattle.condition.proofs.Shares.{tally_size}
 use Rattle.condition.proofs.tally.add_terms.Given as goal
 
 abbrev pub invariant-loop-j : goal.invariant-loop-j
-invariant-loop-j l =
-    (l.j ≤ length l.kinds) × (length l.tally ≡ 65) × ((n : ℕ) → get_or l.tally n (pos 0) ≡ sum l.j (λ l.j. share (term_at l.kinds l.values l.d l.i l.k l.j) n))
+invariant-loop-j l = let j = l.j in
+    (j ≤ length l.kinds) × (length l.tally ≡ 65) × ((n : ℕ) → get_or l.tally n (pos 0) ≡ sum j (λ j. share (term_at l.kinds l.values l.d l.i l.k j) n))
 
 abbrev pub decreases-loop-j : goal.decreases-loop-j
 decreases-loop-j l = length l.kinds - l.j

@@ -28,16 +28,16 @@ module _ (c : After-magnitude) where
   s = c.before.before.before.before
 
   abbrev h : ℕ
-  h = c.before.before.before.loop-h.h
+  h = c.loop-h.h
 
   abbrev tally : List ℤ
   tally = s.args.tally.now
 
   size : c.magnitude.result ≡ nat_abs (get_or tally (h + 1) (pos 0))
-  size = let f = fits_of_mag (get_or tally (h + 1) (pos 0)) c.before.magnitude-arg-1.given in c.magnitude.ensures ∙ simp to_z-of_z
+  size = let f = fits_of_mag (get_or tally (h + 1) (pos 0)) c.magnitude-arg-1.given in c.magnitude.ensures ∙ simp to_z-of_z
 
   passed : Failed (large tally) h
-  passed = c.before.before.before.loop-h.invariant.1
+  passed = c.loop-h.invariant.1
 
 pub returns-then-magnitude-gt2000 : goal.returns-then-magnitude-gt2000
 returns-then-magnitude-gt2000 c =
@@ -51,5 +51,4 @@ loop-h-preserved c =
 
 pub returns : goal.returns
 returns c =
-    let s = c.before.before in
-    sym (some_none s.args.m (large s.args.tally.now) (λ h l. c.before.loop-h.invariant.1 h (omega arith)))
+    sym (some_none c.args.m (large c.args.tally.now) (λ h l. c.loop-h.invariant.1 h (omega arith)))

@@ -10,7 +10,7 @@ use Rattle.exact.proofs.Filling.{Filled, filled_none, filled_more, filled_all}
 use Rattle.condition.proofs.tally.hand_over.Given as goal
 
 abbrev pub invariant-loop-h : goal.invariant-loop-h
-invariant-loop-h l = (l.h ≤ length l.initial.a) × Filled (pos 0) (λ l.h. get_or l.tally (l.h + 1) (pos 0)) 0 l.h l.initial.a l.a
+invariant-loop-h l = let h = l.h in (h ≤ length l.initial.a) × Filled (pos 0) (λ h. get_or l.tally (h + 1) (pos 0)) 0 h l.initial.a l.a
 
 abbrev pub decreases-loop-h : goal.decreases-loop-h
 decreases-loop-h l = length l.initial.a - l.h

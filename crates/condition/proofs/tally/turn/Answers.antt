@@ -31,7 +31,7 @@ module _ (c : Start) where
   k_read = number_read 64 t.k c.requires.ends.k (omega arith)
 
   x_small : nat_abs x ≤ 2000
-  x_small = c.requires.whole.1.1
+  x_small = c.requires.small.1
 
 pub overflow_cast-i : goal.overflow_cast-i
 overflow_cast-i c = let s = c.before.before.before in number_cast 64 (t s).i s.requires.ends.i (omega arith)
@@ -43,7 +43,7 @@ pub add-requires : goal.add-requires
 add-requires c =
     let s = c.before.before.before in
     rw (i_read s, negated_read (x s) (x_small s) tt)
-    (omega (arith, s.requires.ends.i.high, s.requires.whole.0), ((λ h. omega (arith, s.requires.whole.1.0 h)), negated_small (x s) (x_small s)))
+    (omega (arith, s.requires.ends.i.high, s.requires.whole), ((λ h. omega (arith, s.requires.small.0 h)), negated_small (x s) (x_small s)))
 
 -- ---- the tally with x less at i
 module _ (c : After-add) where
@@ -53,13 +53,13 @@ module _ (c : After-add) where
   abbrev before : ℕ → ℤ
   before n = get_or s.args.tally.now n (pos 0)
 
-  less_is : (n : ℕ) → get_or c.add.new.0 n (pos 0) ≡ before n +ℤ placed (nat_abs (t s).i) (neg_ℤ (x s)) n
+  less_is : (n : ℕ) → get_or c.add.new.tally n (pos 0) ≡ before n +ℤ placed (nat_abs (t s).i) (neg_ℤ (x s)) n
   less_is n = c.add.ensures n ∙ (λ d. before n +ℤ placed (nat_abs (i_read s d)) (negated_read (x s) (x_small s) tt d) n)
 
-  less_small : Within 50000 c.add.new.0
+  less_small : Within 50000 c.add.new.tally
   less_small n =
       let a = placed (nat_abs (t s).i) (neg_ℤ (x s)) n in
-      rw (less_is n) (omega (arith, abs_add (before n) a, s.requires.whole.1.0 n, placed_size 2000 (nat_abs (t s).i) (neg_ℤ (x s)) (negated_small (x s) (x_small s)) n))
+      rw (less_is n) (omega (arith, abs_add (before n) a, s.requires.small.0 n, placed_size 2000 (nat_abs (t s).i) (neg_ℤ (x s)) (negated_small (x s) (x_small s)) n))
 
 pub overflow_cast-k : goal.overflow_cast-k
 overflow_cast-k c = let s = s c.before.before in number_cast 64 (t s).k s.requires.ends.k (omega arith)
@@ -67,10 +67,10 @@ overflow_cast-k c = let s = s c.before.before in number_cast 64 (t s).k s.requir
 pub add-requires-2 : goal.add-requires-2
 add-requires-2 c =
     let a = c.before.before in let s = s a in
-    rw (k_read s, read s.fits.x) (omega (arith, s.requires.ends.k.high, s.requires.whole.0), (less_small a, x_small s))
+    rw (k_read s, read s.fits.x) (omega (arith, s.requires.ends.k.high, s.requires.whole), (less_small a, x_small s))
 
 pub returns : goal.returns
 returns c n =
     let a = c.before.before.before.before in let s = s a in
-    c.before.add-2.ensures n
+    c.add-2.ensures n
     ∙ rw (k_read s, read s.fits.x, less_is a n) (+ℤ_assoc (before a n) (placed (nat_abs (t s).i) (neg_ℤ (x s)) n) (placed (nat_abs (t s).k) (x s) n))

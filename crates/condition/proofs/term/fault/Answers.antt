@@ -8,29 +8,29 @@ use Rattle.condition.specs.Terms.{astray}
 use Rattle.condition.proofs.term.fault.Goals as goal
 use Rattle.condition.proofs.term.fault.Goals.{After-astray}
 
-astray_test : (c : After-astray) → c.astray.result ≡ astray c.before.before.before.args.m c.before.before.before.args.t
-astray_test c = let f = c.before.before.before.ranges.m in c.astray.ensures ∙ simp to_z-of_z
+astray_test : (c : After-astray) → c.astray.result ≡ astray c.args.m c.args.t
+astray_test c = let f = c.ranges.m in c.astray.ensures ∙ simp to_z-of_z
 
 pub returns-then-astray : goal.returns-then-astray
-returns-then-astray c = rw (c.before.before.enum_told-1.given.1, sym (astray_test c.before) ∙ c.if-astray.true)
+returns-then-astray c = rw (c.in-P.is, sym (astray_test c.before) ∙ c.if-astray.true)
 
 pub returns-else-astray : goal.returns-else-astray
 returns-else-astray c =
-    let e = c.before.before in let t = e.before.before.before.before.args.t in
-    rw (e.before.before.enum_told-1.given.1, sym (astray_test e.before) ∙ e.if-astray.false)
+    let t = c.args.t in
+    rw (c.in-P.is, sym (astray_test c.before.before.before) ∙ c.if-astray.false)
     (bits_test (fits_of_mag t.i c.struct_told-1.given.1.1.1.0.1) (fits_of_mag t.k c.struct_told-1.given.1.1.1.1.0.1))
 
 pub returns-in-F : goal.returns-in-F
 returns-in-F c =
-    let f = fits_of_mag c.before.before.before.before.args.t.value c.before.struct_told-in-F-1.given.1.0.1 in
-    rw c.before.before.enum_told-in-F-1.given.1 (c.outside.ensures ∙ simp to_z-of_z)
+    let f = fits_of_mag c.args.t.value c.struct_told-in-F-1.given.1.0.1 in
+    rw c.in-F.is (c.outside.ensures ∙ simp to_z-of_z)
 
 pub returns-in-L : goal.returns-in-L
 returns-in-L c =
-    let f = c.before.before.before.ranges.m in
-    rw c.before.enum_told-in-L-1.given.1 (c.side_fault.ensures ∙ simp to_z-of_z)
+    let f = c.ranges.m in
+    rw c.in-L.is (c.side_fault.ensures ∙ simp to_z-of_z)
 
 pub returns-in-R : goal.returns-in-R
 returns-in-R c =
-    let f = c.before.before.before.ranges.m in
-    rw c.before.enum_told-in-R-1.given.1 (c.side_fault-in-R.ensures ∙ simp to_z-of_z)
+    let f = c.ranges.m in
+    rw c.in-R.is (c.side_fault-in-R.ensures ∙ simp to_z-of_z)

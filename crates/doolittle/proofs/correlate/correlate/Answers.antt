@@ -41,8 +41,8 @@ module _ (c : After-by_pivot-s) where
 
   own_is : own ≡ nearest (neg_ℤ (pos 10000 *ℤ cell rows j 24)) (cell rows j j)
   own_is =
-      read_at c.by_pivot-s.result c.by_pivot-s.type-inv ∙ c.by_pivot-s.ensures
-      ∙ ap₂ (λ (x y : ℤ). nearest (neg_ℤ (pos 10000 *ℤ x)) y) (read_at (cell rows j 24) c.before.before.l-1.given) (read_at (cell rows j j) c.before.pivot-1.given)
+      read_at c.by_pivot-s.result c.by_pivot-s.type_inv ∙ c.by_pivot-s.ensures
+      ∙ ap₂ (λ (x y : ℤ). nearest (neg_ℤ (pos 10000 *ℤ x)) y) (read_at (cell rows j 24) c.l-1.given) (read_at (cell rows j j) c.pivot-1.given)
 
 pub loop-e-init : goal.loop-e-init
 loop-e-init c =
@@ -61,25 +61,25 @@ module _ (c : After-y-1) where
   e = loop.loop-e.e
 
   m_within : From (suc (j b)) (start b).args.n (λ h. nat_abs (cell (rows b) h (j b)) ≤ 1000000000)
-  m_within = (start b).requires.back_within.0.multipliers
+  m_within = (start b).requires.back_within.multipliers
 
   k_within : From (suc (j b)) (start b).args.n (λ h. nat_abs (at (k b) h) ≤ 100000000)
-  k_within = (start b).requires.back_within.1
+  k_within = (start b).requires.from
 
-  sum_size : nat_abs (to_z w64 loop.loop-e.s) ≤ 100000000000000
+  sum_size : nat_abs (to_z w64 loop.loop-e.s-bits) ≤ 100000000000000
   sum_size =
-      let w = (start b).requires.back_within.0 in
+      let w = (start b).requires.back_within in
       rw loop.loop-e.invariant.2
       (omega (
         arith,
-        parts_size (own b) (e - suc (j b)) 40000000000001 100000000001 (part (rows b) (k b) (j b)) (rw (own_is b) (own_size (cell (rows b) (j b) 24) (cell (rows b) (j b) (j b)) w.constant w.pivot-1)) (omega arith)
+        parts_size (own b) (e - suc (j b)) 40000000000001 100000000001 (part (rows b) (k b) (j b)) (rw (own_is b) (own_size (cell (rows b) (j b) 24) (cell (rows b) (j b) (j b)) w.constant w.pivot)) (omega arith)
             (λ h a. carried_size (cell (rows b) (suc (j b) + h) (j b)) (at (k b) (suc (j b) + h)) 100000000 (m_within (suc (j b) + h) (omega arith) (omega arith)) (k_within (suc (j b) + h) (omega arith) (omega arith))),
       ))
 
 pub plus_carried-s-requires : goal.plus_carried-s-requires
 plus_carried-s-requires c = (
   sum_size c,
-  read_within (cell (rows (b c)) (e c) (j (b c))) c.before.x-1.given (m_within c (e c) (omega arith) (omega arith)),
+  read_within (cell (rows (b c)) (e c) (j (b c))) c.x-1.given (m_within c (e c) (omega arith) (omega arith)),
   omega (arith, read_within (at (k (b c)) (e c)) c.y-1.given (k_within c (e c) (omega arith) (omega arith))),
 )
 
@@ -89,14 +89,14 @@ loop-e-preserved c =
     let i : e d ≡ suc (j (b d)) + h = omega arith in let next : h + 1 ≡ e d + 1 - suc (j (b d)) = omega arith in (
       omega arith,
       omega arith,
-      read_at c.plus_carried-s.result c.plus_carried-s.type-inv ∙ c.plus_carried-s.ensures
+      read_at c.plus_carried-s.result c.plus_carried-s.type_inv ∙ c.plus_carried-s.ensures
           ∙ ap₂ ◌+ℤ◌ (loop d).loop-e.invariant.2
-          (ap₂ carried (read_at (cell (rows (b d)) (e d) (j (b d))) d.before.x-1.given) (read_at (at (k (b d)) (e d)) d.y-1.given)
+          (ap₂ carried (read_at (cell (rows (b d)) (e d) (j (b d))) d.x-1.given) (read_at (at (k (b d)) (e d)) d.y-1.given)
           ∙ ap (λ (h : ℕ). carried (cell (rows (b d)) h (j (b d))) (at (k (b d)) h)) i)
           ∙ parts_more (own (b d)) f h ∙ ap (λ (h : ℕ). own (b d) +ℤ sum h f) next,
     )
 
 pub returns : goal.returns
 returns c =
-    let b = c.before.before in let i : c.before.loop-e.e ≡ (start b).args.n = omega arith in
-    c.before.loop-e.invariant.2 ∙ ap₂ (λ (z : ℤ) (e : ℕ). z +ℤ sum (e - suc (j b)) (part (rows b) (k b) (j b))) (own_is b) i
+    let b = c.before.before in let i : c.loop-e.e ≡ (start b).args.n = omega arith in
+    c.loop-e.invariant.2 ∙ ap₂ (λ (z : ℤ) (e : ℕ). z +ℤ sum (e - suc (j b)) (part (rows b) (k b) (j b))) (own_is b) i

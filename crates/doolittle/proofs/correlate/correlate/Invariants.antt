@@ -22,7 +22,7 @@ abbrev part : List (List ℤ) → List ℤ → ℕ → ℕ → ℤ
 part rows k j e = carried (cell rows (suc j + e) j) (at k (suc j + e))
 
 abbrev pub invariant-loop-e : goal.invariant-loop-e
-invariant-loop-e l = (l.j < l.e) × (l.e ≤ l.n) × (to_z w64 l.s ≡ to_z w64 l.initial.s +ℤ sum (l.e - suc l.j) (part l.rows l.k l.j))
+invariant-loop-e l = (l.j < l.e) × (l.e ≤ l.n) × (l.s ≡ l.initial.s +ℤ sum (l.e - suc l.j) (part l.rows l.k l.j))
 
 abbrev pub decreases-loop-e : goal.decreases-loop-e
 decreases-loop-e l = l.n - l.e

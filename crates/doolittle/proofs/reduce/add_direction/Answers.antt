@@ -40,10 +40,10 @@ module _ (s : Start) where
 
   -- direction i of a row that begins at `to`
   within : (k : ℕ) {to : ℕ} → k < t.n → to ≡ k * t.m → to + i < length a
-  within k l e = omega (arith, row_end k t.n t.m l s.requires.sound.long e, s.requires.j_in_bounds.0.2)
+  within k l e = omega (arith, row_end k t.n t.m l s.requires.sound.long e, s.requires.j_in_bounds.2)
 
   x_within : s.args.start + i < length a
-  x_within = within j s.requires.j_in_bounds.0.0 s.requires.j_in_bounds.0.1
+  x_within = within j s.requires.j_in_bounds.0 s.requires.j_in_bounds.1
 
 pub overflow_add-x : goal.overflow_add-x
 overflow_add-x c = omega (arith, x_within c)
@@ -55,10 +55,10 @@ pub bounds-a-start : goal.bounds-a-start
 bounds-a-start c = x_within c
 
 -- a(j,i) as the machine reads it
-x_is : (c : After-x-1) → to_z w64 (of_z w64 (at (a c.before) (c.before.args.start + i c.before))) ≡ (t c.before).a (j c.before) (i c.before)
+x_is : (c : After-x-1) → to_z w64 (of_z w64 (at (a c.before) (c.args.start + i c.before))) ≡ (t c.before).a (j c.before) (i c.before)
 x_is c =
     let s = c.before in
-    read_at (at (a s) (s.args.start + i s)) c.x-1.given ∙ ap (λ (h : ℕ). at (a s) (h + i s)) s.requires.j_in_bounds.0.1
+    read_at (at (a s) (s.args.start + i s)) c.x-1.given ∙ ap (λ (h : ℕ). at (a s) (h + i s)) s.requires.j_in_bounds.1
 
 pub returns-then-x-eq0 : goal.returns-then-x-eq0
 returns-then-x-eq0 c =
@@ -71,8 +71,8 @@ returns-then-x-eq0 c =
 pub weighted-gx-requires : goal.weighted-gx-requires
 weighted-gx-requires c =
     let s = c.before.before.before in (
-      read_within ((t s).q (i s)) c.g-1.given (s.requires.sound.q_most (i s) s.requires.j_in_bounds.0.2),
-      rw (x_is c.before.before) (omega (arith, s.requires.sound.a_most (j s) s.requires.j_in_bounds.0.0 (i s) s.requires.j_in_bounds.0.2)),
+      read_within ((t s).q (i s)) c.g-1.given (s.requires.sound.q_most (i s) s.requires.j_in_bounds.2),
+      rw (x_is c.before.before) (omega (arith, s.requires.sound.a_most (j s) s.requires.j_in_bounds.0 (i s) s.requires.j_in_bounds.2)),
     )
 
 -- q(i)*a(j,i)
@@ -82,8 +82,8 @@ module _ (c : After-weighted-gx) where
 
   weighted_is : to_z w64 (of_z w64 c.weighted-gx.result) ≡ (t start).q (i start) *ℤ (t start).a (j start) (i start)
   weighted_is =
-      read_at c.weighted-gx.result c.weighted-gx.type-inv ∙ c.weighted-gx.ensures
-      ∙ ap₂ ◌*ℤ◌ (read_at ((t start).q (i start)) c.before.g-1.given) (x_is c.before.before.before)
+      read_at c.weighted-gx.result c.weighted-gx.type_inv ∙ c.weighted-gx.ensures
+      ∙ ap₂ ◌*ℤ◌ (read_at ((t start).q (i start)) c.g-1.given) (x_is c.before.before.before)
 
   weighted_size : nat_abs (to_z w64 (of_z w64 c.weighted-gx.result)) ≤ 20000
   weighted_size =
@@ -93,7 +93,7 @@ module _ (c : After-weighted-gx) where
 pub loop-k-init : goal.loop-k-init
 loop-k-init c =
     let s = start c in
-    (omega (arith, s.requires.j_in_bounds.0.0), s.requires.j_in_bounds.0.1, filled_none (pos 0) (added (t s) (j s) (i s) (row s)) (j s) (row s))
+    (omega (arith, s.requires.j_in_bounds.0), s.requires.j_in_bounds.1, filled_none (pos 0) (added (t s) (j s) (i s) (row s)) (j s) (row s))
 
 -- in a turn
 module _ (c : In-loop-k) where
@@ -110,7 +110,7 @@ module _ (c : In-loop-k) where
   below = omega arith
 
   place : k < length loop.loop-k.row
-  place = omega (arith, below, loop.loop-k.invariant.2.long, begun.requires.sound.n_most, begun.requires.j_in_bounds.1.0)
+  place = omega (arith, below, loop.loop-k.invariant.2.long, begun.requires.sound.n_most, begun.requires.in_bounds.0)
 
   y_within : loop.loop-k.to + i begun < length (a begun)
   y_within = within begun k below loop.loop-k.invariant.1
@@ -123,10 +123,10 @@ module _ (c : In-loop-k) where
   y_is = ap (λ (h : ℕ). at (a begun) (h + i begun)) loop.loop-k.invariant.1
 
   entry_size : nat_abs (at loop.loop-k.row k) ≤ 2560000000
-  entry_size = rw entry_is (begun.requires.j_in_bounds.1.1 k loop.loop-k.invariant.2.begun below)
+  entry_size = rw entry_is (begun.requires.in_bounds.1 k loop.loop-k.invariant.2.begun below)
 
   y_size : nat_abs (at (a begun) (loop.loop-k.to + i begun)) ≤ 2000
-  y_size = rw y_is (begun.requires.sound.a_most k below (i begun) begun.requires.j_in_bounds.0.2)
+  y_size = rw y_is (begun.requires.sound.a_most k below (i begun) begun.requires.j_in_bounds.2)
 
 pub offset_bounds-row-k : goal.offset_bounds-row-k
 offset_bounds-row-k c = omega (arith, below c, (begun c).requires.sound.n_most)
@@ -146,7 +146,7 @@ bounds-a-to c = y_within c.before
 pub plus_product-requires : goal.plus_product-requires
 plus_product-requires c =
     let b = c.before.before in let s = begun b in (
-      omega (arith, read_within (at (loop b).loop-k.row (k b)) c.before.s-1.given (entry_size b)),
+      omega (arith, read_within (at (loop b).loop-k.row (k b)) c.s-1.given (entry_size b)),
       weighted_size (loop b).before,
       omega (arith, read_within (at (a s) ((loop b).loop-k.to + i s)) c.y-1.given (y_size b)),
     )
@@ -168,15 +168,12 @@ loop-k-preserved c =
       omega (arith, below b),
       next_row (k b) (t s).m v.1,
       filled_more (pos 0) (added (t s) (j s) (i s) (row s)) (j s) (k b) (row s) (loop b).loop-k.row (to_z w64 (of_z w64 c.plus_product.result)) (omega (arith, place b, v.2.long)) v.2
-          (read_at c.plus_product.result c.plus_product.type-inv ∙ c.plus_product.ensures
-          ∙ ap₂ ◌+ℤ◌ (read_at (at (loop b).loop-k.row (k b)) c.before.before.s-1.given ∙ entry_is b)
-          (ap₂ ◌*ℤ◌ (weighted_is (loop b).before) (read_at (at (a s) ((loop b).loop-k.to + i s)) c.before.y-1.given ∙ y_is b))),
+          (read_at c.plus_product.result c.plus_product.type_inv ∙ c.plus_product.ensures
+          ∙ ap₂ ◌+ℤ◌ (read_at (at (loop b).loop-k.row (k b)) c.s-1.given ∙ entry_is b)
+          (ap₂ ◌*ℤ◌ (weighted_is (loop b).before) (read_at (at (a s) ((loop b).loop-k.to + i s)) c.y-1.given ∙ y_is b))),
     )
-
-pub shape_of-row : goal.shape_of-row
-shape_of-row c = c.before.loop-k.invariant.2.long
 
 pub returns : goal.returns
 returns c =
-    let l = c.before in let s = start l.before in let v = l.loop-k.invariant in
+    let s = start c.before.before in let v = c.loop-k.invariant in
     record { coefficients = λ h e f. v.2.done h e (omega arith); constant = v.2.rest 24 (omega (arith, v.0, s.requires.sound.n_most)) }

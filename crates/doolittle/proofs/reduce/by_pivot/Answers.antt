@@ -15,7 +15,7 @@ overflow_sub-factor c = let k = bounded c.args.factor c.requires.0 in let x = bo
 pub returns : goal.returns
 returns c =
     let s = c.before in
-    read (fits_of_mag c.nearest.result c.nearest.type-inv) ∙ c.nearest.ensures
+    read (fits_of_mag c.nearest.result c.nearest.type_inv) ∙ c.nearest.ensures
     ∙ ap₂ nearest
     (read (overflow_sub-factor s) ∙ +ℤ_idl _ ∙ ap neg_ℤ (read (overflow_mul-factor s) ∙ ap₂ ◌*ℤ◌ (read s.ranges.factor) (read s.ranges.x)))
     (read s.ranges.pivot)

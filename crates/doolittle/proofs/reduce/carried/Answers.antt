@@ -8,4 +8,4 @@ overflow_mul-m c = let m = bounded c.args.m c.requires.0 in let x = bounded c.ar
 
 pub returns : goal.returns
 returns c =
-    cc (read c.before.ranges.m, read c.before.ranges.x, read (overflow_mul-m c.before), read (fits_of_mag c.nearest.result c.nearest.type-inv), c.nearest.ensures)
+    cc (read c.ranges.m, read c.ranges.x, read (overflow_mul-m c.before), read (fits_of_mag c.nearest.result c.nearest.type_inv), c.nearest.ensures)

@@ -23,7 +23,7 @@ use Rattle.doolittle.proofs.reduce.is_weak.Goals.{After-is_low, After-magnitude,
 -- the row, and the first test
 module _ (s : Start) where
   abbrev row : List ℤ
-  row = s.args.t1
+  row = s.args.row
 
   abbrev entry : ℤ
   entry = s.args.entry
@@ -56,14 +56,14 @@ module _ (c : After-magnitude) where
   start2 = c.before.before.before.before.before
 
   small_d : large_d (n start2) (j start2) (at (row start2)) ≡ false
-  small_d = sym (large_is c.before.before.before) ∙ c.before.before.if-some_large.false
+  small_d = sym (large_is c.before.before.before) ∙ c.if-some_large.false
 
   small_coefficients : From (j start2) (n start2) (λ k. nat_abs (at (row start2) k) ≤ 2560000000)
   small_coefficients k h l =
       ltb-false 2560000000 (nat_abs (at (row start2) k)) (from_none (n start2) (j start2) (λ k. ltb 2560000000 (nat_abs (at (row start2) k))) small_d k h l)
 
   size_is : c.magnitude.result ≡ nat_abs (at (row start2) 24)
-  size_is = c.magnitude.ensures ∙ ap nat_abs (read_at (at (row start2) 24) c.before.l-1.given)
+  size_is = c.magnitude.ensures ∙ ap nat_abs (read_at (at (row start2) 24) c.l-1.given)
 
 pub returns-then-magnitude-gt4000000000 : goal.returns-then-magnitude-gt4000000000
 returns-then-magnitude-gt4000000000 c =
@@ -80,7 +80,7 @@ module _ (c : After-pivot-1) where
   start3 = start2 c.before.before
 
   small_l : nat_abs (at (row start3) 24) ≤ 4000000000
-  small_l = rw (size_is c.before.before) at c.before.if-magnitude-gt4000000000.false
+  small_l = rw (size_is c.before.before) at c.if-magnitude-gt4000000000.false
 
   pivot_read : to_z w64 (of_z w64 (at (row start3) (j start3))) ≡ at (row start3) (j start3)
   pivot_read = read_at (at (row start3) (j start3)) c.pivot-1.given

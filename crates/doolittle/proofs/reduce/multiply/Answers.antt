@@ -34,11 +34,11 @@ test row j k = ltb j k && large row j k
 
 pub loop-k-init : goal.loop-k-init
 loop-k-init c =
-    let s = c.before in let j = s.args.j in let row = s.args.t1 in (
+    let j = c.args.j in let row = c.args.row in (
       omega arith,
       omega arith,
       subst (Failed (test row j)) (sym (add-one j)) (from_failed (suc j) (large row j)),
-      kept_none s.args.rows.now s.requires.j_lt_n.2 j,
+      kept_none c.args.rows.now c.requires.j_lt_n.2 j,
       λ h a b. absurd (omega arith),
     )
 
@@ -51,7 +51,7 @@ module _ (c : After-x-1) where
   start = loop.before.before
 
   abbrev row : List ℤ
-  row = start.args.t1
+  row = start.args.row
 
   abbrev j : ℕ
   j = start.args.j
@@ -66,7 +66,7 @@ module _ (c : After-x-1) where
   x_is = read_at (at row k) c.x-1.given
 
   pivot_is : to_z w64 (of_z w64 (at row j)) ≡ at row j
-  pivot_is = read_at (at row j) loop.before.pivot-1.given
+  pivot_is = read_at (at row j) loop.pivot-1.given
 
 pub by_pivot-m-requires : goal.by_pivot-m-requires
 by_pivot-m-requires c =
@@ -82,10 +82,10 @@ module _ (c : After-magnitude) where
   turn = c.before.before
 
   abbrev m : ℤ
-  m = to_z w64 (of_z w64 c.before.by_pivot-m.result)
+  m = to_z w64 (of_z w64 c.by_pivot-m.result)
 
   m_is : m ≡ factor (row turn) (j turn) (k turn)
-  m_is = read_at c.before.by_pivot-m.result c.before.by_pivot-m.type-inv ∙ c.before.by_pivot-m.ensures ∙ ap₂ (λ (x y : ℤ). multiplier x y) (x_is turn) (pivot_is turn)
+  m_is = read_at c.by_pivot-m.result c.by_pivot-m.type_inv ∙ c.by_pivot-m.ensures ∙ ap₂ (λ (x y : ℤ). multiplier x y) (x_is turn) (pivot_is turn)
 
   size_is : c.magnitude.result ≡ nat_abs (factor (row turn) (j turn) (k turn))
   size_is = c.magnitude.ensures ∙ ap nat_abs m_is
@@ -115,9 +115,9 @@ loop-k-preserved c =
 
 pub returns : goal.returns
 returns c =
-    let l = c.before in let s = l.before.before in let v = l.loop-k.invariant in let j = s.args.j in
-    let e : l.loop-k.k ≡ s.args.n = omega arith in let row = s.args.t1 in record {
-      value = sym (some_none s.args.n (test row j) (subst (Failed (test row j)) e v.2));
+    let v = c.loop-k.invariant in let j = c.args.j in
+    let e : c.loop-k.k ≡ c.args.n = omega arith in let row = c.args.row in record {
+      value = sym (some_none c.args.n (test row j) (subst (Failed (test row j)) e v.2));
       from_2 = (λ f k h i. v.4 k h (omega arith));
       kept = v.3;
     }

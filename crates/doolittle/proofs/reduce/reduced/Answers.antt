@@ -23,7 +23,7 @@ taken row rows j k = with_above (at row k) rows j k
 -- the row, and the rows above it
 module _ (s : Start) where
   abbrev row : List ℤ
-  row = s.args.t1
+  row = s.args.row
 
   abbrev rows : List (List ℤ)
   rows = s.args.rows.now
@@ -33,9 +33,9 @@ module _ (s : Start) where
 
 pub with_above-requires : goal.with_above-requires
 with_above-requires c =
-    let s = c.before.before in let above = s.requires.row_within_lem.1 in
+    let s = c.before.before in let above = s.requires.by_index in
     record {
-      j_bound = (omega arith, omega arith, read_within (at (row s) 24) c.before.l-1.given s.requires.row_within_lem.0.constant);
+      j_bound = (omega arith, omega arith, read_within (at (row s) 24) c.l-1.given s.requires.row_within.constant);
       by_index = λ i h. ((above i h).0, (above i h).1.constant);
     }
 
@@ -61,27 +61,27 @@ loop-k-init c = let s = start c in (omega (arith, s.requires.j_lt_n.0), filled_n
 
 pub with_above-requires-in-loop-k : goal.with_above-requires-in-loop-k
 with_above-requires-in-loop-k c =
-    let l = c.before.before in let s = start l.before in let k = l.loop-k.k in let from = l.loop-k.invariant.1.begun in let above = s.requires.row_within_lem.1 in record {
-      j_bound = (omega arith, omega arith, read_within (at (row s) k) c.d-1.given (s.requires.row_within_lem.0.coefficients k from (omega arith)));
+    let s = start c.before.before.before in let k = c.loop-k.k in let from = c.loop-k.invariant.1.begun in let above = s.requires.by_index in record {
+      j_bound = (omega arith, omega arith, read_within (at (row s) k) c.d-1.given (s.requires.row_within.coefficients k from (omega arith)));
       by_index = λ i h. ((above i h).0, (above i h).1.coefficients k from (omega arith));
     }
 
 pub loop-k-preserved : goal.loop-k-preserved
 loop-k-preserved c =
-    let l = c.before.before.before in let f = l.before in let s = start f in let k = l.loop-k.k in let v = l.loop-k.invariant in (
+    let f = c.before.before.before.before in let s = start f in let k = c.loop-k.k in let v = c.loop-k.invariant in (
       omega arith,
-      filled_more (pos 0) (taken (row s) (rows s) (j s)) (j s) k (first_row f) l.loop-k.next (to_z w64 (of_z w64 c.with_above-in-loop-k.result))
+      filled_more (pos 0) (taken (row s) (rows s) (j s)) (j s) k (first_row f) c.loop-k.next (to_z w64 (of_z w64 c.with_above-in-loop-k.result))
           (omega (arith, length-set (own f) 24 (constant f), wide f, s.requires.j_lt_n.1)) v.1
-          (read_at c.with_above-in-loop-k.result c.with_above-in-loop-k.type-inv ∙ c.with_above-in-loop-k.ensures ∙ ap (λ (z : ℤ). with_above z (rows s) (j s) k) (read_at (at (row s) k) c.before.d-1.given)),
+          (read_at c.with_above-in-loop-k.result c.with_above-in-loop-k.type_inv ∙ c.with_above-in-loop-k.ensures ∙ ap (λ (z : ℤ). with_above z (rows s) (j s) k) (read_at (at (row s) k) c.d-1.given)),
     )
 
 pub returns : goal.returns
 returns c =
-    let l = c.before in let f = l.before in let s = start f in let v = l.loop-k.invariant in record {
+    let f = c.before.before in let s = start f in let v = c.loop-k.invariant in record {
       holds = record {
         coefficients = λ k h e. v.1.done k h (omega arith);
-        constant = v.1.rest 24 (omega arith) ∙ get_or-set_same (own f) 24 (constant f) (pos 0) (omega (arith, wide f)) ∙ read_at f.with_above.result f.with_above.type-inv ∙ f.with_above.ensures
-            ∙ ap (λ (z : ℤ). with_above z (rows s) (j s) 24) (read_at (at (row s) 24) f.before.before.l-1.given);
+        constant = v.1.rest 24 (omega arith) ∙ get_or-set_same (own f) 24 (constant f) (pos 0) (omega (arith, wide f)) ∙ read_at f.with_above.result f.with_above.type_inv ∙ f.with_above.ensures
+            ∙ ap (λ (z : ℤ). with_above z (rows s) (j s) 24) (read_at (at (row s) 24) f.l-1.given);
       };
       before = λ k h. v.1.before k h ∙ get_or-set_other (own f) 24 k (constant f) (pos 0) (λ e. omega (arith, s.requires.j_lt_n.0, s.requires.j_lt_n.1));
     }

@@ -27,23 +27,23 @@ module _ (c : After-magnitude) where
   start = c.before.before.before.before
 
   abbrev k : ℕ
-  k = c.before.before.before.loop-k.k
+  k = c.loop-k.k
 
   abbrev test : ℕ → Bool
   test = large start.args.row.now
 
   size_is : c.magnitude.result ≡ nat_abs (at start.args.row.now k)
-  size_is = c.magnitude.ensures ∙ ap nat_abs (read_at (at start.args.row.now k) c.before.x-1.given)
+  size_is = c.magnitude.ensures ∙ ap nat_abs (read_at (at start.args.row.now k) c.x-1.given)
 
 pub returns-then-magnitude-gt2560000000 : goal.returns-then-magnitude-gt2560000000
 returns-then-magnitude-gt2560000000 c =
-    let b = c.before in let i = b.before.before.before.loop-k.invariant in let l : k b < (start b).args.n = omega arith in
+    let b = c.before in let i = b.loop-k.invariant in let l : k b < (start b).args.n = omega arith in
     sym (some_at (start b).args.n (λ k. leb (start b).args.j k && test b k) (k b) l i.2
     (from_test (start b).args.j (k b) (test b) i.0 ∙ lt-ltb 2560000000 _ (rw (size_is b) at c.if-magnitude-gt2560000000.true)))
 
 pub loop-k-preserved : goal.loop-k-preserved
 loop-k-preserved c =
-    let b = c.before in let i = b.before.before.before.loop-k.invariant in (
+    let b = c.before in let i = b.loop-k.invariant in (
       omega arith,
       omega arith,
       failed_more (λ k. leb (start b).args.j k && test b k) (k b) i.2
@@ -52,6 +52,6 @@ loop-k-preserved c =
 
 pub returns : goal.returns
 returns c =
-    let s = c.before.before in let e : c.before.loop-k.k ≡ s.args.n = omega arith in
-    let test : ℕ → Bool = λ k. leb s.args.j k && large s.args.row.now k in
-    sym (some_none s.args.n test (subst (Failed test) e c.before.loop-k.invariant.2))
+    let e : c.loop-k.k ≡ c.args.n = omega arith in
+    let test : ℕ → Bool = λ k. leb c.args.j k && large c.args.row.now k in
+    sym (some_none c.args.n test (subst (Failed test) e c.loop-k.invariant.2))

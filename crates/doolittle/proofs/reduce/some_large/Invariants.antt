@@ -18,7 +18,7 @@ abbrev large : List ℤ → ℕ → Bool
 large row k = ltb 2560000000 (nat_abs (at row k))
 
 abbrev pub invariant-loop-k : goal.invariant-loop-k
-invariant-loop-k l = (l.j ≤ l.k) × (l.k ≤ l.n) × Failed (λ l.k. leb l.j l.k && large l.row l.k) l.k
+invariant-loop-k l = let k = l.k in (l.j ≤ k) × (k ≤ l.n) × Failed (λ k. leb l.j k && large l.row k) k
 
 abbrev pub decreases-loop-k : goal.decreases-loop-k
 decreases-loop-k l = l.n - l.k

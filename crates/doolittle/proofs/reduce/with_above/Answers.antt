@@ -43,7 +43,7 @@ module _ (c : After-y-1) where
   within : (h : ℕ) → h < start.args.j → (nat_abs (m h) ≤ 1000000000) × (nat_abs (y h) ≤ 4000000000)
   within h l = start.requires.by_index h l
 
-  sum_size : nat_abs (to_z w64 loop.loop-i.s) ≤ 100000000000000
+  sum_size : nat_abs (to_z w64 loop.loop-i.s-bits) ≤ 100000000000000
   sum_size =
       rw loop.loop-i.invariant.1
       (omega (
@@ -55,7 +55,7 @@ module _ (c : After-y-1) where
 pub plus_carried-s-requires : goal.plus_carried-s-requires
 plus_carried-s-requires c = (
   sum_size c,
-  read_within (m c (i c)) c.before.m-1.given (within c (i c) (omega arith)).0,
+  read_within (m c (i c)) c.m-1.given (within c (i c) (omega arith)).0,
   read_within (y c (i c)) c.y-1.given (within c (i c) (omega arith)).1,
 )
 
@@ -63,12 +63,12 @@ pub loop-i-preserved : goal.loop-i-preserved
 loop-i-preserved c =
     let b = c.before in (
       omega arith,
-      read_at c.plus_carried-s.result c.plus_carried-s.type-inv ∙ c.plus_carried-s.ensures
-          ∙ ap₂ ◌+ℤ◌ (loop b).loop-i.invariant.1 (ap₂ carried (read_at (m b (i b)) b.before.m-1.given) (read_at (y b (i b)) b.y-1.given))
+      read_at c.plus_carried-s.result c.plus_carried-s.type_inv ∙ c.plus_carried-s.ensures
+          ∙ ap₂ ◌+ℤ◌ (loop b).loop-i.invariant.1 (ap₂ carried (read_at (m b (i b)) b.m-1.given) (read_at (y b (i b)) b.y-1.given))
           ∙ parts_more (to_z w64 (of_z w64 (start b).args.x)) (λ h. carried (m b h) (y b h)) (i b),
     )
 
 pub returns : goal.returns
 returns c =
-    let s = c.before.before in let e : c.before.loop-i.i ≡ s.args.j = omega arith in
-    c.before.loop-i.invariant.1 ∙ ap₂ (λ (x : ℤ) (i : ℕ). x +ℤ sum i (part s.args.rows.now s.args.j s.args.k)) (read s.ranges.x) e
+    let e : c.loop-i.i ≡ c.args.j = omega arith in
+    c.loop-i.invariant.1 ∙ ap₂ (λ (x : ℤ) (i : ℕ). x +ℤ sum i (part c.args.rows.now c.args.j c.args.k)) (read c.ranges.x) e

@@ -20,7 +20,7 @@ abbrev part : List (List ℤ) → ℕ → ℕ → ℕ → ℤ
 part rows j k i = carried (cell rows j i) (cell rows i k)
 
 abbrev pub invariant-loop-i : goal.invariant-loop-i
-invariant-loop-i l = (l.i ≤ l.j) × (to_z w64 l.s ≡ to_z w64 l.x +ℤ sum l.i (part l.rows l.j l.k))
+invariant-loop-i l = (l.i ≤ l.j) × (l.s ≡ l.x +ℤ sum l.i (part l.rows l.j l.k))
 
 abbrev pub decreases-loop-i : goal.decreases-loop-i
 decreases-loop-i l = l.j - l.i

@@ -13,7 +13,7 @@ use Rattle.listing.proofs.lines.put_accepted.Goals.{After-put_heading-head, Afte
 abbrev start1 : After-put_heading-head → Start
 start1 c = c.before.before.before
 
-come1 : (c : After-put_heading-head) → Come (start1 c).args.out.now 0 48 c.put_heading-head.new.0 c.put_heading-head.result
+come1 : (c : After-put_heading-head) → Come (start1 c).args.out.now 0 48 c.put_heading-head.new.out c.put_heading-head.result
 come1 c = come_within 48 (heading_most 65 68 74 (start1 c).args.m (start1 c).args.n) c.put_heading-head.ensures
 
 pub put_vs-middle-requires : goal.put_vs-middle-requires
@@ -29,7 +29,7 @@ abbrev start2 : After-put_vs-middle → Start
 start2 c = start1 c.before.before.before.before
 
 come2 :
-    (c : After-put_vs-middle) → Come (start2 c).args.out.now 0 (48 + (start2 c).args.m * 68) c.put_vs-middle.new.0 c.put_vs-middle.result
+    (c : After-put_vs-middle) → Come (start2 c).args.out.now 0 (48 + (start2 c).args.m * 68) c.put_vs-middle.new.out c.put_vs-middle.result
 come2 c =
     let s = start2 c in
     come_on
@@ -44,9 +44,8 @@ put_ks-requires c =
     (omega (arith, pre.0, (come2 b).far, (come2 b).kept), pre.1.1.1)
 
 pub shape_of-out : goal.shape_of-out
-shape_of-out c = let b = c.before.before in wrote_length b.put_ks.ensures ∙ (come2 b.before.before.before.before).kept
+shape_of-out c = wrote_length c.put_ks.ensures ∙ (come2 (record { before = c.before.before.before.before.before; type_inv = record { out = c.slice_known-3-1.given } })).kept
 
 pub returns : goal.returns
 returns c =
-    let e3 = c.before.before in let e2 = e3.before.before.before.before in let e1 = e2.before.before.before.before in
-    then e1.put_heading-head.ensures (then e2.put_vs-middle.ensures e3.put_ks.ensures)
+    then c.put_heading-head.ensures (then c.put_vs-middle.ensures c.put_ks.ensures)

@@ -11,28 +11,26 @@ use Rattle.page.proofs.Composing.{numbered_most}
 use Rattle.listing.proofs.lines.put_vs.Goals as goal
 
 pub loop-i-init : goal.loop-i-init
-loop-i-init c = (omega arith, lines_none c.before.args.out.now c.before.args.at _)
+loop-i-init c = (omega arith, lines_none c.args.out.now c.args.at _)
 
 pub put_numbered-next-requires : goal.put_numbered-next-requires
 put_numbered-next-requires c =
-    let t = c.before.before.before in let l = t.before in let s = l.before.before in
-    lines_room s.args.m l.loop-i.i 68 _ (λ j. numbered_most 86 (j + 1) _ _) s.requires.m_in_bounds t.loop-i-test.true l.loop-i.invariant.1
+    lines_room c.args.m c.loop-i.i 68 _ (λ j. numbered_most 86 (j + 1) _ _) c.requires.m_in_bounds c.loop-i-test.true c.loop-i.invariant.1
 
 pub loop-i-preserved : goal.loop-i-preserved
 loop-i-preserved c =
-    let p = c.before.before in let t = p.before.before.before.before in let l = t.before in let s = l.before.before in (
-      omega (arith, t.loop-i-test.true),
-      lines_on_lem l.loop-i.i (v_line_of s.args.u.now s.args.adjusted.now) l.loop-i.invariant.1
-          (rewrote (ap₂ (v_line (l.loop-i.i + 1)) (read_at _ p.before.before.put_numbered-arg-in-loop-i-1.given) (read_at _ p.before.put_numbered-arg-in-loop-i-2-1.given)) p.put_numbered-next.ensures),
+    (
+      omega (arith, c.loop-i-test.true),
+      lines_on_lem c.loop-i.i (v_line_of c.args.u.now c.args.adjusted.now) c.loop-i.invariant.1
+          (rewrote (ap₂ (v_line (c.loop-i.i + 1)) (read_at _ c.put_numbered-arg-in-loop-i-1.given) (read_at _ c.put_numbered-arg-in-loop-i-2-1.given)) c.put_numbered-next.ensures),
     )
 
 pub shape_of-out : goal.shape_of-out
-shape_of-out c = wrote_length c.before.loop-i.invariant.1
+shape_of-out c = wrote_length c.loop-i.invariant.1
 
 pub returns : goal.returns
 returns c =
-    let l = c.before in let s = l.before.before in
     subst
-    (λ (k : ℕ). Wrote s.args.out.now s.args.at (in_order k (v_line_of s.args.u.now s.args.adjusted.now)) l.loop-i.out l.loop-i.next)
-    (omega (arith, l.loop-i.invariant.0, c.loop-i-test.false))
-    l.loop-i.invariant.1
+    (λ (k : ℕ). Wrote c.args.out.now c.args.at (in_order k (v_line_of c.args.u.now c.args.adjusted.now)) c.loop-i.out c.loop-i.next)
+    (omega (arith, c.loop-i.invariant.0, c.loop-i-test.false))
+    c.loop-i.invariant.1

@@ -25,15 +25,13 @@ line sheet e e' same f w = rewrote (ap (λ (x : Errors). e_line x.mean x.probabl
 
 pub put_e-requires : goal.put_e-requires
 put_e-requires c =
-    let t = c.before.before.before.before in let s = t.before.before.before in
-    omega (arith, s.requires.at_bound.0, subst (λ (x : Sheet). room_of x ≤ length s.args.out.now) t.enum_told-in-WithErrors-1.given.1 s.requires.at_bound.1)
+    omega (arith, c.requires.at_bound, subst (λ (x : Sheet). room_of x ≤ length c.args.out.now) c.in-WithErrors.is c.requires.sheet_in_bounds)
 
 pub returns-in-Plain : goal.returns-in-Plain
-returns-in-Plain c = let s = c.before.before.before in nothing s.args.out.now s.args.at s.args.sheet _ c.enum_told-1.given.1
+returns-in-Plain c = nothing c.args.out.now c.args.at c.args.sheet _ c.in-Plain.is
 
 pub returns-in-WithErrors : goal.returns-in-WithErrors
 returns-in-WithErrors c =
-    let p = c.before.before in let g = p.before.before in let e = g.before.before in let t = e.before in let s = t.before.before.before in
-    let r = e.estimate-errors.result in
-    line s.args.sheet _ _ t.enum_told-in-WithErrors-1.given.1
-    (ap₂ errors (read_at r.mean g.before.struct_told-1.given.0.1) (read_at r.probable g.struct_told-in-WithErrors-1.given.1.0.1) ∙ e.estimate-errors.ensures) p.put_e.ensures
+    let r = c.estimate-errors.result in
+    line c.args.sheet _ _ c.in-WithErrors.is
+    (ap₂ errors (read_at r.mean c.struct_told-1.given.0.1) (read_at r.probable c.struct_told-in-WithErrors-1.given.1.0.1) ∙ c.estimate-errors.ensures) c.put_e.ensures

@@ -25,7 +25,7 @@ slice_bounds-list_table-end-6 c = sym (length-take-le _ _ (omega arith))
 
 pub list_table-requires : goal.list_table-requires
 list_table-requires c =
-    let s = c.before.before.before.before.before.before.before.before in let p = s.requires in
+    let p = c.requires in
     record {
       directions_len_bound = p;
       v_len = (length-take-le _ _ p.0, length-take-le _ _ p.0, length-take-le _ _ p.0);

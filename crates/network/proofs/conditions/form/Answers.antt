@@ -36,17 +36,17 @@ module _ (e : After-coefficients-checked) where
       let f = start.fits.target in
       sym (e.coefficients-checked.ensures.answer ∙ rw start.requires (simp to_z-of_z))
 
-  row_list : e.coefficients-checked.last.1.1.1.1.1.1.1.1.1.0 ≡ coefficients_list (lent_of directions q asked) start.args.row.now
+  row_list : e.coefficients-checked.new.a ≡ coefficients_list (lent_of directions q asked) start.args.row.now
   unfolding lent_of
   row_list = let f = start.fits.target in e.coefficients-checked.ensures.list ∙ simp to_z-of_z
 
 -- and what the one on the misclosure has said
 module _ (g : After-misclosure-closed) where
   abbrev formed : After-coefficients-checked
-  formed = g.before.before.before.before
+  formed = g.before.before.before
 
   accepted : coefficients_reply (lent_of (directions formed) (q formed) (asked formed)) (length (directions formed)) ≡ Accepted
-  accepted = row_reply formed ∙ g.before.enum_told-in_default-1.given.1
+  accepted = row_reply formed ∙ g.in_default.is
 
   figure : misclosure_figure (lent_of (directions formed) (q formed) (asked formed)) ≡ g.misclosure-closed.result
   unfolding lent_of
@@ -54,15 +54,15 @@ module _ (g : After-misclosure-closed) where
 
 pub returns-in-Refused : goal.returns-in-Refused
 returns-in-Refused c =
-    let e = c.before.before.before in
+    let e = c.before.before in
     record {
-      figure = row_refused (directions e) (q e) (start e).args.j (asked e) _ (row_reply e ∙ c.enum_told-1.given.1);
+      figure = row_refused (directions e) (q e) (start e).args.j (asked e) _ (row_reply e ∙ c.in-Refused.is);
       list = row_list e;
     }
 
 pub returns-in-Value : goal.returns-in-Value
 returns-in-Value c =
-    let g = c.before.before.before in let e = formed g in let v = c.before.closed-1.given in record {
+    let g = c.before in let e = formed g in let v = c.closed-1.given in record {
       figure = ap Value (read_at v.0.0 c.known_told-1.given.0.1)
           ∙ closing_accepted (directions e) (q e) (start e).args.j (asked e) (accepted g) v.0.0 (figure g ∙ v.1);
       list = row_list e;
@@ -70,8 +70,8 @@ returns-in-Value c =
 
 pub returns-in-Refused-closed : goal.returns-in-Refused-closed
 returns-in-Refused-closed c =
-    let g = c.before.before in let e = formed g in
+    let g = c.before in let e = formed g in
     record {
-      figure = closing_refused (directions e) (q e) (start e).args.j (asked e) (accepted g) _ (figure g ∙ c.enum_told-in-Refused-closed-1.given.1);
+      figure = closing_refused (directions e) (q e) (start e).args.j (asked e) (accepted g) _ (figure g ∙ c.in-Refused-closed.is);
       list = row_list e;
     }

@@ -14,7 +14,7 @@ use Rattle.network.proofs.record.numbered.Goals as goal
 
 pub returns-then-count-eq0 : goal.returns-then-count-eq0
 returns-then-count-eq0 c =
-    let a = c.before.before.before.args in
+    let a = c.args in
     record {
       said = numbered_zero a.file.now a.at a.letter (sym c.before.Numbers-of.ensures ∙ c.if-count-eq0.true);
       next = λ z. absurd z;
@@ -22,14 +22,14 @@ returns-then-count-eq0 c =
 
 pub read-end-requires : goal.read-end-requires
 read-end-requires c =
-    let n = c.before.before in let most = subst (λ (k : ℕ). k ≤ 4) (sym n.Numbers-of.ensures) (numbers_most n.before.before.args.letter) in
-    (omega arith, n.before.before.requires, omega (arith, c.before.if-count-eq0.false), most)
+    let most = subst (λ (k : ℕ). k ≤ 4) (sym c.Numbers-of.ensures) (numbers_most c.args.letter) in
+    (omega arith, c.requires, omega (arith, c.if-count-eq0.false), most)
 
 pub returns-in_default : goal.returns-in_default
 returns-in_default c =
-    let n = c.before.before.before.before.before.before in let a = n.before.before.args in
+    let a = c.args in
     let row : row_end 11 a.file.now a.at (numbers_of a.letter) ≡ NoRow =
-    ap (row_end 11 a.file.now a.at) (sym n.Numbers-of.ensures) ∙ sym c.before.before.before.read-end.ensures.end ∙ c.enum_told-1.given.1 in
+    ap (row_end 11 a.file.now a.at) (sym c.Numbers-of.ensures) ∙ sym c.read-end.ensures.end ∙ c.in_default.is in
     record {
       said = numbered_none a.file.now a.at a.letter (no_row_told 11 a.file.now a.at (numbers_of a.letter) row);
       next = λ z. absurd z;
@@ -37,13 +37,13 @@ returns-in_default c =
 
 pub returns : goal.returns
 returns c =
-    let n = c.before.before.before.before.before.before.before.before.before in let a = n.before.before.args in
-    let r = c.before.before.before.before.before.before.read-end in let x = r.new.1.1.1.1.0 in
+    let a = c.args in
+    let r = c.read-end in let x = r.new.x in
     let told =
-    row_told 11 a.file.now a.at n.Numbers-of.result c.before.before.before.end-1.given.0.0 (take n.Numbers-of.result x)
-    (sym r.ensures.end ∙ c.before.before.before.end-1.given.1) r.ensures.values.0 in
-    let row = subst (λ (k : ℕ). row_at a.file.now a.at k ≡ some (take k x)) n.Numbers-of.ensures told.0 in record {
+    row_told 11 a.file.now a.at c.Numbers-of.result c.in-Next.next (take c.Numbers-of.result x)
+    (sym r.ensures.end ∙ c.in-Next.is) r.ensures.values in
+    let row = subst (λ (k : ℕ). row_at a.file.now a.at k ≡ some (take k x)) c.Numbers-of.ensures told.0 in record {
       said = c.record_with.ensures
-          ∙ numbered_some a.file.now a.at a.letter x (λ z. c.before.before.before.before.before.before.before.before.if-count-eq0.false (n.Numbers-of.ensures ∙ z)) row;
+          ∙ numbered_some a.file.now a.at a.letter x (λ z. c.if-count-eq0.false (c.Numbers-of.ensures ∙ z)) row;
       next = λ z. told.1;
     }

@@ -10,13 +10,13 @@ use Rattle.network.proofs.scan.angles_reply.Goals.{After-target_fault, Else-one_
 
 pub returns-then-one_too_many : goal.returns-then-one_too_many
 unfolding angles_reply
-returns-then-one_too_many c = rw (sym c.before.one_too_many.ensures ∙ c.if-one_too_many.true)
+returns-then-one_too_many c = rw (sym c.one_too_many.ensures ∙ c.if-one_too_many.true)
 
-counts_right : (c : Else-one_too_many) → let a = c.before.before.args in one_too_many a.c.n a.c.terms ≡ false
-counts_right c = sym c.before.one_too_many.ensures ∙ c.if-one_too_many.false
+counts_right : (c : Else-one_too_many) → let a = c.args in one_too_many a.c.n a.c.terms ≡ false
+counts_right c = sym c.one_too_many.ensures ∙ c.if-one_too_many.false
 
-target_test : (c : After-target_fault) → c.target_fault.result ≡ target_fault c.before.before.before.args.target
-target_test c = let f = c.before.before.before.ranges.target in c.target_fault.ensures ∙ simp to_z-of_z
+target_test : (c : After-target_fault) → c.target_fault.result ≡ target_fault c.args.target
+target_test c = let f = c.ranges.target in c.target_fault.ensures ∙ simp to_z-of_z
 
 pub returns-then-target_fault : goal.returns-then-target_fault
 unfolding angles_reply

@@ -13,22 +13,22 @@ use Rattle.network.proofs.scan.direction_reply.Goals.{After-out_of_range, After-
 
 pub returns-then-n-gt0 : goal.returns-then-n-gt0
 unfolding direction_reply
-returns-then-n-gt0 c = rw (lt-ltb 0 c.before.args.c.n c.if-n-gt0.true)
+returns-then-n-gt0 c = rw (lt-ltb 0 c.args.c.n c.if-n-gt0.true)
 
 -- ---- what each test found, and what is known past it
-no_condition : (c : Else-n-gt0) → ltb 0 c.before.args.c.n ≡ false
-no_condition c = le-ltb 0 c.before.args.c.n (omega arith)
+no_condition : (c : Else-n-gt0) → ltb 0 c.args.c.n ≡ false
+no_condition c = le-ltb 0 c.args.c.n (omega arith)
 
-turn_test : (c : After-out_of_turn) → let a = c.before.before.args in c.out_of_turn_lem.result ≡ out_of_turn a.c.m a.number
-turn_test c = let f = c.before.before.ranges.number in c.out_of_turn_lem.ensures ∙ simp to_z-of_z
+turn_test : (c : After-out_of_turn) → let a = c.args in c.out_of_turn_lem.result ≡ out_of_turn a.c.m a.number
+turn_test c = let f = c.ranges.number in c.out_of_turn_lem.ensures ∙ simp to_z-of_z
 
-in_turn : (c : Else-out_of_turn) → let a = c.before.before.before.args in out_of_turn a.c.m a.number ≡ false
+in_turn : (c : Else-out_of_turn) → let a = c.args in out_of_turn a.c.m a.number ≡ false
 in_turn c = sym (turn_test c.before) ∙ c.if-out_of_turn.false
 
-range_test : (c : After-out_of_range) → let a = c.before.before.before.before.args in
+range_test : (c : After-out_of_range) → let a = c.args in
     c.out_of_range.result ≡ out_of_range a.direction a.q
 range_test c =
-    let s = c.before.before.before.before in let f = s.ranges.direction in let g = s.ranges.q in
+    let f = c.ranges.direction in let g = c.ranges.q in
     c.out_of_range.ensures ∙ simp to_z-of_z
 
 pub returns-then-out_of_turn : goal.returns-then-out_of_turn

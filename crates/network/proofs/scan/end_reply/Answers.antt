@@ -6,8 +6,8 @@ use Rattle.network.proofs.scan.end_reply.Goals as goal
 
 pub returns-then-end_fault : goal.returns-then-end_fault
 unfolding end_reply
-returns-then-end_fault c = rw (sym c.before.end_fault.ensures ∙ c.if-end_fault.true)
+returns-then-end_fault c = rw (sym c.end_fault.ensures ∙ c.if-end_fault.true)
 
 pub returns : goal.returns
 unfolding end_reply
-returns c = rw (sym c.before.end_fault.ensures ∙ c.if-end_fault.false)
+returns c = rw (sym c.end_fault.ensures ∙ c.if-end_fault.false)

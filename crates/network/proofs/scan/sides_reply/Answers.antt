@@ -6,8 +6,8 @@ use Rattle.network.proofs.scan.sides_reply.Goals as goal
 
 pub returns-then-one_too_many : goal.returns-then-one_too_many
 unfolding sides_reply
-returns-then-one_too_many c = rw (sym c.before.one_too_many.ensures ∙ c.if-one_too_many.true)
+returns-then-one_too_many c = rw (sym c.one_too_many.ensures ∙ c.if-one_too_many.true)
 
 pub returns : goal.returns
 unfolding sides_reply
-returns c = rw (sym c.before.one_too_many.ensures ∙ c.if-one_too_many.false)
+returns c = rw (sym c.one_too_many.ensures ∙ c.if-one_too_many.false)

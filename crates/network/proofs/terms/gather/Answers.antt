@@ -15,49 +15,48 @@ use Rattle.network.proofs.terms.gather.Goals as goal
 use Rattle.network.proofs.terms.gather.Goals.{At-loop-letter, In-Term}
 
 pub loop-letter-init : goal.loop-letter-init
-loop-letter-init c = gather_none _ _ _ _ _ _ _ c.before.requires.twelve c.before.requires.start_in_bounds.2 c.before.requires.start_in_bounds.0
+loop-letter-init c = gather_none _ _ _ _ _ _ _ c.requires.twelve c.requires.start_in_bounds.2 c.requires.start_in_bounds.0
 
 pub read-turn-requires : goal.read-turn-requires
 read-turn-requires c = c.loop-letter.invariant.within
 
 pub shape_of-kinds-in_default : goal.shape_of-kinds-in_default
-shape_of-kinds-in_default c = let l = c.before.before in l.loop-letter.invariant.long.0 ∙ sym l.before.before.requires.twelve.0
+shape_of-kinds-in_default c = c.loop-letter.invariant.long.0 ∙ sym c.requires.twelve.0
 
 pub shape_of-values-in_default : goal.shape_of-values-in_default
-shape_of-values-in_default c = let l = c.before.before in l.loop-letter.invariant.long.1 ∙ sym l.before.before.requires.twelve.1
+shape_of-values-in_default c = c.loop-letter.invariant.long.1 ∙ sym c.requires.twelve.1
 
 pub shape_of-ds-in_default : goal.shape_of-ds-in_default
-shape_of-ds-in_default c = let l = c.before.before in l.loop-letter.invariant.long.2 ∙ sym l.before.before.requires.twelve.2
+shape_of-ds-in_default c = c.loop-letter.invariant.long.2 ∙ sym c.requires.twelve.2
 
 pub shape_of-is-in_default : goal.shape_of-is-in_default
-shape_of-is-in_default c = let l = c.before.before in l.loop-letter.invariant.long.3 ∙ sym l.before.before.requires.twelve.3
+shape_of-is-in_default c = c.loop-letter.invariant.long.3 ∙ sym c.requires.twelve.3
 
 pub shape_of-ks-in_default : goal.shape_of-ks-in_default
-shape_of-ks-in_default c = let l = c.before.before in l.loop-letter.invariant.long.4 ∙ sym l.before.before.requires.twelve.4
+shape_of-ks-in_default c = c.loop-letter.invariant.long.4 ∙ sym c.requires.twelve.4
 
 pub returns-in_default : goal.returns-in_default
 returns-in_default c =
-    let l = c.before.before in
     record {
-      terms = gathered l.loop-letter.invariant (terms_stop l.before.before.args.file.now l.loop-letter.at c.before.read-turn.result.said c.before.read-turn.ensures.said c.in_default.keys2 l.loop-letter.invariant.body);
-      after = record { says = c.before.read-turn.ensures.said; after = c.before.read-turn.ensures.next };
+      terms = gathered c.loop-letter.invariant (terms_stop c.args.file.now c.loop-letter.at c.read-turn.result.said c.read-turn.ensures.said c.in-Term.keys2 c.loop-letter.invariant.body);
+      after = record { says = c.read-turn.ensures.said; after = c.read-turn.ensures.next };
     }
 
 -- ---- a term
 module _ (c : In-Term) where
   abbrev loop : At-loop-letter
-  loop = c.before.before.before.before
+  loop = (record { before = c.before.before.before; type_inv = record { file = c.shared_slice_known-1.given } })
 
   abbrev file : List ℕ
-  file = loop.before.before.args.file.now
+  file = loop.args.file.now
 
-  on : Walked file loop.loop-letter.at c.before.before.before.read-turn.result.said c.before.before.before.read-turn.result.next
+  on : Walked file loop.loop-letter.at c.read-turn.result.said c.read-turn.result.next
   on =
-      let r = c.before.before.before.read-turn in let h = subst Readable (sym c.before.said-1.given.1) tt in
+      let r = c.read-turn in let h = subst Readable (sym c.in-Term.is) tt in
       walked file loop.loop-letter.at r.result.said r.result.next r.ensures.said h (r.ensures.next h)
 
   room : loop.loop-letter.count < 12
-  room = gather_room loop.loop-letter.invariant on _ _ _ _ _ c.before.said-1.given.1 loop.before.before.requires.start_in_bounds.1
+  room = gather_room loop.loop-letter.invariant on _ _ _ _ _ c.in-Term.is loop.requires.start_in_bounds.1
 
 pub offset_bounds-kinds-count : goal.offset_bounds-kinds-count
 offset_bounds-kinds-count c = omega (arith, room c)
@@ -97,7 +96,7 @@ loop-letter-smaller c = omega (arith, (on c).on, (on c).within)
 
 pub loop-letter-preserved : goal.loop-letter-preserved
 loop-letter-preserved c =
-    let v = c.before.said-1.given in let f = c.known_told-1.given in
+    let v = c.said-1.given in let f = c.known_told-1.given in
     gather_more (loop c).loop-letter.invariant (on c) _ _ _ _ _ v.1 _ _ _ _ _ (
       to_z_pos w64 v.0.0 (omega (arith, f.0)),
       read_at v.0.1.0 f.1.0.1,

@@ -10,7 +10,7 @@ use Rattle.page.proofs.lines.put_counts.Goals.{After-put_count-one, After-put_co
 abbrev start1 : After-put_count-one → Start
 start1 c = c.before.before.before
 
-come1 : (c : After-put_count-one) → Come (start1 c).args.out.now (start1 c).args.at 22 c.put_count-one.new.0 c.put_count-one.result
+come1 : (c : After-put_count-one) → Come (start1 c).args.out.now (start1 c).args.at 22 c.put_count-one.new.out c.put_count-one.result
 come1 c = come_within 22 (omega (arith, count_most (start1 c).args.first)) c.put_count-one.ensures
 
 pub put_count-two-requires : goal.put_count-two-requires
@@ -19,16 +19,15 @@ put_count-two-requires c = let b = c.before.before.before in omega (arith, (star
 abbrev start2 : After-put_count-two → Start
 start2 c = start1 c.before.before.before.before
 
-come2 : (c : After-put_count-two) → Come (start2 c).args.out.now (start2 c).args.at 44 c.put_count-two.new.0 c.put_count-two.result
+come2 : (c : After-put_count-two) → Come (start2 c).args.out.now (start2 c).args.at 44 c.put_count-two.new.out c.put_count-two.result
 come2 c = count_on _ (come1 c.before.before.before.before) c.put_count-two.ensures
 
 pub put_byte-requires : goal.put_byte-requires
 put_byte-requires c = let b = c.before.before.before in omega (arith, (start2 b).requires, (come2 b).far, (come2 b).kept)
 
 pub shape_of-out : goal.shape_of-out
-shape_of-out c = let b = c.before.before in wrote_length b.put_byte.ensures ∙ (come2 b.before.before.before.before).kept
+shape_of-out c = wrote_length c.put_byte.ensures ∙ (come2 c.before.before.before.before.before.before.before).kept
 
 pub returns : goal.returns
 returns c =
-    let e3 = c.before.before in let e2 = e3.before.before.before.before in let e1 = e2.before.before.before.before in
-    then e1.put_count-one.ensures (then e2.put_count-two.ensures e3.put_byte.ensures)
+    then c.put_count-one.ensures (then c.put_count-two.ensures c.put_byte.ensures)

@@ -10,7 +10,7 @@ use Rattle.page.proofs.lines.put_head.Goals.{After-put_byte-head, After-put_coun
 abbrev start1 : After-put_byte-head → Start
 start1 c = c.before.before.before
 
-come1 : (c : After-put_byte-head) → Come (start1 c).args.out.now (start1 c).args.at 1 c.put_byte-head.new.0 c.put_byte-head.result
+come1 : (c : After-put_byte-head) → Come (start1 c).args.out.now (start1 c).args.at 1 c.put_byte-head.new.out c.put_byte-head.result
 come1 c = come c.put_byte-head.ensures
 
 pub put_count-numbered-requires : goal.put_count-numbered-requires
@@ -19,7 +19,7 @@ put_count-numbered-requires c = let b = c.before.before.before in omega (arith, 
 abbrev start2 : After-put_count-numbered → Start
 start2 c = start1 c.before.before.before.before
 
-come2 : (c : After-put_count-numbered) → Come (start2 c).args.out.now (start2 c).args.at 23 c.put_count-numbered.new.0 c.put_count-numbered.result
+come2 : (c : After-put_count-numbered) → Come (start2 c).args.out.now (start2 c).args.at 23 c.put_count-numbered.new.out c.put_count-numbered.result
 come2 c = count_on _ (come1 c.before.before.before.before) c.put_count-numbered.ensures
 
 pub put_signed-one-requires : goal.put_signed-one-requires
@@ -28,23 +28,18 @@ put_signed-one-requires c = let b = c.before.before.before in omega (arith, (sta
 abbrev start3 : After-put_signed-one → Start
 start3 c = start2 c.before.before.before.before
 
-come3 : (c : After-put_signed-one) → Come (start3 c).args.out.now (start3 c).args.at 45 c.put_signed-one.new.0 c.put_signed-one.result
+come3 : (c : After-put_signed-one) → Come (start3 c).args.out.now (start3 c).args.at 45 c.put_signed-one.new.out c.put_signed-one.result
 come3 c = signed_on _ (come2 c.before.before.before.before) c.put_signed-one.ensures
 
 pub put_signed-requires : goal.put_signed-requires
 put_signed-requires c = let b = c.before.before.before in omega (arith, (start3 b).requires, (come3 b).far, (come3 b).kept)
 
 pub shape_of-out : goal.shape_of-out
-shape_of-out c = let b = c.before.before in wrote_length b.put_signed.ensures ∙ (come3 b.before.before.before.before).kept
+shape_of-out c = wrote_length c.put_signed.ensures ∙ (come3 c.before.before.before.before.before.before.before).kept
 
 pub returns : goal.returns
 returns c =
-    let e4 = c.before.before in
-    let e3 = e4.before.before.before.before in
-    let e2 = e3.before.before.before.before in
-    let e1 = e2.before.before.before.before in
-    let s = e1.before.before.before in
-    (then e1.put_byte-head.ensures
-    (then e2.put_count-numbered.ensures
-    (then (read_signed s.args.first s.ranges.first e3.put_signed-one.ensures)
-    (read_signed s.args.second s.ranges.second e4.put_signed.ensures))))
+    (then c.put_byte-head.ensures
+    (then c.put_count-numbered.ensures
+    (then (read_signed c.args.first c.ranges.first c.put_signed-one.ensures)
+    (read_signed c.args.second c.ranges.second c.put_signed.ensures))))

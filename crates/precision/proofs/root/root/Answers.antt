@@ -43,8 +43,8 @@ module _ (c : Else-bit-eq0) where
   square_most : next * next ≤ 274877906944
   square_most = let most : next ≤ 524288 = omega (arith, whole, l.loop-bit.invariant.3) in mul_le most most
 
-  product_most : next * next * l.before.args.c ≤ 16624615811973120
-  product_most = mul_le square_most l.before.requires.0
+  product_most : next * next * l.args.c ≤ 16624615811973120
+  product_most = mul_le square_most l.requires.0
 
 pub overflow_sub-bit : goal.overflow_sub-bit
 overflow_sub-bit c = left c
@@ -67,7 +67,7 @@ loop-bit-smaller-then-next-c c = omega (arith, left c.before)
 pub loop-bit-preserved-then-next-c : goal.loop-bit-preserved-then-next-c
 loop-bit-preserved-then-next-c c =
     let b = c.before in let i = (l b).loop-bit.invariant in
-    (omega arith, c.if-next-c.true, subst (λ (x : ℕ). (l b).before.args.s < x * x * (l b).before.args.c) (sym (whole b)) i.2, omega (arith, whole b, i.3))
+    (omega arith, c.if-next-c.true, subst (λ (x : ℕ). (l b).args.s < x * x * (l b).args.c) (sym (whole b)) i.2, omega (arith, whole b, i.3))
 
 pub loop-bit-smaller : goal.loop-bit-smaller
 loop-bit-smaller c = omega (arith, left c.before)
@@ -75,12 +75,12 @@ loop-bit-smaller c = omega (arith, left c.before)
 pub loop-bit-preserved : goal.loop-bit-preserved
 loop-bit-preserved c =
     let b = c.before in let i = (l b).loop-bit.invariant in
-    (omega arith, i.1, subst (λ (x : ℕ). (l b).before.args.s < x * x * (l b).before.args.c) (next_is b) c.if-next-c.false, omega (arith, whole b, next_is b, i.3))
+    (omega arith, i.1, subst (λ (x : ℕ). (l b).args.s < x * x * (l b).args.c) (next_is b) c.if-next-c.false, omega (arith, whole b, next_is b, i.3))
 
 pub returns : goal.returns
 returns c =
-    let l = c.before in let a = l.before.args in let i = l.loop-bit.invariant in
-    let one : 2 ^ l.loop-bit.bit ≡ 1 = ap (λ (b : ℕ). 2 ^ b) c.if-bit-eq0.true in record {
-      value = root_only a.c (omega (arith, l.before.requires.1)) a.s l.loop-bit.e i.1 (subst (λ (b : ℕ). a.s < (l.loop-bit.e + b) * (l.loop-bit.e + b) * a.c) one i.2);
+    let a = c.args in let i = c.loop-bit.invariant in
+    let one : 2 ^ c.loop-bit.bit ≡ 1 = ap (λ (b : ℕ). 2 ^ b) c.if-bit-eq0.true in record {
+      value = root_only a.c (omega (arith, c.requires.1)) a.s c.loop-bit.e i.1 (subst (λ (b : ℕ). a.s < (c.loop-bit.e + b) * (c.loop-bit.e + b) * a.c) one i.2);
       upper_bound = omega (arith, one, i.3);
     }

@@ -24,26 +24,26 @@ module _ (c : After-y-1) where
   l = c.before.before.before
 
   abbrev us : List ℤ
-  us = l.before.args.u.now
+  us = l.args.u.now
 
   abbrev qs : List ℤ
-  qs = l.before.args.q.now
+  qs = l.args.q.now
 
   abbrev i : ℕ
   i = l.loop-i.i
 
   u_is : to_z w64 (of_z w64 (at us i)) ≡ at us i
-  u_is = read_at (at us i) c.before.x-1.given
+  u_is = read_at (at us i) c.x-1.given
 
   q_is : to_z w64 (of_z w64 (at qs i)) ≡ at qs i
   q_is = read_at (at qs i) c.y-1.given
 
   u_most : nat_abs (at us i) ≤ 60000
-  u_most = l.before.requires.small.0 i (omega arith)
+  u_most = l.requires.small.0 i (omega arith)
 
 pub weighted_square-s-requires : goal.weighted_square-s-requires
 weighted_square-s-requires c =
-    (omega (arith, ap nat_abs (q_is c), (l c).before.requires.small.1 (i c) (omega arith)), omega (arith, ap nat_abs (u_is c), u_most c))
+    (omega (arith, ap nat_abs (q_is c), (l c).requires.small.1 (i c) (omega arith)), omega (arith, ap nat_abs (u_is c), u_most c))
 
 -- the sum so far, with this direction's part
 more : (c : After-weighted_square-s) → let b = c.before in pos ((l b).loop-i.s + c.weighted_square-s.result) ≡ S (i b + 1) (at (qs b)) (at (us b))
@@ -55,12 +55,12 @@ more c =
 pub overflow_add-s : goal.overflow_add-s
 overflow_add-s c =
     let b = c.before in
-    omega (arith, ap nat_abs (more c), S_most (i b + 1) (at (qs b)) (at (us b)) (omega (arith, (l b).before.requires.u_len_bound.0)) (λ h k. (l b).before.requires.small.0 h (omega (arith, k))))
+    omega (arith, ap nat_abs (more c), S_most (i b + 1) (at (qs b)) (at (us b)) (omega (arith, (l b).requires.u_len_bound.0)) (λ h k. (l b).requires.small.0 h (omega (arith, k))))
 
 pub loop-i-preserved : goal.loop-i-preserved
 loop-i-preserved c = (omega arith, more c)
 
 pub returns : goal.returns
 returns c =
-    let l = c.before in let a = l.before.args in let e : l.loop-i.i ≡ length a.u.now = omega (arith, l.loop-i.invariant.0) in
-    l.loop-i.invariant.1 ∙ ap (λ (m : ℕ). S m (at a.q.now) (at a.u.now)) e
+    let a = c.args in let e : c.loop-i.i ≡ length a.u.now = omega (arith, c.loop-i.invariant.0) in
+    c.loop-i.invariant.1 ∙ ap (λ (m : ℕ). S m (at a.q.now) (at a.u.now)) e

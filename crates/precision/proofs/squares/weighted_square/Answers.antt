@@ -10,11 +10,11 @@ use Rattle.precision.proofs.squares.weighted_square.Goals.{After-magnitude, Afte
 
 -- the size of u, and its square
 module _ (c : After-magnitude-size) where
-  size_is : c.magnitude-size.result ≡ nat_abs c.before.args.u
-  size_is = c.magnitude-size.ensures ∙ ap nat_abs (read c.before.ranges.u)
+  size_is : c.magnitude-size.result ≡ nat_abs c.args.u
+  size_is = c.magnitude-size.ensures ∙ ap nat_abs (read c.ranges.u)
 
   square_most : c.magnitude-size.result * c.magnitude-size.result ≤ 3600000000
-  square_most = let most : c.magnitude-size.result ≤ 60000 = omega (arith, size_is, c.before.requires.1) in mul_le most most
+  square_most = let most : c.magnitude-size.result ≤ 60000 = omega (arith, size_is, c.requires.1) in mul_le most most
 
 pub overflow_mul-result : goal.overflow_mul-result
 overflow_mul-result c = omega (arith, square_most c)
@@ -22,11 +22,11 @@ overflow_mul-result c = omega (arith, square_most c)
 pub overflow_mul-result-2 : goal.overflow_mul-result-2
 overflow_mul-result-2 c = omega (arith, square_most c)
 
-divisor_is : (c : After-magnitude) → c.magnitude.result ≡ nat_abs c.before.before.args.q
-divisor_is c = c.magnitude.ensures ∙ ap nat_abs (read c.before.before.ranges.q)
+divisor_is : (c : After-magnitude) → c.magnitude.result ≡ nat_abs c.args.q
+divisor_is c = c.magnitude.ensures ∙ ap nat_abs (read c.ranges.q)
 
 pub nonzero_div-result : goal.nonzero_div-result
-nonzero_div-result c = omega (arith, divisor_is c, c.before.before.requires.0)
+nonzero_div-result c = omega (arith, divisor_is c, c.requires.0)
 
 pub returns : goal.returns
 returns c = ap₂ (λ (x y : ℕ). 2520 * (x * x) / y) (size_is c.before) (divisor_is c)

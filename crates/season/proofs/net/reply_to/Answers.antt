@@ -26,8 +26,8 @@ slice_bounds-adjust_own-end-6 c = sym (length-take-le _ _ (omega arith))
 
 pub returns : goal.returns
 returns c =
-    let a = c.before.before.before.before.before.before in let s = a.before.before.before.before.before.before.before in let p = s.requires in
-    sym (answered s.args.directions.now s.args.q.now s.args.a.now s.args.w.now
+    let p = c.requires in
+    sym (answered c.args.directions.now c.args.q.now c.args.a.now c.args.w.now
     (record {
       corrections = length-take-le _ _ (omega (arith, p.0));
       printed = length-take-le _ _ (omega (arith, p.0));
@@ -36,4 +36,4 @@ returns c =
       remainders = length-take-le _ _ (omega (arith, p.1));
       misses = length-take-le _ _ (omega (arith, p.1));
     })
-    a.adjust_own.ensures)
+    c.adjust_own.ensures)

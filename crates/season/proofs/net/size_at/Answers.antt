@@ -9,10 +9,10 @@ use Rattle.season.proofs.net.size_at.Goals as goal
 
 pub returns-then-letters-j : goal.returns-then-letters-j
 returns-then-letters-j c =
-    let a = c.before.before.before.args in sym (size_not a.letter a.letters.now a.w.now a.j c.if-letters-j.true)
+    let a = c.args in sym (size_not a.letter a.letters.now a.w.now a.j c.if-letters-j.true)
 
 pub returns : goal.returns
 returns c =
-    let a = c.before.before.before.before.before.args in
-    c.magnitude.ensures ∙ ap nat_abs (read_at (get_or a.w.now a.j (pos 0)) c.before.x-1.given)
-    ∙ sym (size_is a.letter a.letters.now a.w.now a.j c.before.before.if-letters-j.false)
+    let a = c.args in
+    c.magnitude.ensures ∙ ap nat_abs (read_at (get_or a.w.now a.j (pos 0)) c.x-1.given)
+    ∙ sym (size_is a.letter a.letters.now a.w.now a.j c.if-letters-j.false)

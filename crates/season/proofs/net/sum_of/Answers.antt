@@ -15,10 +15,10 @@ loop-j-init c = (omega arith, sym (sum_none _))
 -- ---- in a turn: the sum so far, with this condition's size
 module _ (c : After-size_at-sum) where
   abbrev l : At-loop-j
-  l = c.before.before
+  l = (record { before = c.before.before.before; type_inv = record { letters = c.shared_slice_known-1.given } })
 
   abbrev s : Start
-  s = l.before.before
+  s = l.before.before.before
 
   abbrev size : ℕ → ℕ
   size = size_at s.args.letter s.args.letters.now s.args.w.now
@@ -39,5 +39,5 @@ loop-j-preserved c = (omega arith, more c)
 
 pub returns : goal.returns
 returns c =
-    let l = c.before in let a = l.before.before.args in let e : l.loop-j.j ≡ length a.w.now = omega (arith, l.loop-j.invariant.0) in
-    l.loop-j.invariant.1 ∙ ap (λ (n : ℕ). sum_to n (size_at a.letter a.letters.now a.w.now)) e
+    let a = c.args in let e : c.loop-j.j ≡ length a.w.now = omega (arith, c.loop-j.invariant.0) in
+    c.loop-j.invariant.1 ∙ ap (λ (n : ℕ). sum_to n (size_at a.letter a.letters.now a.w.now)) e

@@ -19,7 +19,7 @@ use Rattle.season.proofs.net.table_share.Goals.{After-reply_to-reply, In_default
 -- ---- the rule's reply to the table
 module _ (c : After-reply_to-reply) where
   abbrev start : Start
-  start = c.before.before
+  start = c.before.before.before
 
   abbrev rule : Reply
   rule =
@@ -31,21 +31,21 @@ module _ (c : After-reply_to-reply) where
 
 pub under-requires : goal.under-requires
 under-requires c =
-    let r = c.before.before in let t = r.before.before in let a = (start t).args in
-    omega (arith, few_refused (few_adjust a.directions.now a.q.now a.a.now a.w.now _) (sym t.reply_to-reply.ensures ∙ r.reply-1.given.1), c.number.ensures)
+    let t : After-reply_to-reply = record { before = c.before.before.before; type_inv = record { letters = c.shared_slice_known-1.given } } in let a = (start t).args in
+    omega (arith, few_refused (few_adjust a.directions.now a.q.now a.a.now a.w.now _) (sym t.reply_to-reply.ensures ∙ c.in-Refused.is), c.number.ensures)
 
 pub returns-in-Refused : goal.returns-in-Refused
 returns-in-Refused c =
-    let n = c.before in let r = n.before.before in let t = r.before.before in
-    refused_share (five t) (sym t.reply_to-reply.ensures ∙ r.reply-1.given.1) n.number.ensures c.under.ensures
+    let t : After-reply_to-reply = record { before = c.before.before.before.before; type_inv = record { letters = c.shared_slice_known-1.given } } in
+    refused_share (five t) (sym t.reply_to-reply.ensures ∙ c.in-Refused.is) c.number.ensures c.under.ensures
 
 -- ---- an accepted table
 module _ (c : In_default) where
   abbrev replied : After-reply_to-reply
-  replied = c.before.before
+  replied = (record { before = c.before.before; type_inv = record { letters = c.shared_slice_known-1.given } })
 
   is_accepted : rule replied ≡ Accepted
-  is_accepted = sym replied.reply_to-reply.ensures ∙ c.enum_told-1.given.1
+  is_accepted = sym replied.reply_to-reply.ensures ∙ c.in_default.is
 
 pub accepted-requires : goal.accepted-requires
 accepted-requires c =
@@ -56,4 +56,4 @@ accepted-requires c =
     }
 
 pub returns : goal.returns
-returns c = accepted_share (five (replied c.before)) (is_accepted c.before) c.accepted.ensures
+returns c = accepted_share (five (replied (record { before = c.before.before; type_inv = record { letters = c.shared_slice_known-1.given } }))) (is_accepted (record { before = c.before.before; type_inv = record { letters = c.shared_slice_known-1.given } })) c.accepted.ensures

@@ -11,13 +11,12 @@ use Rattle.season.proofs.stream.close.Goals as goal
 
 pub count-fits-requires : goal.count-fits-requires
 count-fits-requires c =
-    let s = c.before.before.before.before in
-    (subst IsShare (sym c.before.open_share_lem.ensures) (open_is s.args.held.now s.args.bytes), s.requires.2)
+    (subst IsShare (sym c.before.open_share_lem.ensures) (open_is c.args.held.now c.args.bytes), c.requires.2)
 
 pub returns : goal.returns
 unfolding past_after
 returns c =
-    let e = c.before.before.before in let totals = e.before.before.before.before.before.args.totals.now in record {
-      place = ap (place_at 0 0) (c.past_of.ensures ∙ ap (λ (b : Bool). cond b 0 1) e.count-fits.ensures.fits);
-      list = e.count-fits.ensures.list ∙ ap (λ (x : List ℕ). counted_in x totals) e.before.before.open_share_lem.ensures;
+    let totals = c.args.totals.now in record {
+      place = ap (place_at 0 0) (c.past_of.ensures ∙ ap (λ (b : Bool). cond b 0 1) c.count-fits.ensures.fits);
+      list = c.count-fits.ensures.list ∙ ap (λ (x : List ℕ). counted_in x totals) c.before.before.open_share_lem.ensures;
     }

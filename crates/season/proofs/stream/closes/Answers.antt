@@ -6,8 +6,8 @@ use Rattle.season.proofs.stream.closes.Goals as goal
 
 pub returns-then-byte-ne-LF : goal.returns-then-byte-ne-LF
 unfolding closes
-returns-then-byte-ne-LF c = rw (ne_eqb c.before.args.byte 10 c.if-byte-ne-LF.true)
+returns-then-byte-ne-LF c = rw (ne_eqb c.args.byte 10 c.if-byte-ne-LF.true)
 
 pub returns : goal.returns
 unfolding closes
-returns c = rw (eq-eqb c.before.args.byte 10 (omega arith))
+returns c = rw (eq-eqb c.args.byte 10 (omega arith))

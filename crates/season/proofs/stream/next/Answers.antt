@@ -12,29 +12,28 @@ use Rattle.season.proofs.stream.next.Goals.{In_default, Start}
 -- ---- the state is one that a stream can have
 module _ (e : In_default) where
   abbrev start : Start
-  start = e.before.before.before.before.before.before.before.before.before.before
+  start = e.before.before.before.before.before.before.before
 
   accepted : state_reply start.args.held.now start.args.totals.now start.args.place.now ≡ Accepted
-  accepted = sym e.before.before.check-checked.ensures ∙ e.enum_told-1.given.1
+  accepted = sym e.check-checked.ensures ∙ e.in_default.is
 
   passed : Passed start.args.held.now start.args.totals.now start.args.place.now
   passed = passed_state start.args.held.now start.args.totals.now start.args.place.now accepted
 
 pub returns-in-Refused : goal.returns-in-Refused
 returns-in-Refused c =
-    let a = c.before.before.before.before.before.before.before.before.before.before.before.args in let held = a.held-1.now in let totals = a.totals-1.now in let place = a.place-1.now in let why = c.before.checked-1.given.0.0 in
-    refused_feeds held totals place a.bytes.now why (sym c.before.before.before.check-checked.ensures ∙ c.before.checked-1.given.1)
+    let a = c.args in let held = a.held.now in let totals = a.totals.now in let place = a.place.now in let why = c.in-Refused.why in
+    refused_feeds held totals place a.bytes.now why (sym c.check-checked.ensures ∙ c.in-Refused.is)
 
 pub place_of-stands-requires : goal.place_of-stands-requires
-place_of-stands-requires c = (passed c.before).place_long
+place_of-stands-requires c = (passed c).place_long
 
 pub feed-stood-requires : goal.feed-stood-requires
-feed-stood-requires c = let p = passed c.before.before.before.before in (p.held_long, p.roomy, subst Stands (sym c.before.before.place_of-stands.ensures) p.stands)
+feed-stood-requires c = let p = passed (record { before = c.before.before.before.before; type_inv = record { bytes = c.shared_slice_known-1.given } }) in (p.held_long, p.roomy, subst Stands (sym c.place_of-stands.ensures) p.stands)
 
 pub store-requires : goal.store-requires
-store-requires c = (passed c.before.before.before.before.before.before.before.before.before.before).place_long
+store-requires c = (passed (record { before = c.before.before.before.before.before.before.before.before.before.before; type_inv = record { bytes = c.shared_slice_known-1.given } })).place_long
 
 pub returns : goal.returns
 returns c =
-    let a = c.before.before.before.before.before.before.before.before.before.before.before.before.before.before.before.before.before.before.before.before.before.before.before.args in let held = a.held-1.now in let totals = a.totals-1.now in let place = a.place-1.now in let f = c.before.before.before.before.before.before.before.before in let p = c.before.before.before.before.before.before.before.before.before.before.before in
-    feeds held totals place a.bytes.now (accepted c.before.before.before.before.before.before.before.before.before.before.before.before.before) (f.feed-stood.ensures ∙ ap (λ (x : Place). fed a.bytes.now (stream held totals x)) p.place_of-stands.ensures) c.before.before.store.ensures
+    let a = c.args in let held = a.held.now in let totals = a.totals.now in let place = a.place.now in feeds held totals place a.bytes.now (accepted (record { before = c.before.before.before.before.before.before.before.before.before.before.before.before.before; type_inv = record { bytes = c.shared_slice_known-1.given } })) (c.feed-stood.ensures ∙ ap (λ (x : Place). fed a.bytes.now (stream held totals x)) c.place_of-stands.ensures) c.store.ensures

@@ -10,11 +10,11 @@ use Rattle.season.proofs.stream.open_share.Goals as goal
 
 pub returns-then-bytes : goal.returns-then-bytes
 unfolding open_share
-returns-then-bytes c = rw (lt-ltb 65536 c.before.before.before.args.bytes (omega arith)) c.long.ensures
+returns-then-bytes c = rw (lt-ltb 65536 c.args.bytes (omega arith)) c.long.ensures
 
 pub slice_bounds-share-end : goal.slice_bounds-share-end
 slice_bounds-share-end c = let s = c.before.before.before in sym (length-take-le (s.args.bytes - 1) s.args.held.now (omega (arith, s.requires.0)))
 
 pub returns : goal.returns
 unfolding open_share
-returns c = rw (le-ltb 65536 c.before.before.before.before.args.bytes (omega arith)) c.share.ensures
+returns c = rw (le-ltb 65536 c.args.bytes (omega arith)) c.share.ensures

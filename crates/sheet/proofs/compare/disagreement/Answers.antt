@@ -41,16 +41,16 @@ module _ (c : After-take_correlates-sized) where
   t = table start
 
   m_is : start.args.m ≡ t.m
-  m_is = c.before.before.before.if-m-q.false
+  m_is = c.if-m-q.false
 
   n_is : start.args.n ≡ t.n
-  n_is = c.before.before.if-n-w.false
+  n_is = c.if-n-w.false
 
   abbrev sized : ℕ
   sized = c.take_correlates-sized.result
 
   abbrev k : List ℤ
-  k = c.take_correlates-sized.new.1.1.1.0
+  k = c.take_correlates-sized.new.k
 
   module _ (listing : List ℕ) (f : WellFormed listing start.args.m start.args.n start.args.x.now) where
     directions_same : directions_in listing ≡ t.m
@@ -74,7 +74,7 @@ module _ (c : After-take_correlates-sized) where
       (ltb-false 100000000 _ (first_before start.args.n (beyond 100000000 (λ i. number_at start.args.x.now (start.args.m + i) 1)) j (omega (arith, h, l, c.take_correlates-sized.ensures.value))))
 
   k_long : length k ≡ 24
-  k_long = c.take_correlates-sized.auto.1.1.1.0
+  k_long = c.take_correlates-sized.auto.k
 
 pub returns-then-sized-n : goal.returns-then-sized-n
 returns-then-sized-n c = λ listing f.
@@ -83,12 +83,12 @@ returns-then-sized-n c = λ listing f.
 
 pub first_direction-direction-requires : goal.first_direction-direction-requires
 first_direction-direction-requires c =
-    let e = c.before.before.before.before in let b = e.before.before in let p = (start b).requires in
+    let b = c.before.before.before.before.before.before in let p = (start b).requires in
     record {
       sound = p.0;
       directions_len = p.1.0;
       x_len = (p.1.1, refl, refl, refl);
-      w_in_bounds = (omega (arith, k_long b, p.0.n_most), k_small b (omega (arith, e.if-sized-n.false, n_is b)));
+      w_in_bounds = (omega (arith, k_long b, p.0.n_most), k_small b (omega (arith, c.if-sized-n.false, n_is b)));
     }
 
 -- ---- no correlate is too large, and the V lines have been compared
@@ -97,7 +97,7 @@ module _ (d : After-first_direction-direction) where
   taken = d.before.before.before.before.before.before.before
 
   all_small : (t taken).n ≤ sized taken
-  all_small = omega (arith, d.before.before.before.before.before.if-sized-n.left, n_is taken)
+  all_small = omega (arith, d.if-sized-n.left, n_is taken)
 
   abbrev v_first : ℕ
   v_first = d.first_direction-direction.result
@@ -107,16 +107,16 @@ module _ (d : After-first_direction-direction) where
   v_differs_at listing f = d.first_direction-direction.ensures.line listing (by_net taken listing f) (k_is taken listing f all_small)
 
   abbrev v : List ℤ
-  v = d.first_direction-direction.last.1.1.1.1.1.1.0
+  v = d.first_direction-direction.new.v
 
   abbrev u : List ℤ
-  u = d.first_direction-direction.last.1.1.1.1.1.1.1.0
+  u = d.first_direction-direction.new.u
 
   v_long : length v ≡ 64
-  v_long = d.first_direction-direction.kept.1.1.1.1.1.1.0
+  v_long = d.first_direction-direction.auto.v
 
   u_long : length u ≡ 64
-  u_long = d.first_direction-direction.kept.1.1.1.1.1.1.1.0
+  u_long = d.first_direction-direction.auto.u
 
   -- where they all agree
   module _ (l : (t taken).m ≤ v_first) where
@@ -141,8 +141,8 @@ slice_bounds-first_condition-end-4 c = sym (length-take-le _ _ (omega arith))
 
 pub first_condition-condition-requires : goal.first_condition-condition-requires
 first_condition-condition-requires c =
-    let e = c.before.before.before.before in let d = e.before.before.before.before in let b = taken d in let p = (start b).requires in
-    let all : (t b).m ≤ v_first d = omega (arith, e.if-direction-m.false, m_is b) in record {
+    let d = c.before.before.before.before.before.before.before.before in let b = taken d in let p = (start b).requires in
+    let all : (t b).m ≤ v_first d = omega (arith, c.if-direction-m.false, m_is b) in record {
       sound = p.0;
       x_len = p.1.1;
       q_in_bounds = (omega (arith, v_long d, p.0.m_most), v_small d all);
@@ -156,7 +156,7 @@ module _ (c : After-first_condition-condition) where
   compared = c.before.before.before.before.before.before.before.before.before
 
   all_alike : (t (taken compared)).m ≤ v_first compared
-  all_alike = omega (arith, c.before.before.before.before.before.if-direction-m.false, m_is (taken compared))
+  all_alike = omega (arith, c.if-direction-m.false, m_is (taken compared))
 
   abbrev k_first : ℕ
   k_first = c.first_condition-condition.result

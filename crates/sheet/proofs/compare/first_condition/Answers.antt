@@ -36,28 +36,28 @@ module _ (c : After-print_remainders) where
   close = left.remainders-close.result
 
   abbrev r : List ℤ
-  r = left.remainders-close.last.1.1.1.1.0
+  r = left.remainders-close.new.r
 
   abbrev misses : List ℤ
-  misses = c.print_remainders.new.1.1.1.1.0
+  misses = c.print_remainders.new.printed
 
   few : close ≤ t.n
   few = first_found _ left.remainders-close.ensures.value
 
   r_long : length r ≡ length start.args.r.now
-  r_long = left.remainders-close.kept.1.1.1.1.0
+  r_long = left.remainders-close.auto.r
 
   misses_long : length misses ≡ length start.args.misses.now
-  misses_long = c.print_remainders.auto.1.1.1.1.0
+  misses_long = c.print_remainders.auto.printed
 
 pub first_unlike-requires : goal.first_unlike-requires
 first_unlike-requires c =
-    let p = c.before.before.before in let s = start p in let l = s.requires.x_len in
+    let p = c.before in let s = start p in let l = s.requires.1 in
     (l.0, omega (arith, few p, s.requires.sound.m_most, s.requires.sound.n_most), omega (arith, few p, r_long p, l.1.1.1.0), omega (arith, few p, misses_long p, l.1.1.1.1))
 
 pub returns : goal.returns
 returns c = λ listing f k.
-    let p = c.before.before.before.before in
+    let p = c.before.before in
     k_differs f (t p) refl refl (r p) (misses p) (close p) c.first_unlike.result
     (first_open (t p) (own_k listing) (v p) k.v_is (close p) (left p).remainders-close.ensures.value) (few p)
     (λ j l. (left p).remainders-close.ensures.by_index j l ∙ closing_is (t p) (own_k listing) (v p) k.v_is j)

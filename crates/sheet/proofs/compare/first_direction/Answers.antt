@@ -20,7 +20,7 @@ use Rattle.sheet.proofs.compare.first_direction.Goals as goal
 use Rattle.sheet.proofs.compare.first_direction.Goals.{After-adjust_directions, After-corrections, After-print_corrections-within, Start}
 
 pub corrections-requires : goal.corrections-requires
-corrections-requires c = let s = c.before in let p = s.requires in record {
+corrections-requires c = let p = c.requires in record {
       sound = p.0;
       w_in_bounds = p.1.1.1;
       q_in_bounds = omega (arith, p.0.m_most, p.1.1.0.1);
@@ -29,7 +29,7 @@ corrections-requires c = let s = c.before in let p = s.requires in record {
 -- what has been formed of the table
 module _ (c : After-print_corrections-within) where
   abbrev corrected : After-corrections
-  corrected = c.before.before.before.before
+  corrected = c.before.before.before
 
   abbrev start : Start
   start = corrected.before.before
@@ -38,10 +38,10 @@ module _ (c : After-print_corrections-within) where
   t = table_of start.args.q.now start.args.a.now start.args.w.now
 
   abbrev v : List ℤ
-  v = corrected.corrections.last.1.1.1.1.0
+  v = corrected.corrections.new.v
 
   abbrev u : List ℤ
-  u = c.print_corrections-within.new.1.1.0
+  u = c.print_corrections-within.new.u
 
   abbrev within : ℕ
   within = c.print_corrections-within.result
@@ -50,10 +50,10 @@ module _ (c : After-print_corrections-within) where
   few = first_found _ c.print_corrections-within.ensures.value
 
   u_long : length u ≡ length start.args.u.now
-  u_long = c.print_corrections-within.auto.1.1.0
+  u_long = c.print_corrections-within.auto.u
 
   adjusted_room : within ≤ length start.args.adjusted.now
-  adjusted_room = omega (arith, few, start.requires.sound.m_most, start.requires.directions_len.1.0.3)
+  adjusted_room = omega (arith, few, start.requires.sound.m_most, start.requires.x_len.3)
 
   -- of the correlates k of the list, and of any that agree with them
   module _ (k : ℕ → ℤ) (same : (j : ℕ) → j < t.n → at start.args.k.now j ≡ k j) where
@@ -73,43 +73,43 @@ module _ (c : After-print_corrections-within) where
   u_small i l = let k = at start.args.k.now in rw (u_is k (λ j h. refl) i l) (u_most k (λ j h. refl) i l)
 
 pub slice_bounds-adjust_directions-end : goal.slice_bounds-adjust_directions-end
-slice_bounds-adjust_directions-end c = adjusted_room c.before.before
+slice_bounds-adjust_directions-end c = adjusted_room c.before
 
 pub slice_bounds-adjust_directions-end-2 : goal.slice_bounds-adjust_directions-end-2
-slice_bounds-adjust_directions-end-2 c = sym (length-take-le _ _ (adjusted_room c.before.before.before))
+slice_bounds-adjust_directions-end-2 c = sym (length-take-le _ _ (adjusted_room c.before.before))
 
 pub adjust_directions-requires : goal.adjust_directions-requires
 adjust_directions-requires c =
-    let p = c.before.before.before in let s = start p in let e = length-take-le (within p) s.args.adjusted.now (adjusted_room p) in record {
-      adjusted_in_bounds = (omega (arith, e, few p, s.requires.directions_len.0.0), omega (arith, e, few p, u_long p, s.requires.sound.m_most, s.requires.directions_len.1.0.2));
-      small = ((λ i l. s.requires.directions_len.0.1 i (omega (arith, e, few p))), λ i l. u_small p i (omega (arith, e)));
+    let p = c.before.before in let s = start p in let e = length-take-le (within p) s.args.adjusted.now (adjusted_room p) in record {
+      adjusted_in_bounds = (omega (arith, e, few p, s.requires.directions_len.0), omega (arith, e, few p, u_long p, s.requires.sound.m_most, s.requires.x_len.2));
+      small = ((λ i l. s.requires.directions_len.1 i (omega (arith, e, few p))), λ i l. u_small p i (omega (arith, e)));
     }
 
 -- the adjusted directions, and what stands behind them
 module _ (c : After-adjust_directions) where
   abbrev printed : After-print_corrections-within
-  printed = c.before.before.before.before
+  printed = c.before.before.before
 
   abbrev turned : List ℤ
-  turned = c.adjust_directions.new.1.1.0
+  turned = c.adjust_directions.new.adjusted
 
   abbrev rest : List ℤ
   rest = drop (within printed) (start printed).args.adjusted.now
 
   turned_long : length turned ≡ within printed
-  turned_long = c.adjust_directions.auto.1.1.0 ∙ length-take-le (within printed) (start printed).args.adjusted.now (adjusted_room printed)
+  turned_long = c.adjust_directions.auto.adjusted ∙ length-take-le (within printed) (start printed).args.adjusted.now (adjusted_room printed)
 
   room : within printed ≤ length (turned ++ rest)
   room = omega (arith, length-append turned rest, turned_long)
 
 pub first_unlike-requires : goal.first_unlike-requires
 first_unlike-requires c =
-    let a = c.before.before.before in let p = printed a in let s = start p in
-    (s.requires.directions_len.1.0.0, omega (arith, few p, s.requires.sound.m_most), omega (arith, few p, u_long p, s.requires.sound.m_most, s.requires.directions_len.1.0.2), room a)
+    let a = c.before in let p = printed a in let s = start p in
+    (s.requires.x_len.0, omega (arith, few p, s.requires.sound.m_most), omega (arith, few p, u_long p, s.requires.sound.m_most, s.requires.x_len.2), room a)
 
 pub returns : goal.returns
 returns c =
-    let a = c.before.before.before.before in let p = printed a in let s = start p in let direction = at s.args.directions.now in record {
+    let a = c.before.before in let p = printed a in let s = start p in let direction = at s.args.directions.now in record {
       line = (λ listing f same. v_differs f (t p) refl refl direction (u p) (turned a ++ rest a) (within p) c.first_unlike.result (past p (own_k listing) same) (few p)
           (u_is p (own_k listing) same)
           (λ i l. get_or-append (turned a) (rest a) (pos 0) i (omega (arith, l, turned_long a))

@@ -34,23 +34,23 @@ both_alike fa fb fc fd e f = rw (bits_same fa fb e, bits_same fc fd f)
 
 pub returns-then-first-one : goal.returns-then-first-one
 returns-then-first-one c =
-    let l = c.before.before.before.before.before.before in let s = l.before in
-    sym (first_at s.args.count (pair s) l.loop-i.i (omega arith) l.loop-i.invariant.1 (first_other _ _ _ c.if-first-one.true))
+    let s = c.before.before.before.before.before.before.before in
+    sym (first_at s.args.count (pair s) c.loop-i.i (omega arith) c.loop-i.invariant.1 (first_other _ _ _ c.if-first-one.true))
 
 pub returns-then-second-other : goal.returns-then-second-other
 returns-then-second-other c =
-    let l = c.before.before.before.before.before.before.before in let s = l.before in
-    sym (first_at s.args.count (pair s) l.loop-i.i (omega arith) l.loop-i.invariant.1 (second_other _ _ _ _ c.if-second-other.true))
+    let s = c.before.before.before.before.before.before.before.before in
+    sym (first_at s.args.count (pair s) c.loop-i.i (omega arith) c.loop-i.invariant.1 (second_other _ _ _ _ c.if-second-other.true))
 
 pub loop-i-preserved : goal.loop-i-preserved
 loop-i-preserved c =
-    let e = c.before in let r = e.before in let l = r.before.before.before.before.before in let s = l.before in (
+    let s = c.before.before.before.before.before.before.before.before in (
       omega arith,
-      failed_more (pair s) l.loop-i.i l.loop-i.invariant.1
-          (both_alike (fits_of_mag _ r.before.before.before.first-1.given) (fits_of_mag _ r.before.one-1.given) (fits_of_mag _ r.before.before.second-1.given) (fits_of_mag _ r.other-1.given) e.if-first-one.false c.if-second-other.false),
+      failed_more (pair s) c.loop-i.i c.loop-i.invariant.1
+          (both_alike (fits_of_mag _ c.first-1.given) (fits_of_mag _ c.one-1.given) (fits_of_mag _ c.second-1.given) (fits_of_mag _ c.other-1.given) c.if-first-one.false c.if-second-other.false),
     )
 
 pub returns : goal.returns
 returns c =
-    let l = c.before in let s = l.before in let e : l.loop-i.i ≡ s.args.count = omega arith in
-    e ∙ sym (first_none s.args.count (pair s) (subst (Failed (pair s)) e l.loop-i.invariant.1))
+    let s = c.before.before in let e : c.loop-i.i ≡ s.args.count = omega arith in
+    e ∙ sym (first_none s.args.count (pair s) (subst (Failed (pair s)) e c.loop-i.invariant.1))

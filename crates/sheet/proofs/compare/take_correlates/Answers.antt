@@ -49,7 +49,7 @@ module _ (c : After-magnitude) where
   below = omega arith
 
   read : to_z w64 (of_z w64 (correlate x m j)) ≡ correlate x m j
-  read = read_at (correlate x m j) c.before.y-1.given
+  read = read_at (correlate x m j) c.y-1.given
 
   size_is : c.magnitude.result ≡ nat_abs (correlate x m j)
   size_is = c.magnitude.ensures ∙ ap nat_abs read
@@ -72,8 +72,8 @@ loop-j-preserved c =
 
 pub returns : goal.returns
 returns c =
-    let l = c.before in let s = l.before in let test = large s.args.x.now s.args.m in let e : l.loop-j.j ≡ s.args.n = omega arith in
+    let test = large c.args.x.now c.args.m in let e : c.loop-j.j ≡ c.args.n = omega arith in
     record {
-      value = e ∙ sym (first_none s.args.n test (subst (Failed test) e l.loop-j.invariant.1));
-      by_index = λ h k. l.loop-j.invariant.2.done h zero-le k;
+      value = e ∙ sym (first_none c.args.n test (subst (Failed test) e c.loop-j.invariant.1));
+      by_index = λ h k. c.loop-j.invariant.2.done h zero-le k;
     }

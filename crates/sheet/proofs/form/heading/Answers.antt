@@ -10,17 +10,14 @@ use Rattle.sheet.proofs.form.heading.Goals as goal
 
 pub read-requires : goal.read-requires
 read-requires c =
-    let e = c.before in let s = e.before.before.before.before in
-    (omega arith, omega (arith, begins_length adj_head s.args.listing.now (sym e.before.begins.ensures ∙ e.if-begins.true)), omega arith, omega (arith, s.requires))
+    (omega arith, omega (arith, begins_length adj_head c.args.listing.now (sym c.begins.ensures ∙ c.if-begins.true)), omega arith, omega (arith, c.requires))
 
 pub returns-then-begins : goal.returns-then-begins
 unfolding row_end
 returns-then-begins c =
-    let r = c.before in let e = r.before.before in let s = e.before.before.before.before in
-    rw (heading_row s.args.listing.now (sym e.before.begins.ensures ∙ e.if-begins.true)) (r.read.ensures.end, r.read.ensures.values.0)
+    rw (heading_row c.args.listing.now (sym c.begins.ensures ∙ c.if-begins.true)) (c.read.ensures.end, c.read.ensures.values)
 
 pub returns : goal.returns
 unfolding end_of row_values
 returns c =
-    let s = c.before.before.before.before in
-    rw (no_heading s.args.listing.now (sym c.before.begins.ensures ∙ c.if-begins.false)) (refl, refl)
+    rw (no_heading c.args.listing.now (sym c.begins.ensures ∙ c.if-begins.false)) (refl, refl)

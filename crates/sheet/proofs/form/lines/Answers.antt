@@ -19,33 +19,33 @@ use Rattle.sheet.proofs.form.lines.Goals as goal
 use Rattle.sheet.proofs.form.lines.Goals.{After-due_line-end, At-loop-i, In-Next, Start}
 
 pub loop-i-init : goal.loop-i-init
-loop-i-init c = (omega arith, c.before.requires.x_len, λ h. begun_none h c.before.args.x.now c.before.requires.x_len)
+loop-i-init c = (omega arith, c.requires.x_len, λ h. begun_none h c.args.x.now c.requires.x_len)
 
 pub due_line-end-requires : goal.due_line-end-requires
 due_line-end-requires c =
-    let l = c.before.before in let s = l.before.before in let v = l.loop-i.invariant in let h = s.requires.headed in
-    let part = mid_len (4 * l.loop-i.i) (length l.loop-i.x) l.loop-i.x (le_refl (length l.loop-i.x)) in
+    let v = c.loop-i.invariant in let h = c.requires.headed in
+    let part = mid_len (4 * c.loop-i.i) (length c.loop-i.x) c.loop-i.x (le_refl (length c.loop-i.x)) in
     ((v.2 h).reached.within, omega (arith, part, v.1, h.m_most, h.n_most), h.m_most, omega (arith, h.n_most))
 
 pub returns-in_default : goal.returns-in_default
 returns-in_default c =
-    let r = c.before.before.before in let l = r.before.before.before in let s = l.before.before in let h = s.requires.headed in
-    broken h (l.loop-i.invariant.2 h) (omega arith) (told_none _ _ (sym r.due_line-end.ensures.end ∙ c.enum_told-1.given.1))
+    let h = c.requires.headed in
+    broken h (c.loop-i.invariant.2 h) (omega arith) (told_none _ _ (sym c.due_line-end.ensures.end ∙ c.in_default.is))
 
 -- ---- a line that is the one due
 module _ (c : In-Next) where
   abbrev read : After-due_line-end
-  read = c.before.before.before.before
+  read = (record { before = c.before.before.before; type_inv = record { listing = c.shared_slice_known-1.given } })
 
   abbrev turn : At-loop-i
-  turn = read.before.before.before
+  turn = (record { before = read.before.before.before.before; type_inv = record { listing = read.shared_slice_known-1.given } })
 
   abbrev start : Start
-  start = turn.before.before
+  start = turn.before.before.before
 
   -- the part of the list that the line was read into
   abbrev filled : List ℤ
-  filled = read.due_line-end.last.1.1.1.1.0
+  filled = read.due_line-end.new.x
 
   abbrev place : ℕ
   place = 4 * turn.loop-i.i
@@ -57,11 +57,11 @@ module _ (c : In-Next) where
   part_long = mid_len place (length turn.loop-i.x) turn.loop-i.x (le_refl (length turn.loop-i.x))
 
   filled_long : length filled ≡ length (mid_of place room turn.loop-i.x)
-  filled_long = read.due_line-end.ensures.values.1
+  filled_long = read.due_line-end.ensures.long
 
   numbers : (due_from start.args.listing.now turn.loop-i.next start.args.m turn.loop-i.i ≡ some (take (fields_due start.args.m turn.loop-i.i) filled))
-      × (c.before.end-1.given.0.0 ≡ place_from LF start.args.listing.now turn.loop-i.next + 1)
-  numbers = told_some _ _ _ _ (sym read.due_line-end.ensures.end ∙ c.before.end-1.given.1) read.due_line-end.ensures.values.0
+      × (c.in-Next.after ≡ place_from LF start.args.listing.now turn.loop-i.next + 1)
+  numbers = told_some _ _ _ _ (sym read.due_line-end.ensures.end ∙ c.in-Next.is) read.due_line-end.ensures.values
 
 pub loop-i-preserved : goal.loop-i-preserved
 loop-i-preserved c =
@@ -75,8 +75,8 @@ loop-i-preserved c =
 
 pub returns-then-next-listing : goal.returns-then-next-listing
 returns-then-next-listing c =
-    let l = c.before.before in let s = l.before.before in let v = l.loop-i.invariant in goes_on_lem s.requires.headed (v.2 s.requires.headed) (omega arith) (omega arith)
+    let v = c.loop-i.invariant in goes_on_lem c.requires.headed (v.2 c.requires.headed) (omega arith) (omega arith)
 
 pub returns : goal.returns
 returns c =
-    let l = c.before.before in let s = l.before.before in let v = l.loop-i.invariant in all_read s.requires.headed (v.2 s.requires.headed) (omega arith) (omega arith)
+    let v = c.loop-i.invariant in all_read c.requires.headed (v.2 c.requires.headed) (omega arith) (omega arith)

@@ -21,21 +21,21 @@ use Rattle.sheet.proofs.form.numbered_line.Goals.{After-read_behind-end}
 
 pub returns-in_default : goal.returns-in_default
 returns-in_default c =
-    let r = c.before.before.before in let a = r.before.before.before.args in
-    let t = line_none a.number (place_from LF a.listing.now a.start + 1) _ (take a.count r.read_behind-end.new.1.1.1.1.1.0)
-    (no_behind_told 18 a.listing.now a.start a.letter a.count (sym r.read_behind-end.ensures.end ∙ c.enum_told-1.given.1)) in
+    let a = c.args in
+    let t = line_none a.number (place_from LF a.listing.now a.start + 1) _ (take a.count c.read_behind-end.new.x)
+    (no_behind_told 18 a.listing.now a.start a.letter a.count (sym c.read_behind-end.ensures.end ∙ c.in_default.is)) in
     record {
       end = t.0;
       values = t.1;
-      long = r.read_behind-end.ensures.values.1;
+      long = c.read_behind-end.ensures.long;
     }
 
 -- the line's numbers, where it has them
 told : (r : After-read_behind-end) {next : ℕ} → r.read_behind-end.result ≡ Next next
-    → let a = r.before.before.before.args in (lettered_within 18 a.listing.now a.start a.letter a.count ≡ some (take a.count r.read_behind-end.new.1.1.1.1.1.0)) × (next ≡ place_from LF a.listing.now a.start + 1)
+    → let a = r.args in (lettered_within 18 a.listing.now a.start a.letter a.count ≡ some (take a.count r.read_behind-end.new.x)) × (next ≡ place_from LF a.listing.now a.start + 1)
 told r {next} e =
-    let a = r.before.before.before.args in
-    behind_told 18 a.listing.now a.start a.letter a.count next (take a.count r.read_behind-end.new.1.1.1.1.1.0) (sym r.read_behind-end.ensures.end ∙ e) r.read_behind-end.ensures.values.0
+    let a = r.args in
+    behind_told 18 a.listing.now a.start a.letter a.count next (take a.count r.read_behind-end.new.x) (sym r.read_behind-end.ensures.end ∙ e) r.read_behind-end.ensures.values
 
 -- the first of them
 first_of : (count : ℕ) (x : List ℤ) → 0 < count → get_or (take count x) 0 (pos 0) ≡ get_or x 0 (pos 0)
@@ -43,21 +43,21 @@ first_of count x l = get_or-take count x 0 (pos 0) l
 
 pub returns-then-own-number : goal.returns-then-own-number
 returns-then-own-number c =
-    let r = c.before.before.before.before.before.before in let a = r.before.before.before.args in let x = r.read_behind-end.new.1.1.1.1.1.0 in
-    let t = line_other a.number (place_from LF a.listing.now a.start + 1) _ (take a.count x) (told r c.before.before.before.end-1.given.1).0 (rw (first_of a.count x (omega arith)) (bits_other _ _ c.if-own-number.true)) in
+    let r : After-read_behind-end = record { before = c.before.before.before.before.before; type_inv = record { listing = c.shared_slice_known-1.given } } in let a = r.args in let x = r.read_behind-end.new.x in
+    let t = line_other a.number (place_from LF a.listing.now a.start + 1) _ (take a.count x) (told r c.in-Next.is).0 (rw (first_of a.count x (omega arith)) (bits_other _ _ c.if-own-number.true)) in
     record {
       end = t.0;
       values = t.1;
-      long = r.read_behind-end.ensures.values.1;
+      long = r.read_behind-end.ensures.long;
     }
 
 pub returns : goal.returns
 returns c =
-    let r = c.before.before.before.before.before.before in let a = r.before.before.before.args in let x = r.read_behind-end.new.1.1.1.1.1.0 in
-    let on = told r c.before.before.before.end-1.given.1 in let number-most : nat_abs (pos a.number) ≤ 64 = omega arith in
-    let t = line_same a.number (place_from LF a.listing.now a.start + 1) _ (take a.count x) _ on.0 (rw (first_of a.count x (omega arith)) (bits_same (fits_of_mag _ c.before.own-1.given) (fits_within (pos a.number) number-most tt) c.if-own-number.false)) on.1 in
+    let r : After-read_behind-end = record { before = c.before.before.before.before.before; type_inv = record { listing = c.shared_slice_known-1.given } } in let a = r.args in let x = r.read_behind-end.new.x in
+    let on = told r c.in-Next.is in let number-most : nat_abs (pos a.number) ≤ 64 = omega arith in
+    let t = line_same a.number (place_from LF a.listing.now a.start + 1) _ (take a.count x) _ on.0 (rw (first_of a.count x (omega arith)) (bits_same (fits_of_mag _ c.own-1.given) (fits_within (pos a.number) number-most tt) c.if-own-number.false)) on.1 in
     record {
       end = t.0;
       values = t.1;
-      long = r.read_behind-end.ensures.values.1;
+      long = r.read_behind-end.ensures.long;
     }

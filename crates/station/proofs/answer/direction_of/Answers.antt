@@ -34,24 +34,23 @@ module _ (s : Start) where
   )
 
 p_read : (c : After-pairs_of-p) → to_z w64 (of_z w64 c.pairs_of-p.result) ≡ p c.before
-p_read c = told c.pairs_of-p.type-inv c.pairs_of-p.ensures
+p_read c = told c.pairs_of-p.type_inv c.pairs_of-p.ensures
 
 p_above : (c : Then-p-gt0) → pos 0 <ℤ p c.before.before
 p_above c = lt_true c.if-p-gt0.true refl (p_read c.before)
 
 pub doubled_direction-base-requires : goal.doubled_direction-base-requires
 doubled_direction-base-requires c =
-    let s = c.before.before.before in
-    (s.requires.1.0, (rw c.lowest.ensures (lowest_in s.args.count.now s.args.j (p_above c.before)), s.requires.1.1))
+    (c.requires.1.0, (rw c.lowest.ensures (lowest_in c.args.count.now c.args.j (p_above c.before)), c.requires.1.1))
 
 b_read : (c : After-doubled_direction-base) → to_z w64 (of_z w64 c.doubled_direction-base.result) ≡ b c.before.before.before.before
 b_read c =
-    let a = c.before.before.before.before.args in
-    told c.doubled_direction-base.type-inv c.doubled_direction-base.ensures ∙ ap (λ (i : ℕ). g a.sums.now i a.j) c.before.lowest.ensures
+    let a = c.args in
+    told c.doubled_direction-base.type_inv c.doubled_direction-base.ensures ∙ ap (λ (i : ℕ). g a.sums.now i a.j) c.lowest.ensures
 
 -- what the machine has of P*b, of t, of t + P and of 2P
 product : (c : After-doubled_direction-base) → let s = c.before.before.before.before in
-    to_z w64 (of_z w64 c.before.before.before.pairs_of-p.result) *ℤ to_z w64 (of_z w64 c.doubled_direction-base.result) ≡ p s *ℤ b s
+    to_z w64 (of_z w64 c.pairs_of-p.result) *ℤ to_z w64 (of_z w64 c.doubled_direction-base.result) ≡ p s *ℤ b s
 product c = λ u. p_read c.before.before.before u *ℤ b_read c u
 
 pub overflow_mul-t : goal.overflow_mul-t
@@ -59,21 +58,20 @@ overflow_mul-t c = rw (product c) (let z = sizes c.before.before.before.before i
 
 pub sum_from_base-requires : goal.sum_from_base-requires
 sum_from_base-requires c =
-    let s = c.before.before.before.before in
-    (s.requires.0, (s.requires.1.0, (s.requires.1.1, b_read c)))
+    (c.requires.0, (c.requires.1.0, (c.requires.1.1, b_read c)))
 
 module _ (c : After-sum_from_base) where
   abbrev start : Start
   start = c.before.before.before.before.before
 
   abbrev machine_p : ℤ
-  machine_p = to_z w64 (of_z w64 c.before.before.before.before.pairs_of-p.result)
+  machine_p = to_z w64 (of_z w64 c.pairs_of-p.result)
 
   abbrev machine_t : ℤ
-  machine_t = to_z w64 (of_z w64 (machine_p *ℤ to_z w64 (of_z w64 c.before.doubled_direction-base.result))) +ℤ to_z w64 (of_z w64 c.sum_from_base.result)
+  machine_t = to_z w64 (of_z w64 (machine_p *ℤ to_z w64 (of_z w64 c.doubled_direction-base.result))) +ℤ to_z w64 (of_z w64 c.sum_from_base.result)
 
   t_is : machine_t ≡ p start *ℤ b start +ℤ es start
-  t_is = λ u. (read (overflow_mul-t c.before) ∙ product c.before) u +ℤ told c.sum_from_base.type-inv c.sum_from_base.ensures u
+  t_is = λ u. (read (overflow_mul-t c.before) ∙ product c.before) u +ℤ told c.sum_from_base.type_inv c.sum_from_base.ensures u
 
 pub overflow_add-t : goal.overflow_add-t
 overflow_add-t c = rw (t_is c) (let z = sizes (start c) in fits_in (search bounds) tt)
@@ -102,10 +100,9 @@ floor-requires c = rw (twice_p c) (twice_above (p (start c)) (p_above c.before.b
 pub returns-then-p-gt0 : goal.returns-then-p-gt0
 unfolding direction
 returns-then-p-gt0 c =
-    let d = c.before.before in let m = d.before.before.before in
-    rw (ap (lt_z (pos 0)) (sym (p_read m.before)) ∙ m.if-p-gt0.true)
-    (told c.modulo.type-inv c.modulo.ensures
-    ∙ (λ u. modulo ((told c.before.floor.type-inv c.before.floor.ensures ∙ (λ v. floor ((read (overflow_add-t-then-p-gt0 d) ∙ with_p d) v) (twice_p d v))) u) C))
+    let d = c.before.before in rw (ap (lt_z (pos 0)) (sym (p_read d.before.before.before.before)) ∙ d.if-p-gt0.true)
+    (told c.modulo.type_inv c.modulo.ensures
+    ∙ (λ u. modulo ((told c.floor.type_inv c.floor.ensures ∙ (λ v. floor ((read (overflow_add-t-then-p-gt0 d) ∙ with_p d) v) (twice_p d v))) u) C))
 
 pub returns : goal.returns
 unfolding direction

@@ -28,23 +28,22 @@ loop-i-init c = (omega arith, sym (where_none (has c) (one c)))
 
 pub overflow_add-n : goal.overflow_add-n
 overflow_add-n c =
-    let l = c.before.before.before in
-    let m : nat_abs (to_z w64 l.loop-i.n) ≤ 16 = rw l.loop-i.invariant.1 (omega (arith, where_size (has l.before) (one l.before) l.loop-i.i 1 (λ k h. omega arith))) in
-    let b = bounded (to_z w64 l.loop-i.n) m in
+    let m : nat_abs (to_z w64 c.loop-i.n-bits) ≤ 16 = rw c.loop-i.invariant.1 (omega (arith, where_size (has c.before.before.before.before) (one c.before.before.before.before) c.loop-i.i 1 (λ k h. omega arith))) in
+    let b = bounded (to_z w64 c.loop-i.n-bits) m in
     fits_in (search bounds) tt
 
 pub loop-i-preserved : goal.loop-i-preserved
 loop-i-preserved c =
-    let l = c.before.before.before in let i = l.loop-i.i in let seen-is = sym c.before.seen.ensures in (
+    let i = c.loop-i.i in let seen-is = sym c.seen.ensures in (
       omega arith,
       ⊎_elim
-          (λ w. ap (to_z w64) w.1 ∙ read (overflow_add-n (record { before = c.before; if1 = w.0 })) ∙ (λ t. l.loop-i.invariant.1 t +ℤ pos 1) ∙ sym (where_taken (has l.before) (one l.before) i (seen-is ∙ w.0.taken)))
-          (λ w. ap (to_z w64) w.1 ∙ l.loop-i.invariant.1 ∙ sym (where_passed (has l.before) (one l.before) i (seen-is ∙ w.0.left)))
+          (λ w. ap (to_z w64) w.1 ∙ read (overflow_add-n (record { before = c.before; if1 = w.0 })) ∙ (λ t. c.loop-i.invariant.1 t +ℤ pos 1) ∙ sym (where_taken (has c.before.before.before.before) (one c.before.before.before.before) i (seen-is ∙ w.0.taken)))
+          (λ w. ap (to_z w64) w.1 ∙ c.loop-i.invariant.1 ∙ sym (where_passed (has c.before.before.before.before) (one c.before.before.before.before) i (seen-is ∙ w.0.left)))
           c.if-seen.branch,
     )
 
 pub returns : goal.returns
 unfolding P
 returns c =
-    let l = c.before in let e : l.loop-i.i ≡ 16 = omega arith in
-    l.loop-i.invariant.1 ∙ ap (λ (k : ℕ). sum_where k (has l.before) (one l.before)) e
+    let e : c.loop-i.i ≡ 16 = omega arith in
+    c.loop-i.invariant.1 ∙ ap (λ (k : ℕ). sum_where k (has c.before.before) (one c.before.before)) e

@@ -15,7 +15,7 @@ use Rattle.station.proofs.Selecting.{where_none, where_taken, where_passed, wher
 use Rattle.station.proofs.answer.pairs_of.Given as goal
 
 abbrev pub invariant-loop-i : goal.invariant-loop-i
-invariant-loop-i l = (l.i ≤ 16) × (to_z w64 l.n ≡ sum_where l.i (λ k. seen l.count k l.j) (λ k. pos 1))
+invariant-loop-i l = (l.i ≤ 16) × (l.n ≡ sum_where l.i (λ k. seen l.count k l.j) (λ k. pos 1))
 
 abbrev pub decreases-loop-i : goal.decreases-loop-i
 decreases-loop-i l = 16 - l.i

@@ -17,7 +17,7 @@ use Rattle.station.proofs.Selecting.{where_none, where_taken, where_passed, wher
 use Rattle.station.proofs.answer.sum_from_base.Given as goal
 
 abbrev pub invariant-loop-i : goal.invariant-loop-i
-invariant-loop-i l = (l.i ≤ 16) × (to_z w64 l.total ≡ sum_where l.i (λ k. seen l.count k l.j) (λ k. e l.count l.sums k l.j))
+invariant-loop-i l = (l.i ≤ 16) × (l.total ≡ sum_where l.i (λ k. seen l.count k l.j) (λ k. e l.count l.sums k l.j))
 
 abbrev pub decreases-loop-i : goal.decreases-loop-i
 decreases-loop-i l = 16 - l.i

@@ -10,11 +10,10 @@ use Rattle.station.proofs.checks.apart_fault.Goals as goal
 
 pub returns-then-not-seen : goal.returns-then-not-seen
 unfolding apart_fault
-returns-then-not-seen c = rw (refuted c.before.seen.ensures c.if-not-seen.true)
+returns-then-not-seen c = rw (refuted c.seen.ensures c.if-not-seen.true)
 
 pub returns : goal.returns
 unfolding apart_fault
 returns c =
-    let d = c.before in let b = d.before in
-    rw (upheld b.before.seen.ensures b.if-not-seen.false)
-    (ap (ltb 60000) (c.magnitude.ensures ∙ ap nat_abs (told d.faces_differ.type-inv d.faces_differ.ensures)))
+    rw (upheld c.seen.ensures c.if-not-seen.false)
+    (ap (ltb 60000) (c.magnitude.ensures ∙ ap nat_abs (told c.faces_differ.type_inv c.faces_differ.ensures)))

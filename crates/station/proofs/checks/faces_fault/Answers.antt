@@ -18,7 +18,7 @@ use Rattle.station.proofs.checks.faces_fault.Goals as goal
 
 pub returns-then-not-seen : goal.returns-then-not-seen
 unfolding faces_fault
-returns-then-not-seen c = rw (refuted c.before.seen.ensures c.if-not-seen.true)
+returns-then-not-seen c = rw (refuted c.seen.ensures c.if-not-seen.true)
 
 -- the machine's test of a result, which is v, against 1
 is_one : {x v : ℤ} → mag x < 2 ^ 63 → x ≡ v → eqb (of_z w64 x) 1 ≡ same v (pos 1)
@@ -27,12 +27,10 @@ is_one {x} ok p = bits_test (fits_of_mag x ok) (numeral_fits 1 tt) ∙ ap (λ (z
 pub returns-then-entry-ne1 : goal.returns-then-entry-ne1
 unfolding faces_fault
 returns-then-entry-ne1 c =
-    let b = c.before in let d = b.before in
-    rw (upheld d.before.seen.ensures d.if-not-seen.false, sym (is_one b.entry.type-inv b.entry.ensures) ∙ ne_eqb _ _ c.if-entry-ne1.true)
+    rw (upheld c.seen.ensures c.if-not-seen.false, sym (is_one c.entry.type_inv c.entry.ensures) ∙ ne_eqb _ _ c.if-entry-ne1.true)
 
 pub returns : goal.returns
 unfolding faces_fault
 returns c =
-    let a = c.before in let b = a.before in let d = b.before in
-    rw (upheld d.before.seen.ensures d.if-not-seen.false, sym (is_one b.entry.type-inv b.entry.ensures) ∙ eq-eqb _ _ a.if-entry-ne1.false)
-    (ap not (is_one c.entry-2.type-inv c.entry-2.ensures))
+    rw (upheld c.seen.ensures c.if-not-seen.false, sym (is_one c.entry.type_inv c.entry.ensures) ∙ eq-eqb _ _ c.if-entry-ne1.false)
+    (ap not (is_one c.entry-2.type_inv c.entry-2.ensures))

@@ -8,10 +8,9 @@ use Rattle.station.proofs.checks.initial_fault.Goals as goal
 
 pub returns-then-not-seen : goal.returns-then-not-seen
 unfolding initial_fault
-returns-then-not-seen c = rw (refuted c.before.seen.ensures c.if-not-seen.true)
+returns-then-not-seen c = rw (refuted c.seen.ensures c.if-not-seen.true)
 
 pub returns : goal.returns
 unfolding initial_fault
 returns c =
-    let b = c.before in
-    rw (upheld b.before.seen.ensures b.if-not-seen.false) (ap not c.seen-2.ensures)
+    rw (upheld c.seen.ensures c.if-not-seen.false) (ap not c.seen-2.ensures)

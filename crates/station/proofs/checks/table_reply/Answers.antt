@@ -22,28 +22,24 @@ module _ (check : Check) (n r : List ℤ) (k : ℕ) (p : k ≡ first 256 (fault 
 
 pub returns-then-k-lt256 : goal.returns-then-k-lt256
 unfolding table_reply
-returns-then-k-lt256 c = rw (found _ _ _ _ c.before.first_fault-k.ensures c.if-k-lt256.true)
+returns-then-k-lt256 c = rw (found _ _ _ _ c.first_fault-k.ensures c.if-k-lt256.true)
 
 pub returns-then-k-lt256-2 : goal.returns-then-k-lt256-2
 unfolding table_reply
 returns-then-k-lt256-2 c =
-    let d = c.before.before in
-    rw (clear _ _ _ _ d.before.first_fault-k.ensures d.if-k-lt256.false, found _ _ _ _ c.before.first_fault-k-2.ensures c.if-k-lt256-2.true)
+    rw (clear _ _ _ _ c.first_fault-k.ensures c.if-k-lt256.false, found _ _ _ _ c.first_fault-k-2.ensures c.if-k-lt256-2.true)
 
 pub returns-then-k-lt256-3 : goal.returns-then-k-lt256-3
 unfolding table_reply
 returns-then-k-lt256-3 c =
-    let d = c.before.before in let e = d.before.before in
-    rw (clear _ _ _ _ e.before.first_fault-k.ensures e.if-k-lt256.false, clear _ _ _ _ d.before.first_fault-k-2.ensures d.if-k-lt256-2.false, found _ _ _ _ c.before.first_fault-k-3.ensures c.if-k-lt256-3.true)
+    rw (clear _ _ _ _ c.first_fault-k.ensures c.if-k-lt256.false, clear _ _ _ _ c.first_fault-k-2.ensures c.if-k-lt256-2.false, found _ _ _ _ c.first_fault-k-3.ensures c.if-k-lt256-3.true)
 
 pub returns-then-k-lt256-4 : goal.returns-then-k-lt256-4
 unfolding table_reply
 returns-then-k-lt256-4 c =
-    let d = c.before.before in let e = d.before.before in let f = e.before.before in
-    rw (clear _ _ _ _ f.before.first_fault-k.ensures f.if-k-lt256.false, clear _ _ _ _ e.before.first_fault-k-2.ensures e.if-k-lt256-2.false, clear _ _ _ _ d.before.first_fault-k-3.ensures d.if-k-lt256-3.false, found _ _ _ _ c.before.first_fault-k-4.ensures c.if-k-lt256-4.true)
+    rw (clear _ _ _ _ c.first_fault-k.ensures c.if-k-lt256.false, clear _ _ _ _ c.first_fault-k-2.ensures c.if-k-lt256-2.false, clear _ _ _ _ c.first_fault-k-3.ensures c.if-k-lt256-3.false, found _ _ _ _ c.first_fault-k-4.ensures c.if-k-lt256-4.true)
 
 pub returns : goal.returns
 unfolding table_reply
 returns c =
-    let d = c.before.before in let e = d.before.before in let f = e.before.before in
-    rw (clear _ _ _ _ f.before.first_fault-k.ensures f.if-k-lt256.false, clear _ _ _ _ e.before.first_fault-k-2.ensures e.if-k-lt256-2.false, clear _ _ _ _ d.before.first_fault-k-3.ensures d.if-k-lt256-3.false, clear _ _ _ _ c.before.first_fault-k-4.ensures c.if-k-lt256-4.false)
+    rw (clear _ _ _ _ c.first_fault-k.ensures c.if-k-lt256.false, clear _ _ _ _ c.first_fault-k-2.ensures c.if-k-lt256-2.false, clear _ _ _ _ c.first_fault-k-3.ensures c.if-k-lt256-3.false, clear _ _ _ _ c.first_fault-k-4.ensures c.if-k-lt256-4.false)

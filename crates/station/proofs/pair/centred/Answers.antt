@@ -31,19 +31,19 @@ modulo-requires c = rw (circle_read c) (twice_above c.args.half c.requires.1.0)
 
 -- what is left of the sum
 module _ (c : After-modulo) where
-  left : c.modulo.result ≡ modulo (c.before.args.z +ℤ c.before.args.half) (pos 2 *ℤ c.before.args.half)
+  left : c.modulo.result ≡ modulo (c.args.z +ℤ c.args.half) (pos 2 *ℤ c.args.half)
   left = c.modulo.ensures ∙ (λ t. modulo (sum_read c.before t) (circle_read c.before t))
 
   left_size : nat_abs c.modulo.result ≤ 2592000000
   left_size =
-      let h = bounded c.before.args.half c.before.requires.1.1 in
-      rw left (le_trans (modulo_size (c.before.args.z +ℤ c.before.args.half) (pos 2 *ℤ c.before.args.half) (twice_above c.before.args.half c.before.requires.1.0)) (abs_in {z = pos 2 *ℤ c.before.args.half} (search bounds) tt))
+      let h = bounded c.args.half c.requires.1.1 in
+      rw left (le_trans (modulo_size (c.args.z +ℤ c.args.half) (pos 2 *ℤ c.args.half) (twice_above c.args.half c.requires.1.0)) (abs_in {z = pos 2 *ℤ c.args.half} (search bounds) tt))
 
 pub overflow_sub-result : goal.overflow_sub-result
 overflow_sub-result c =
-    let m = bounded c.modulo.result (left_size c) in let h = bounded c.before.args.half c.before.requires.1.1 in
+    let m = bounded c.modulo.result (left_size c) in let h = bounded c.args.half c.requires.1.1 in
     fits_in (search bounds) tt
 
 pub returns : goal.returns
 unfolding centred
-returns c = read (overflow_sub-result c) ∙ (λ t. told c.modulo.type-inv (left c) t -ℤ read c.before.ranges.half t)
+returns c = read (overflow_sub-result c) ∙ (λ t. told c.modulo.type_inv (left c) t -ℤ read c.ranges.half t)

@@ -24,14 +24,14 @@ module _ (c : Start) where
 
 -- what the machine reads of R - L
 apart : (c : After-entry-2) →
-    to_z w64 (of_z w64 c.before.entry.result) -ℤ to_z w64 (of_z w64 c.entry-2.result) ≡ r c.before.before -ℤ l c.before.before
-apart c = λ t. told c.before.entry.type-inv c.before.entry.ensures t -ℤ told c.entry-2.type-inv c.entry-2.ensures t
+    to_z w64 (of_z w64 c.entry.result) -ℤ to_z w64 (of_z w64 c.entry-2.result) ≡ r c.before.before -ℤ l c.before.before
+apart c = λ t. told c.entry.type_inv c.entry.ensures t -ℤ told c.entry-2.type_inv c.entry-2.ensures t
 
 pub overflow_sub-entry : goal.overflow_sub-entry
 overflow_sub-entry c = rw (apart c) (let b = sizes c.before.before in fits_in (search bounds) tt)
 
 apart_read : (c : After-entry-2) →
-    to_z w64 (of_z w64 (to_z w64 (of_z w64 c.before.entry.result) -ℤ to_z w64 (of_z w64 c.entry-2.result))) ≡ r c.before.before -ℤ l c.before.before
+    to_z w64 (of_z w64 (to_z w64 (of_z w64 c.entry.result) -ℤ to_z w64 (of_z w64 c.entry-2.result))) ≡ r c.before.before -ℤ l c.before.before
 apart_read c = read (overflow_sub-entry c) ∙ apart c
 
 pub overflow_sub-entry-2 : goal.overflow_sub-entry-2
@@ -39,7 +39,7 @@ overflow_sub-entry-2 c = rw (apart_read c) (let b = sizes c.before.before in fit
 
 -- and of R - L - C/2
 open_read : (c : After-entry-2) →
-    to_z w64 (of_z w64 (to_z w64 (of_z w64 (to_z w64 (of_z w64 c.before.entry.result) -ℤ to_z w64 (of_z w64 c.entry-2.result))) -ℤ half_c))
+    to_z w64 (of_z w64 (to_z w64 (of_z w64 (to_z w64 (of_z w64 c.entry.result) -ℤ to_z w64 (of_z w64 c.entry-2.result))) -ℤ half_c))
     ≡ r c.before.before -ℤ l c.before.before -ℤ half_c
 open_read c = read (overflow_sub-entry-2 c) ∙ (λ t. apart_read c t -ℤ half_c)
 
@@ -50,4 +50,4 @@ centred-requires c =
 
 pub returns : goal.returns
 unfolding s
-returns c = told c.centred.type-inv c.centred.ensures ∙ (λ t. centred (open_read c.before t) half_c)
+returns c = told c.centred.type_inv c.centred.ensures ∙ (λ t. centred (open_read c.before t) half_c)

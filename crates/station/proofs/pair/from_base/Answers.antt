@@ -20,20 +20,20 @@ module _ (c : Start) where
 
 -- what the machine has of g - b
 apart : (c : After-doubled_direction) →
-    to_z w64 (of_z w64 c.doubled_direction.result) -ℤ to_z w64 (of_z w64 c.before.args.base) ≡ here c.before -ℤ c.before.args.base
-apart c = λ t. told c.doubled_direction.type-inv c.doubled_direction.ensures t -ℤ read c.before.ranges.base t
+    to_z w64 (of_z w64 c.doubled_direction.result) -ℤ to_z w64 (of_z w64 c.args.base) ≡ here c.before -ℤ c.args.base
+apart c = λ t. told c.doubled_direction.type_inv c.doubled_direction.ensures t -ℤ read c.ranges.base t
 
 pub overflow_sub-doubled_direction : goal.overflow_sub-doubled_direction
 overflow_sub-doubled_direction c = rw (apart c) (let b = sizes c.before in fits_in (search bounds) tt)
 
 apart_read : (c : After-doubled_direction) →
-    to_z w64 (of_z w64 (to_z w64 (of_z w64 c.doubled_direction.result) -ℤ to_z w64 (of_z w64 c.before.args.base))) ≡ here c.before -ℤ c.before.args.base
+    to_z w64 (of_z w64 (to_z w64 (of_z w64 c.doubled_direction.result) -ℤ to_z w64 (of_z w64 c.args.base))) ≡ here c.before -ℤ c.args.base
 apart_read c = read (overflow_sub-doubled_direction c) ∙ apart c
 
 pub centred-requires : goal.centred-requires
 centred-requires c =
     let b = sizes c.before in
-    (rw (apart_read c) (abs_in {z = here c.before -ℤ c.before.args.base} (search bounds) tt), search rules)
+    (rw (apart_read c) (abs_in {z = here c.before -ℤ c.args.base} (search bounds) tt), search rules)
 
 pub returns : goal.returns
-returns c = told c.centred.type-inv c.centred.ensures ∙ (λ t. centred (apart_read c.before t) C)
+returns c = told c.centred.type_inv c.centred.ensures ∙ (λ t. centred (apart_read c.before t) C)

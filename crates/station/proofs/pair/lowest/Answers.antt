@@ -13,16 +13,16 @@ loop-i-init c = (omega arith, failed_none _)
 pub returns-then-seen : goal.returns-then-seen
 unfolding lowest
 returns-then-seen c =
-    let l = c.before.before.before in let a = l.before.args in
-    sym (first_at 16 (λ k. seen a.count.now k a.j) l.loop-i.i (omega arith) l.loop-i.invariant.1 (sym c.before.seen.ensures ∙ c.if-seen.true))
+    let a = c.args in
+    sym (first_at 16 (λ k. seen a.count.now k a.j) c.loop-i.i (omega arith) c.loop-i.invariant.1 (sym c.seen.ensures ∙ c.if-seen.true))
 
 pub loop-i-preserved : goal.loop-i-preserved
 loop-i-preserved c =
-    let l = c.before.before.before in let a = l.before.args in
-    (omega arith, failed_more (λ k. seen a.count.now k a.j) l.loop-i.i l.loop-i.invariant.1 (sym c.before.seen.ensures ∙ c.if-seen.false))
+    let a = c.args in
+    (omega arith, failed_more (λ k. seen a.count.now k a.j) c.loop-i.i c.loop-i.invariant.1 (sym c.seen.ensures ∙ c.if-seen.false))
 
 pub returns : goal.returns
 unfolding lowest
 returns c =
-    let l = c.before in let a = l.before.args in let e : l.loop-i.i ≡ 16 = omega arith in
-    sym (first_none 16 (λ k. seen a.count.now k a.j) (subst (Failed (λ k. seen a.count.now k a.j)) e l.loop-i.invariant.1))
+    let a = c.args in let e : c.loop-i.i ≡ 16 = omega arith in
+    sym (first_none 16 (λ k. seen a.count.now k a.j) (subst (Failed (λ k. seen a.count.now k a.j)) e c.loop-i.invariant.1))

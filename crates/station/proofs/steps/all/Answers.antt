@@ -21,7 +21,7 @@ after_1 c =
     stepped_more (given_counts s) (given_sums s) 0 (stepped_none (given_counts s) (given_sums s) s.requires.2 s.requires.3 _ s.requires.4) e.0 e.1.0 e.1.1
 
 pub step-requires-2 : goal.step-requires-2
-step-requires-2 c = let s = c.before.before.before.before.before.before.before in stepped_fit s.requires.0 s.requires.1 (after_1 c.before.before.before)
+step-requires-2 c = stepped_fit c.requires.0 c.requires.1 (after_1 c.before.before.before)
 
 after_2 : (c : After-step-2) → let s = c.before.before.before.before.before.before.before.before in let l = c.step-2.new.1.1 in Stepped (given_counts s) (given_sums s) 2 l.0 l.1.0 l.1.1.0
 unfolding step_check
@@ -30,7 +30,7 @@ after_2 c =
     stepped_more (given_counts s) (given_sums s) 1 (after_1 c.before.before.before.before) e.0 e.1.0 e.1.1
 
 pub step-requires-3 : goal.step-requires-3
-step-requires-3 c = let s = c.before.before.before.before.before.before.before.before.before.before.before in stepped_fit s.requires.0 s.requires.1 (after_2 c.before.before.before)
+step-requires-3 c = stepped_fit c.requires.0 c.requires.1 (after_2 c.before.before.before)
 
 after_3 : (c : After-step-3) → let s = c.before.before.before.before.before.before.before.before.before.before.before.before in let l = c.step-3.new.1.1 in Stepped (given_counts s) (given_sums s) 3 l.0 l.1.0 l.1.1.0
 unfolding step_check
@@ -39,7 +39,7 @@ after_3 c =
     stepped_more (given_counts s) (given_sums s) 2 (after_2 c.before.before.before.before) e.0 e.1.0 e.1.1
 
 pub step-requires-4 : goal.step-requires-4
-step-requires-4 c = let s = c.before.before.before.before.before.before.before.before.before.before.before.before.before.before.before in stepped_fit s.requires.0 s.requires.1 (after_3 c.before.before.before)
+step-requires-4 c = stepped_fit c.requires.0 c.requires.1 (after_3 c.before.before.before)
 
 after_4 : (c : After-step-4) → let s = c.before.before.before.before.before.before.before.before.before.before.before.before.before.before.before.before in let l = c.step-4.new.1.1 in Stepped (given_counts s) (given_sums s) 4 l.0 l.1.0 l.1.1.0
 unfolding step_check

@@ -26,15 +26,15 @@ loop-h-init c = (omega arith, failed_none _)
 
 pub returns-then-why-place_of-eq0 : goal.returns-then-why-place_of-eq0
 returns-then-why-place_of-eq0 c =
-    let l = c.before.before.before.before in let a = l.before.args in
-    sym (first_at (length a.position.now) (test a.position.now a.object.now a.why.now) l.loop-h.h (omega arith) l.loop-h.invariant.1 (eq-eqb _ 0 (there a.why.now c.before.before.place_of.ensures.0 ∙ c.if-why-place_of-eq0.true)))
+    let a = c.args in
+    sym (first_at (length a.position.now) (test a.position.now a.object.now a.why.now) c.loop-h.h (omega arith) c.loop-h.invariant.1 (eq-eqb _ 0 (there a.why.now c.place_of.ensures.0 ∙ c.if-why-place_of-eq0.true)))
 
 pub loop-h-preserved : goal.loop-h-preserved
 loop-h-preserved c =
-    let l = c.before.before.before.before in let a = l.before.args in
-    (omega arith, failed_more (test a.position.now a.object.now a.why.now) l.loop-h.h l.loop-h.invariant.1 (ne_eqb _ 0 (λ e. c.if-why-place_of-eq0.false (sym (there a.why.now c.before.before.place_of.ensures.0) ∙ e))))
+    let a = c.args in
+    (omega arith, failed_more (test a.position.now a.object.now a.why.now) c.loop-h.h c.loop-h.invariant.1 (ne_eqb _ 0 (λ e. c.if-why-place_of-eq0.false (sym (there a.why.now c.place_of.ensures.0) ∙ e))))
 
 pub returns : goal.returns
 returns c =
-    let l = c.before in let a = l.before.args in let e : l.loop-h.h ≡ length a.position.now = omega arith in
-    e ∙ sym (first_none (length a.position.now) (test a.position.now a.object.now a.why.now) (subst (Failed (test a.position.now a.object.now a.why.now)) e l.loop-h.invariant.1))
+    let a = c.args in let e : c.loop-h.h ≡ length a.position.now = omega arith in
+    e ∙ sym (first_none (length a.position.now) (test a.position.now a.object.now a.why.now) (subst (Failed (test a.position.now a.object.now a.why.now)) e c.loop-h.invariant.1))

@@ -13,7 +13,7 @@ use Rattle.station.proofs.steps.place_of.Goals as goal
 use Rattle.station.proofs.steps.place_of.Goals.{Start}
 
 pub bounds-object-h : goal.bounds-object-h
-bounds-object-h c = omega (arith, c.before.requires.0.long)
+bounds-object-h c = omega (arith, c.requires.0.long)
 
 module _ (s : Start) where
   abbrev position : ℤ

@@ -15,18 +15,18 @@ abbrev reason_of : List ℤ → List ℤ → List ℕ → ℕ → ℕ
 reason_of position object why i = get_or why (place_in position object i) 0
 
 pub loop-h-init : goal.loop-h-init
-loop-h-init c = (omega arith, filled_none 0 _ 0 c.before.args.reason.now)
+loop-h-init c = (omega arith, filled_none 0 _ 0 c.args.reason.now)
 
 pub loop-h-preserved : goal.loop-h-preserved
 loop-h-preserved c =
-    let l = c.before.before.before in let a = l.before.before.args in (
+    let a = c.args in (
       omega arith,
-      filled_more 0 (reason_of a.position.now a.object.now a.why.now) 0 l.loop-h.h a.reason-1.now l.loop-h.reason _ (omega (arith, l.before.before.requires.1)) l.loop-h.invariant.1
-          (ap (λ (k : ℕ). get_or a.why.now k 0) c.before.place_of.ensures.0),
+      filled_more 0 (reason_of a.position.now a.object.now a.why.now) 0 c.loop-h.h a.reason.now c.loop-h.reason _ (omega (arith, c.requires.1)) c.loop-h.invariant.1
+          (ap (λ (k : ℕ). get_or a.why.now k 0) c.place_of.ensures.0),
     )
 
 pub returns : goal.returns
 returns c =
-    let l = c.before in let a = l.before.before.args in let e : l.loop-h.h ≡ length a.position.now = omega arith in
-    filled_all 0 (reason_of a.position.now a.object.now a.why.now) (length a.position.now) a.reason-1.now l.loop-h.reason l.before.before.requires.1
-    (subst (λ (h : ℕ). Filled 0 (reason_of a.position.now a.object.now a.why.now) 0 h a.reason-1.now l.loop-h.reason) e l.loop-h.invariant.1)
+    let a = c.args in let e : c.loop-h.h ≡ length a.position.now = omega arith in
+    filled_all 0 (reason_of a.position.now a.object.now a.why.now) (length a.position.now) a.reason.now c.loop-h.reason c.requires.1
+    (subst (λ (h : ℕ). Filled 0 (reason_of a.position.now a.object.now a.why.now) 0 h a.reason.now c.loop-h.reason) e c.loop-h.invariant.1)

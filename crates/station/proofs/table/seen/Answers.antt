@@ -10,13 +10,12 @@ use Rattle.station.proofs.table.seen.Goals as goal
 
 pub overflow_add-result : goal.overflow_add-result
 overflow_add-result c =
-    let a = c.before.before in
-    let l = bounded c.before.entry.result (entry_within a.args.count.now 0 a.args.i a.args.j a.requires.0 c.before.entry.ensures) in
-    let r = bounded c.entry-2.result (entry_within a.args.count.now 1 a.args.i a.args.j a.requires.0 c.entry-2.ensures) in
+    let l = bounded c.entry.result (entry_within c.args.count.now 0 c.args.i c.args.j c.requires.0 c.entry.ensures) in
+    let r = bounded c.entry-2.result (entry_within c.args.count.now 1 c.args.i c.args.j c.requires.0 c.entry-2.ensures) in
     fits_in (search bounds) tt
 
 pub returns : goal.returns
 unfolding seen
 returns c =
     ap (lt_z (pos 0))
-    (read (overflow_add-result c) ∙ (λ t. told c.before.entry.type-inv c.before.entry.ensures t +ℤ told c.entry-2.type-inv c.entry-2.ensures t))
+    (read (overflow_add-result c) ∙ (λ t. told c.entry.type_inv c.entry.ensures t +ℤ told c.entry-2.type_inv c.entry-2.ensures t))

@@ -9,14 +9,14 @@ use Rattle.station.proofs.table.slot_of.Goals.{After-magnitude-o}
 
 -- the three sizes are those of the fields
 module _ (c : After-magnitude-o) where
-  f : c.before.before.magnitude-f.result ≡ nat_abs c.before.before.before.args.face
-  f = c.before.before.magnitude-f.ensures ∙ ap nat_abs (read c.before.before.before.ranges.face)
+  f : c.magnitude-f.result ≡ nat_abs c.args.face
+  f = c.magnitude-f.ensures ∙ ap nat_abs (read c.ranges.face)
 
-  p : c.before.magnitude-p.result ≡ nat_abs c.before.before.before.args.position
-  p = c.before.magnitude-p.ensures ∙ ap nat_abs (read c.before.before.before.ranges.position)
+  p : c.magnitude-p.result ≡ nat_abs c.args.position
+  p = c.magnitude-p.ensures ∙ ap nat_abs (read c.ranges.position)
 
-  o : c.magnitude-o.result ≡ nat_abs c.before.before.before.args.object
-  o = c.magnitude-o.ensures ∙ ap nat_abs (read c.before.before.before.ranges.object)
+  o : c.magnitude-o.result ≡ nat_abs c.args.object
+  o = c.magnitude-o.ensures ∙ ap nat_abs (read c.ranges.object)
 
 pub overflow_mul-result : goal.overflow_mul-result
 overflow_mul-result c = omega (arith, f c, p c, o c)

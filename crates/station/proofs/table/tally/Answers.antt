@@ -23,10 +23,10 @@ module _ (c : In-loop-h) where
   list = sighted c.before.before
 
   abbrev h : ℕ
-  h = c.before.loop-h.h
+  h = c.loop-h.h
 
   fields : InFields list h
-  fields = in_fields list h (c.before.before.requires.0.sound h (omega arith))
+  fields = in_fields list h (c.requires.0.sound h (omega arith))
 
   face_fits : SFits w64 (face_at list h)
   face_fits = fits_within (face_at list h) fields.faces.1.1 tt
@@ -42,16 +42,16 @@ module _ (c : In-loop-h) where
 
   -- of the readings so far
   reading_sizes : (i : ℕ) → i < h → nat_abs (reading_at list i) ≤ 1295999999
-  reading_sizes i l = (in_fields list i (c.before.before.requires.0.sound i (omega arith))).readings.1.1
+  reading_sizes i l = (in_fields list i (c.requires.0.sound i (omega arith))).readings.1.1
 
 pub loop-h-init : goal.loop-h-init
 loop-h-init c = (omega arith, (c.requires.1.0 ∙ tallied_none (sighted c) one, c.requires.1.1 ∙ tallied_none (sighted c) (reading_at (sighted c))))
 
 pub bounds-face-h : goal.bounds-face-h
-bounds-face-h c = omega (arith, c.before.before.requires.0.faces)
+bounds-face-h c = omega (arith, c.requires.0.faces)
 
 pub bounds-object-h : goal.bounds-object-h
-bounds-object-h c = omega (arith, c.before.before.before.before.requires.0.objects)
+bounds-object-h c = omega (arith, c.requires.0.objects)
 
 pub slot_of-k-requires : goal.slot_of-k-requires
 slot_of-k-requires c =
@@ -71,16 +71,16 @@ module _ (c : After-slot_of-k) where
 
   -- the two numbers there
   abbrev counted : ℤ
-  counted = get_or turn.before.loop-h.count c.slot_of-k.result (pos 0)
+  counted = get_or turn.loop-h.count c.slot_of-k.result (pos 0)
 
   abbrev summed : ℤ
-  summed = get_or turn.before.loop-h.sums c.slot_of-k.result (pos 0)
+  summed = get_or turn.loop-h.sums c.slot_of-k.result (pos 0)
 
   count_size : nat_abs counted ≤ 512
-  count_size = rw turn.before.loop-h.invariant.1.0 (omega (arith, tallied_size (list turn) one (h turn) 1 (λ i l. omega arith) c.slot_of-k.result, turn.before.before.requires.0.few))
+  count_size = rw turn.loop-h.invariant.1.0 (omega (arith, tallied_size (list turn) one (h turn) 1 (λ i l. omega arith) c.slot_of-k.result, turn.requires.0.few))
 
   sum_size : nat_abs summed ≤ 663552000000
-  sum_size = rw turn.before.loop-h.invariant.1.1 (omega (arith, tallied_size (list turn) (reading_at (list turn)) (h turn) 1295999999 (reading_sizes turn) c.slot_of-k.result, turn.before.before.requires.0.few))
+  sum_size = rw turn.loop-h.invariant.1.1 (omega (arith, tallied_size (list turn) (reading_at (list turn)) (h turn) 1295999999 (reading_sizes turn) c.slot_of-k.result, turn.requires.0.few))
 
   count_fits : SFits w64 counted
   count_fits = fits_within counted count_size tt
@@ -113,7 +113,7 @@ pub bounds-sums-k : goal.bounds-sums-k
 bounds-sums-k c = place_in c.before
 
 pub bounds-reading-h : goal.bounds-reading-h
-bounds-reading-h c = omega (arith, c.before.before.before.before.before.before.before.before.requires.0.readings)
+bounds-reading-h c = omega (arith, c.requires.0.readings)
 
 pub overflow_add-sums : goal.overflow_add-sums
 overflow_add-sums c =
@@ -130,15 +130,15 @@ bounds-sums-k-in-loop-h c = place_in c.before.before.before
 
 pub loop-h-preserved : goal.loop-h-preserved
 loop-h-preserved c =
-    let k = c.before.before.before in let i = turn k in let l = i.before.loop-h in (
+    let k = c.before.before.before in let i = turn k in let l = i.loop-h in (
       omega arith,
       (
-        stored (list i) one (h i) (fields i) l.inv.1.0 (place k) (read (overflow_add-count c.before.before) ∙ (λ t. read (count_fits k) t +ℤ pos 1)),
-        stored (list i) (reading_at (list i)) (h i) (fields i) l.inv.1.1 (place k) (read (overflow_add-sums c) ∙ (λ t. read (sum_fits k) t +ℤ read (reading_fits i) t)),
+        stored (list i) one (h i) (fields i) l.invariant.1.0 (place k) (read (overflow_add-count c.before.before) ∙ (λ t. read (count_fits k) t +ℤ pos 1)),
+        stored (list i) (reading_at (list i)) (h i) (fields i) l.invariant.1.1 (place k) (read (overflow_add-sums c) ∙ (λ t. read (sum_fits k) t +ℤ read (reading_fits i) t)),
       ),
     )
 
 pub returns : goal.returns
 returns c =
-    let l = c.before in let b = sighted l.before in let e : l.loop-h.h ≡ length l.before.args.position.now = omega arith in
-    (l.loop-h.invariant.1.0 ∙ ap (tallied b one) e ∙ tallied_all b one, l.loop-h.invariant.1.1 ∙ ap (tallied b (reading_at b)) e ∙ tallied_all b (reading_at b))
+    let b = sighted c.before.before in let e : c.loop-h.h ≡ length c.args.position.now = omega arith in
+    (c.loop-h.invariant.1.0 ∙ ap (tallied b one) e ∙ tallied_all b one, c.loop-h.invariant.1.1 ∙ ap (tallied b (reading_at b)) e ∙ tallied_all b (reading_at b))

@@ -15,41 +15,41 @@ use Rattle.text.proofs.decimal.put.Goals as goal
 use Rattle.text.proofs.decimal.put.Goals.{After-magnitude-size, Else-z-lt0, Then-z-lt0}
 
 -- ---- what is written, by the size that the code has found
-size : (c : After-magnitude-size) → nat_abs c.before.before.args.z ≡ c.magnitude-size.result
-size c = sym (c.magnitude-size.ensures ∙ ap nat_abs (read c.before.before.ranges.z))
+size : (c : After-magnitude-size) → nat_abs c.args.z ≡ c.magnitude-size.result
+size c = sym (c.magnitude-size.ensures ∙ ap nat_abs (read c.ranges.z))
 
-below : (c : Then-z-lt0) → written c.before.before.before.args.z ≡ 45 ∷ digits_of c.before.magnitude-size.result
+below : (c : Then-z-lt0) → written c.args.z ≡ 45 ∷ digits_of c.magnitude-size.result
 below c =
-    let s = c.before.before.before in let r = read s.ranges.z in
-    written_below s.args.z (lt_true c.if-z-lt0.true r refl) ∙ ap (λ (n : ℕ). 45 ∷ digits_of n) (size c.before)
+    let r = read c.ranges.z in
+    written_below c.args.z (lt_true c.if-z-lt0.true r refl) ∙ ap (λ (n : ℕ). 45 ∷ digits_of n) (size (record { before = c.before; type_inv = record { out = c.slice_known-1.given } }))
 
-above : (c : Else-z-lt0) → written c.before.before.before.args.z ≡ digits_of c.before.magnitude-size.result
+above : (c : Else-z-lt0) → written c.args.z ≡ digits_of c.magnitude-size.result
 above c =
-    let s = c.before.before.before in let r = read s.ranges.z in
-    written_above s.args.z (lt_false c.if-z-lt0.false r refl) ∙ ap digits_of (size c.before)
+    let r = read c.ranges.z in
+    written_above c.args.z (lt_false c.if-z-lt0.false r refl) ∙ ap digits_of (size (record { before = c.before.before; type_inv = record { out = c.slice_known-1.given } }))
 
 pub bounds-out-at : goal.bounds-out-at
-bounds-out-at c = let s = c.before.before.before in omega (arith, s.requires, ap length (below c))
+bounds-out-at c = omega (arith, c.requires, ap length (below c))
 
 pub put_digits-requires : goal.put_digits-requires
-put_digits-requires c = let s = c.before.before.before.before in simp length-set (omega (arith, s.requires, ap length (below c.before)))
+put_digits-requires c = simp length-set (omega (arith, c.requires, ap length (below c.before)))
 
 pub shape_of-out-then-z-lt0 : goal.shape_of-out-then-z-lt0
 shape_of-out-then-z-lt0 c =
-    let a = c.before.before.before.before.before.before.before.args in
-    c.before.before.put_digits.auto.0 ∙ length-set a.out-1.now a.at _
+    let a = c.args in
+    c.put_digits.auto.out ∙ length-set a.out.now a.at _
 
 pub returns-then-z-lt0 : goal.returns-then-z-lt0
 returns-then-z-lt0 c =
-    let p = c.before.before.put_digits in let t = c.before.before.before.before in let a = t.before.before.before.args in record {
+    let p = c.put_digits in let t = c.before.before.before.before.before in let a = t.args in record {
       next = omega (arith, p.ensures.next, ap length (below t));
       list = rw (below t, p.ensures.list, add-one a.at);
     }
 
 pub put_digits-requires-2 : goal.put_digits-requires-2
-put_digits-requires-2 c = let s = c.before.before.before.before in omega (arith, s.requires, ap length (above c.before))
+put_digits-requires-2 c = omega (arith, c.requires, ap length (above (record { before = c.before; type_inv = record { out = c.slice_known-1.given } })))
 
 pub returns : goal.returns
 returns c =
-    let p = c.before.before.put_digits-2 in let e = c.before.before.before.before in
+    let p = c.put_digits-2 in let e : Else-z-lt0 = record { before = c.before.before.before.before.before; type_inv = record { out = c.slice_known-1.given } } in
     rw (above e) (p.ensures.next, p.ensures.list)

@@ -13,22 +13,22 @@ loop-i-init c = (omega arith, refl)
 
 pub returns-then-text-i : goal.returns-then-text-i
 returns-then-text-i c =
-    let l = c.before.before in let a = l.before.args in
-    sym (begins_short a.word.now a.text.now l.loop-i.i c.before.loop-i-test.true c.if-text-i.true) ∙ l.loop-i.invariant.1
+    let a = c.args in
+    sym (begins_short a.word.now a.text.now c.loop-i.i c.loop-i-test.true c.if-text-i.true) ∙ c.loop-i.invariant.1
 
 pub returns-then-text-i-2 : goal.returns-then-text-i-2
 returns-then-text-i-2 c =
-    let e = c.before.before.before in let l = e.before.before in let a = l.before.args in
-    sym (begins_other a.word.now a.text.now l.loop-i.i e.before.loop-i-test.true e.if-text-i.false c.if-text-i-2.true) ∙ l.loop-i.invariant.1
+    let a = c.args in
+    sym (begins_other a.word.now a.text.now c.loop-i.i c.loop-i-test.true c.if-text-i.false c.if-text-i-2.true) ∙ c.loop-i.invariant.1
 
 pub loop-i-preserved : goal.loop-i-preserved
 loop-i-preserved c =
-    let e = c.before.before.before in let l = e.before.before in let a = l.before.args in (
+    let a = c.args in (
       omega arith,
-      sym (begins_more a.word.now a.text.now l.loop-i.i e.before.loop-i-test.true e.if-text-i.false c.if-text-i-2.false) ∙ l.loop-i.invariant.1,
+      sym (begins_more a.word.now a.text.now c.loop-i.i c.loop-i-test.true c.if-text-i.false c.if-text-i-2.false) ∙ c.loop-i.invariant.1,
     )
 
 pub returns : goal.returns
 returns c =
-    let l = c.before in let a = l.before.args in
-    sym (begins_all a.word.now a.text.now l.loop-i.i c.loop-i-test.false) ∙ l.loop-i.invariant.1
+    let a = c.args in
+    sym (begins_all a.word.now a.text.now c.loop-i.i c.loop-i-test.false) ∙ c.loop-i.invariant.1

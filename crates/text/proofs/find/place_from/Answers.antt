@@ -12,10 +12,10 @@ pub loop-i-init : goal.loop-i-init
 loop-i-init c = refl
 
 pub returns-then-text-i : goal.returns-then-text-i
-returns-then-text-i c = sym (place_here _ _ _ (omega arith) c.if-text-i.true) ∙ c.before.before.before.loop-i.invariant
+returns-then-text-i c = sym (place_here _ _ _ (omega arith) c.if-text-i.true) ∙ c.loop-i.invariant
 
 pub loop-i-preserved : goal.loop-i-preserved
-loop-i-preserved c = sym (place_next _ _ _ (omega arith) c.if-text-i.false) ∙ c.before.before.before.loop-i.invariant
+loop-i-preserved c = sym (place_next _ _ _ (omega arith) c.if-text-i.false) ∙ c.loop-i.invariant
 
 pub returns : goal.returns
-returns c = sym (place_end _ _ _ (omega arith)) ∙ c.before.loop-i.invariant
+returns c = sym (place_end _ _ _ (omega arith)) ∙ c.loop-i.invariant

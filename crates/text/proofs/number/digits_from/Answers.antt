@@ -17,29 +17,29 @@ use Rattle.text.proofs.number.digits_from.Goals.{At-loop-end, Else-byte-gt-NINE}
 -- ---- a turn
 module _ (l : At-loop-end) where
   abbrev text : List ℕ
-  text = l.before.before.before.args.text.now
+  text = l.args.text.now
 
   abbrev start : ℕ
-  start = l.before.before.before.args.start
+  start = l.args.start
 
   abbrev most : ℕ
-  most = l.before.before.before.args.most
+  most = l.args.most
 
   abbrev here : ℕ
   here = l.loop-end.end
 
-  last_within : l.before.furthest-last.result ≤ length text
-  last_within = l.before.furthest-last.ensures.1
+  last_within : l.furthest-last.result ≤ length text
+  last_within = l.furthest-last.ensures.1
 
   small : l.loop-end.value < 10 ^ 18
-  small = small_18 l.loop-end.value (here - start) l.loop-end.invariant.2 (omega (arith, l.loop-end.invariant.1, l.before.furthest-last.ensures.2, l.before.before.before.requires.0))
+  small = small_18 l.loop-end.value (here - start) l.loop-end.invariant.2 (omega (arith, l.loop-end.invariant.1, l.furthest-last.ensures.2, l.requires.0))
 
   -- the digits end here
   stopped : (here < length text → here < start + most → no_digit (get_or text here 0) ≡ true) → Spans most text start (record { value = l.loop-end.value; end = here })
   stopped s = record {
     from = l.loop-end.invariant.0;
     within = omega (arith, l.loop-end.invariant.1, last_within);
-    few = omega (arith, l.loop-end.invariant.1, l.before.furthest-last.ensures.2);
+    few = omega (arith, l.loop-end.invariant.1, l.furthest-last.ensures.2);
     value = l.loop-end.invariant.3;
     small = small;
     stop = s;
@@ -47,23 +47,23 @@ module _ (l : At-loop-end) where
 
 pub loop-end-init : goal.loop-end-init
 loop-end-init c =
-    let a = c.before.before.args in let none : a.start - a.start ≡ 0 = omega arith in
+    let a = c.args in let none : a.start - a.start ≡ 0 = omega arith in
     (omega arith, c.furthest-last.ensures.0, rw none (omega arith), span_none a.text.now a.start)
 
 pub bounds-text-end : goal.bounds-text-end
-bounds-text-end c = omega (arith, last_within c.before.before)
+bounds-text-end c = omega (arith, last_within (record { before = c.before.before.before; type_inv = record { text = c.shared_slice_known-1.given } }))
 
 pub returns-then-byte-lt-ZERO : goal.returns-then-byte-lt-ZERO
-returns-then-byte-lt-ZERO c = let l = c.before.before.before in stopped l (λ a b. rw (lt-ltb (get_or (text l) (here l) 0) 48 c.if-byte-lt-ZERO.true))
+returns-then-byte-lt-ZERO c = let l : At-loop-end = record { before = c.before.before.before.before; type_inv = record { text = c.shared_slice_known-1.given } } in stopped l (λ a b. rw (lt-ltb (get_or (text l) (here l) 0) 48 c.if-byte-lt-ZERO.true))
 
 pub returns-then-byte-gt-NINE : goal.returns-then-byte-gt-NINE
 returns-then-byte-gt-NINE c =
-    let l = c.before.before.before.before in
+    let l : At-loop-end = record { before = c.before.before.before.before.before; type_inv = record { text = c.shared_slice_known-1.given } } in
     stopped l (λ a b. rw (le-ltb (get_or (text l) (here l) 0) 48 (omega arith), lt-ltb 57 (get_or (text l) (here l) 0) c.if-byte-gt-NINE.true))
 
 -- past the tests: a digit
 abbrev turn : Else-byte-gt-NINE → At-loop-end
-turn c = c.before.before.before.before
+turn c = (record { before = c.before.before.before.before.before; type_inv = record { text = c.shared_slice_known-1.given } })
 
 pub overflow_mul-value : goal.overflow_mul-value
 overflow_mul-value c = omega (arith, small (turn c))
@@ -86,5 +86,5 @@ loop-end-preserved c =
 
 pub returns : goal.returns
 returns c =
-    let l = c.before in
-    stopped l (λ a b. absurd (omega (arith, b, l.loop-end.invariant.1, l.before.furthest-last.ensures.3 (omega (arith, a, l.loop-end.invariant.1)))))
+    let l : At-loop-end = record { before = c.before.before; type_inv = record { text = c.shared_slice_known-1.given } } in
+    stopped l (λ a b. absurd (omega (arith, b, l.loop-end.invariant.1, l.furthest-last.ensures.3 (omega (arith, a, l.loop-end.invariant.1)))))

@@ -23,16 +23,16 @@ use Rattle.text.proofs.row.read.Goals.{At-loop-i, In-Value}
 -- ---- a turn
 module _ (l : At-loop-i) where
   abbrev file : List ℕ
-  file = l.before.before.args.file.now
+  file = l.args.file.now
 
   abbrev most : ℕ
-  most = l.before.before.args.most
+  most = l.args.most
 
   abbrev start : ℕ
-  start = l.before.before.args.start
+  start = l.args.start
 
   abbrev count : ℕ
-  count = l.before.before.args.count
+  count = l.args.count
 
   -- what is left is no row, so there is none
   no_row : row_within most file l.loop-i.at (count - l.loop-i.i) ≡ none → row_within most file start count ≡ none
@@ -42,37 +42,37 @@ module _ (l : At-loop-i) where
 -- ---- a number, up to a tab
 module _ (c : In-Value) where
   abbrev turn : At-loop-i
-  turn = c.before.before.before.before.before
+  turn = (record { before = c.before.before.before.before; type_inv = record { file = c.shared_slice_known-1.given } })
 
   abbrev value : ℤ
-  value = c.before.number-1.given.0.0
+  value = c.in-Value.value
 
   inside : turn.loop-i.i < count turn - 1
   inside = omega arith
 
   reads : number_to (most turn) TAB (file turn) turn.loop-i.at ≡ Value value
-  reads = sym c.before.before.before.read_to-field.ensures.number ∙ c.before.number-1.given.1
+  reads = sym c.read_to-field.ensures.number ∙ c.in-Value.is
 
-  next : c.before.before.before.read_to-field.result.next ≡ place_from TAB (file turn) turn.loop-i.at + 1
-  next = c.before.before.before.read_to-field.ensures.next value c.before.number-1.given.1
+  next : c.read_to-field.result.next ≡ place_from TAB (file turn) turn.loop-i.at + 1
+  next = c.read_to-field.ensures.next value c.in-Value.is
 
 pub loop-i-init : goal.loop-i-init
 loop-i-init c =
-    let a = c.before.args in let all : a.count - 0 ≡ a.count = omega arith in
-    (omega arith, c.before.requires.1, refl, rw all (prepend_nothing (row_within a.most a.file.now a.start a.count)), refl)
+    let a = c.args in let all : a.count - 0 ≡ a.count = omega arith in
+    (omega arith, c.requires.1, refl, rw all (prepend_nothing (row_within a.most a.file.now a.start a.count)), refl)
 
 pub read_to-field-requires : goal.read_to-field-requires
-read_to-field-requires c = (c.before.before.before.requires.0, c.before.loop-i.invariant.1, omega arith)
+read_to-field-requires c = (c.requires.0, c.loop-i.invariant.1, omega arith)
 
 pub shape_of-x-in_default : goal.shape_of-x-in_default
-shape_of-x-in_default c = c.before.before.before.before.loop-i.invariant.2
+shape_of-x-in_default c = c.loop-i.invariant.2
 
 pub returns-in_default : goal.returns-in_default
 unfolding row_values
 returns-in_default c =
-    let l = c.before.before.before.before in
+    let l : At-loop-i = record { before = c.before.before.before.before; type_inv = record { file = c.shared_slice_known-1.given } } in
     let two : count l - l.loop-i.i ≡ suc (suc (count l - l.loop-i.i - 2)) = omega arith in
-    let none = no_row l (rw two (tab_none (most l) (file l) l.loop-i.at (sym c.before.before.read_to-field.ensures.number ∙ c.enum_told-1.given.1) _)) in
+    let none = no_row l (rw two (tab_none (most l) (file l) l.loop-i.at (sym c.read_to-field.ensures.number ∙ c.in_default.is) _)) in
     record {
       end = row_none (most l) (file l) (start l) (count l) none;
       values = rw none;
@@ -80,7 +80,7 @@ returns-in_default c =
     }
 
 pub bounds-x-i : goal.bounds-x-i
-bounds-x-i c = omega (arith, (turn c).loop-i.invariant.2, (turn c).before.before.requires.3)
+bounds-x-i c = omega (arith, (turn c).loop-i.invariant.2, (turn c).requires.3)
 
 pub loop-i-smaller : goal.loop-i-smaller
 loop-i-smaller c = omega (arith, inside c)
@@ -98,17 +98,17 @@ loop-i-preserved c =
 
 -- ---- the last number, up to the LF
 pub read_to-field-requires-2 : goal.read_to-field-requires-2
-read_to-field-requires-2 c = (c.before.before.before.requires.0, c.before.loop-i.invariant.1, omega arith)
+read_to-field-requires-2 c = (c.requires.0, c.loop-i.invariant.1, omega arith)
 
 pub shape_of-x-in_default-number : goal.shape_of-x-in_default-number
-shape_of-x-in_default-number c = c.before.before.before.before.loop-i.invariant.2
+shape_of-x-in_default-number c = c.loop-i.invariant.2
 
 pub returns-in_default-number : goal.returns-in_default-number
 unfolding row_values
 returns-in_default-number c =
-    let l = c.before.before.before.before in
-    let one : count l - l.loop-i.i ≡ 1 = omega (arith, l.loop-i.invariant.0, l.before.before.requires.2) in
-    let none = no_row l (rw one (last_none (most l) (file l) l.loop-i.at (sym c.before.before.read_to-field-2.ensures.number ∙ c.enum_told-in_default-number-1.given.1))) in
+    let l : At-loop-i = record { before = c.before.before.before.before; type_inv = record { file = c.shared_slice_known-1.given } } in
+    let one : count l - l.loop-i.i ≡ 1 = omega (arith, l.loop-i.invariant.0, l.requires.2) in
+    let none = no_row l (rw one (last_none (most l) (file l) l.loop-i.at (sym c.read_to-field-2.ensures.number ∙ c.in_default-number.is))) in
     record {
       end = row_none (most l) (file l) (start l) (count l) none;
       values = rw none;
@@ -116,17 +116,17 @@ returns-in_default-number c =
     }
 
 pub bounds-x-last : goal.bounds-x-last
-bounds-x-last c = let l = c.before.before.before.before.before in omega (arith, l.loop-i.invariant.2, l.before.before.requires.2, l.before.before.requires.3)
+bounds-x-last c = omega (arith, c.loop-i.invariant.2, c.requires.2, c.requires.3)
 
 pub shape_of-x : goal.shape_of-x
-shape_of-x c = let l = c.before.before.before.before.before in length-set l.loop-i.x _ _ ∙ l.loop-i.invariant.2
+shape_of-x c = length-set c.loop-i.x _ _ ∙ c.loop-i.invariant.2
 
 pub returns : goal.returns
 unfolding row_values
 returns c =
-    let l = c.before.before.before.before.before in let z = c.before.number-in-Value-number-2-1.given.0.0 in
-    let said = c.before.number-in-Value-number-2-1.given.1 in let r = c.before.before.before.read_to-field-2 in
-    let one : count l ≡ l.loop-i.i + 1 = omega (arith, l.loop-i.invariant.0, l.before.before.requires.2) in
+    let l : At-loop-i = record { before = c.before.before.before.before; type_inv = record { file = c.shared_slice_known-1.given } } in let z = c.in-Value-number.value in
+    let said = c.in-Value-number.is in let r = c.read_to-field-2 in
+    let one : count l ≡ l.loop-i.i + 1 = omega (arith, l.loop-i.invariant.0, l.requires.2) in
     let i : count l - 1 ≡ l.loop-i.i = omega (arith, one) in
     let x = l.loop-i.x in let y = to_z w64 (of_z w64 z) in
     let row : row_within (most l) (file l) (start l) (count l) ≡ some (take (count l) (set x (count l - 1) y)) =

@@ -13,18 +13,16 @@ use Rattle.text.proofs.writer.put_signed.Goals.{After-put}
 
 pub put-requires : goal.put-requires
 put-requires c =
-    let b = c.before.before.before in let s = b.before.before.before in
-    rw (read s.ranges.z) (omega (arith, s.requires, b.put_byte-next.ensures.place, wrote_length b.put_byte-next.ensures, written_most s.args.z))
+    rw (read c.ranges.z) (omega (arith, c.requires, c.put_byte-next.ensures.place, wrote_length c.put_byte-next.ensures, written_most c.args.z))
 
 -- the number, written after the tab
-number : (c : After-put) → Wrote c.before.before.before.before.put_byte-next.new.0 c.before.before.before.before.put_byte-next.result (written (to_z w64 (of_z w64 c.before.before.before.before.before.before.before.args.z))) c.put.new.0 c.put.result
+number : (c : After-put) → Wrote c.put_byte-next.new.out c.put_byte-next.result (written (to_z w64 (of_z w64 c.args.z))) c.put.new.out c.put.result
 number c = record { buffer = c.put.ensures.list; place = c.put.ensures.next }
 
 pub shape_of-out : goal.shape_of-out
 shape_of-out c =
-    let p = c.before.before in let b = p.before.before.before.before in wrote_length (number p) ∙ wrote_length b.put_byte-next.ensures
+    let p = c.before.before.before in wrote_length (number p) ∙ wrote_length p.put_byte-next.ensures
 
 pub returns : goal.returns
 returns c =
-    let p = c.before.before in let b = p.before.before.before.before in let s = b.before.before.before in
-    read_signed s.args.z s.ranges.z (then b.put_byte-next.ensures (number p))
+    let p = c.before.before.before in read_signed p.args.z p.ranges.z (then p.put_byte-next.ensures (number p))

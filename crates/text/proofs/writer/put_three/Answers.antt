@@ -10,7 +10,7 @@ use Rattle.text.proofs.writer.put_three.Goals.{After-put_byte-second, After-put_
 abbrev start1 : After-put_byte-second → Start
 start1 c = c.before.before.before
 
-come1 : (c : After-put_byte-second) → Come (start1 c).args.out.now (start1 c).args.at 1 c.put_byte-second.new.0 c.put_byte-second.result
+come1 : (c : After-put_byte-second) → Come (start1 c).args.out.now (start1 c).args.at 1 c.put_byte-second.new.out c.put_byte-second.result
 come1 c = come c.put_byte-second.ensures
 
 pub put_byte-third-requires : goal.put_byte-third-requires
@@ -19,21 +19,17 @@ put_byte-third-requires c = let b = c.before.before.before in omega (arith, (sta
 abbrev start2 : After-put_byte-third → Start
 start2 c = start1 c.before.before.before.before
 
-come2 : (c : After-put_byte-third) → Come (start2 c).args.out.now (start2 c).args.at 2 c.put_byte-third.new.0 c.put_byte-third.result
+come2 : (c : After-put_byte-third) → Come (start2 c).args.out.now (start2 c).args.at 2 c.put_byte-third.new.out c.put_byte-third.result
 come2 c = come_on 1 (come1 c.before.before.before.before) (omega arith) c.put_byte-third.ensures
 
 pub put_byte-requires : goal.put_byte-requires
 put_byte-requires c = let b = c.before.before.before in omega (arith, (start2 b).requires, (come2 b).far, (come2 b).kept)
 
 pub shape_of-out : goal.shape_of-out
-shape_of-out c = let b = c.before.before in wrote_length b.put_byte.ensures ∙ (come2 b.before.before.before.before).kept
+shape_of-out c = wrote_length c.put_byte.ensures ∙ (come2 (record { before = c.before.before.before.before.before; type_inv = record { out = c.slice_known-3-1.given } })).kept
 
 pub returns : goal.returns
 returns c =
-    let e3 = c.before.before in
-    let e2 = e3.before.before.before.before in
-    let e1 = e2.before.before.before.before in
-    let s = e1.before.before.before in
-    (then e1.put_byte-second.ensures
-    (then e2.put_byte-third.ensures
-    e3.put_byte.ensures))
+    (then c.put_byte-second.ensures
+    (then c.put_byte-third.ensures
+    c.put_byte.ensures))

@@ -9,5 +9,5 @@ use Rattle.totals.proofs.adding.faulty.Goals as goal
 pub returns : goal.returns
 unfolding faulty
 returns c =
-    let t = c.before.before.args.t in let at_fault : ℕ → Tally = λ n. record { line = t.line; due = t.due; nets = t.nets; counted = t.counted; past = t.past; fault = n; sum = t.sum-1 } in
+    let t = c.args.t in let at_fault : ℕ → Tally = λ n. record { line = t.line; due = t.due; nets = t.nets; counted = t.counted; past = t.past; fault = n; sum = t.sum } in
     ap at_fault c.line_after.ensures

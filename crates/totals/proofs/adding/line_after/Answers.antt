@@ -7,8 +7,8 @@ use Rattle.totals.proofs.adding.line_after.Goals as goal
 
 pub returns-then-line-lt-MOST_TOTAL : goal.returns-then-line-lt-MOST_TOTAL
 unfolding line_after
-returns-then-line-lt-MOST_TOTAL c = rw (lt-ltb c.before.args.line most_total c.if-line-lt-MOST_TOTAL.true)
+returns-then-line-lt-MOST_TOTAL c = rw (lt-ltb c.args.line most_total c.if-line-lt-MOST_TOTAL.true)
 
 pub returns-else-line-lt-MOST_TOTAL : goal.returns-else-line-lt-MOST_TOTAL
 unfolding line_after
-returns-else-line-lt-MOST_TOTAL c = rw (le-ltb c.before.args.line most_total c.if-line-lt-MOST_TOTAL.false)
+returns-else-line-lt-MOST_TOTAL c = rw (le-ltb c.args.line most_total c.if-line-lt-MOST_TOTAL.false)

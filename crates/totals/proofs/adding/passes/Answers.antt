@@ -12,8 +12,8 @@ use Rattle.totals.proofs.adding.passes.Goals as goal
 use Rattle.totals.proofs.adding.passes.Goals.{After-too_large}
 
 -- the first number, at its place
-first : (c : After-too_large) → let a = c.before.before.args in too_large (place_of a.due) (get_or a.t1 (place_of a.due) 0) a.x ≡ c.too_large.result
-first c = let a = c.before.before.args in sym (c.too_large.ensures ∙ ap (λ (k : ℕ). too_large k (get_or a.t1 k 0) a.x) c.before.place_of-place.ensures.place)
+first : (c : After-too_large) → let a = c.args in too_large (place_of a.due) (get_or a.sum (place_of a.due) 0) a.x ≡ c.too_large.result
+first c = let a = c.args in sym (c.too_large.ensures ∙ ap (λ (k : ℕ). too_large k (get_or a.sum k 0) a.x) c.place_of-place.ensures.place)
 
 pub returns-then-too_large : goal.returns-then-too_large
 unfolding passes
@@ -21,16 +21,14 @@ returns-then-too_large c = rw (first c.before ∙ c.if-too_large.true)
 
 pub bounds-sum-place-then-pair_on : goal.bounds-sum-place-then-pair_on
 bounds-sum-place-then-pair_on c =
-    let p = c.before in let f = p.before.before in let s = f.before.before in
-    omega (arith, f.before.place_of-place.ensures.place, pair_within s.args.due (sym p.pair_on.ensures ∙ c.if-pair_on.true))
+    omega (arith, c.place_of-place.ensures.place, pair_within c.args.due (sym c.pair_on.ensures ∙ c.if-pair_on.true))
 
 pub returns-then-pair_on : goal.returns-then-pair_on
 unfolding passes
 returns-then-pair_on c =
-    let t = c.before in let p = t.before in let l = p.before in let f = l.before in let s = f.before.before in
-    rw (first f ∙ l.if-too_large.false, sym p.pair_on.ensures ∙ t.if-pair_on.true) (c.too_large-then-pair_on.ensures ∙ ap (λ (k : ℕ). too_large (k + 1) (get_or s.args.t1 (k + 1) 0) s.args.y) f.before.place_of-place.ensures.place)
+    let f = c.before.before.before.before in rw (first f ∙ c.if-too_large.false, sym c.pair_on.ensures ∙ c.if-pair_on.true) (c.too_large-then-pair_on.ensures ∙ ap (λ (k : ℕ). too_large (k + 1) (get_or f.args.sum (k + 1) 0) f.args.y) f.place_of-place.ensures.place)
 
 pub returns : goal.returns
 unfolding passes
 returns c =
-    let p = c.before in let l = p.before in rw (first l.before ∙ l.if-too_large.false, sym p.pair_on.ensures ∙ c.if-pair_on.false)
+    rw (first c.before.before.before ∙ c.if-too_large.false, sym c.pair_on.ensures ∙ c.if-pair_on.false)

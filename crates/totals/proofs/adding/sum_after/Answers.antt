@@ -7,8 +7,8 @@ unfolding sum_after
 returns-then-past c = rw c.if-past.true
 
 pub added-requires : goal.added-requires
-added-requires c = c.before.requires c.if-past.false
+added-requires c = c.requires c.if-past.false
 
 pub returns : goal.returns
 unfolding sum_after
-returns c = rw c.before.if-past.false c.added.ensures
+returns c = rw c.if-past.false c.added.ensures

@@ -6,7 +6,7 @@ use Rattle.totals.proofs.report.put_last.Goals as goal
 
 pub returns-then-past : goal.returns-then-past
 returns-then-past c =
-    let p = c.before.before in rewrote (last_past _ p.before.before.if-past.true) p.Put-refused.ensures
+    rewrote (last_past _ c.if-past.true) c.Put-refused.ensures
 
 pub returns : goal.returns
-returns c = let a = c.before.before.args in rewrote (last_none a.past c.if-past.false) (nothing_wrote a.out-1.now a.at)
+returns c = let a = c.args in rewrote (last_none a.past c.if-past.false) (nothing_wrote a.out.now a.at)

@@ -13,22 +13,19 @@ use Rattle.totals.proofs.report.put_line.Goals as goal
 use Rattle.totals.proofs.report.put_line.Goals.{After-put_head-head}
 
 -- how far the head has come
-headed : (c : After-put_head-head) → let a = c.before.before.before.before.args in Come a.out-1.now a.at 27 c.put_head-head.new.0 c.put_head-head.result
-headed c = come_within 27 (head_most c.before.before.before.before.args.line) c.put_head-head.ensures
+headed : (c : After-put_head-head) → let a = c.args in Come a.out.now a.at 27 c.put_head-head.new.out c.put_head-head.result
+headed c = come_within 27 (head_most c.args.line) c.put_head-head.ensures
 
 pub put_count-first-requires : goal.put_count-first-requires
 put_count-first-requires c =
-    let p = c.before.before in let h = p.before.before.before in let s = h.before.before.before.before in
-    omega (arith, s.requires.0, (headed h).far, (headed h).kept)
+    let h : After-put_head-head = record { before = c.before.before.before.before.before.before; type_inv = record { totals = c.shared_slice_known-1.given } } in omega (arith, h.requires.0, (headed h).far, (headed h).kept)
 
 pub put_ending-requires : goal.put_ending-requires
 put_ending-requires c =
-    let n = c.before.before.before in let h = n.before.before.before.before.before.before in let s = h.before.before.before.before in
-    let f = count_on _ (headed h) n.put_count-first.ensures in (omega (arith, s.requires.0, f.far, f.kept), s.requires.1)
+    let h : After-put_head-head = record { before = c.before.before.before.before.before.before.before.before.before.before; type_inv = record { totals = c.shared_slice_known-1.given } } in let f = count_on _ (headed h) c.put_count-first.ensures in (omega (arith, h.requires.0, f.far, f.kept), h.requires.1)
 
 pub returns : goal.returns
 unfolding line_of
 returns c =
-    let e = c.before.before in let n = e.before.before.before.before in let p = n.before.before.before in let h = p.before.before.before in let s = h.before.before.before.before in
-    let totals = s.args.totals.now in
-    rewrote (ap (λ (k : ℕ). head_of s.args.line ++ (count_field (get_or totals k 0) ++ ending_of totals s.args.line)) p.place_of-place.ensures.place) (then h.put_head-head.ensures (then n.put_count-first.ensures e.put_ending.ensures))
+    let totals = c.args.totals.now in
+    rewrote (ap (λ (k : ℕ). head_of c.args.line ++ (count_field (get_or totals k 0) ++ ending_of totals c.args.line)) c.place_of-place.ensures.place) (then c.put_head-head.ensures (then c.put_count-first.ensures c.put_ending.ensures))
