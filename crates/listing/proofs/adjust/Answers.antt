@@ -18,7 +18,7 @@ module _ (t : After-table-tabled) where
   start = t.before.before.before.before.before.before.before.before.before.before.before
 
   roomy : room_of start.args.sheet ≤ length start.args.out.now
-  roomy = omega (arith, t.if-out-room.left, t.room.ensures)
+  roomy = omega (arith, t.if-out-room.false, t.room.ensures)
 
 pub returns-then-out-room : goal.returns-then-out-room
 returns-then-out-room c =

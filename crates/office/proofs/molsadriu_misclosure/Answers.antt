@@ -22,7 +22,7 @@ returns-in_default c =
 
 -- the value that is written is the one that the library gave
 value_read : (c : In-Value) → let w = c.in-Value.value in to_z w64 (of_z w64 w) ≡ w
-value_read c = to_z-of_z w64 c.in-Value.value (record { sfits = c.known_told-in-Value-1.given.0.1 })
+value_read c = to_z-of_z w64 c.in-Value.value (record { sfits = (search rules) })
 
 pub returns-in-Value : goal.returns-in-Value
 returns-in-Value c =

@@ -20,4 +20,4 @@ returns-in-No c =
 pub returns-in-Refused : goal.returns-in-Refused
 unfolding answer_line
 returns-in-Refused c =
-    rewrote (ap (λ (v : Verdict). refused_line v.number v.place) c.refuse-verdict.ensures ∙ ap answer_line (sym c.in-Refused.is)) c.Put-refused.ensures
+    rewrote (ap (λ (v : Verdict). refused_line v.number v.place) c.refuse-verdict.ensures ∙ ap answer_line (sym c.in-Refused.is)) c.put_refused.ensures

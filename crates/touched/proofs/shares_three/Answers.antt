@@ -7,4 +7,4 @@ use Rattle.touched.proofs.shares_three.Goals as goal
 pub returns : goal.returns
 returns c =
     let a = c.args in
-    c.some_Share.ensures ∙ shares_three_lem a.a.now a.m a.n c.words-all.result c.words-all.ensures
+    c.some_share.ensures ∙ shares_three_lem a.a.now a.m a.n c.words-all.result c.words-all.ensures

@@ -44,7 +44,7 @@ put_ks-requires c =
     (omega (arith, pre.0, (come2 b).far, (come2 b).kept), pre.1.1.1)
 
 pub shape_of-out : goal.shape_of-out
-shape_of-out c = wrote_length c.put_ks.ensures ∙ (come2 (record { before = c.before.before.before.before.before; type_inv = record { out = c.slice_known-3-1.given } })).kept
+shape_of-out c = wrote_length c.put_ks.ensures ∙ (come2 c.before.before.before.before.before.before.before).kept
 
 pub returns : goal.returns
 returns c =

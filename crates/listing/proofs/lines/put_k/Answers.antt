@@ -8,7 +8,7 @@ use Rattle.text.proofs.Putting.{Come, rewrote, then, wrote_length, read_signed, 
 use Rattle.page.specs.Lines.{line_head}
 use Rattle.page.proofs.Composing.{head_most}
 use Rattle.listing.proofs.lines.put_k.Goals as goal
-use Rattle.listing.proofs.lines.put_k.Goals.{After-put_head-third, After-put_signed-end, After-slice_known-3-1, Start}
+use Rattle.listing.proofs.lines.put_k.Goals.{After-put_head-third, After-put_signed-end, Start}
 
 -- what has been written, and how far it has come
 abbrev start1 : After-put_head-third → Start
@@ -17,7 +17,7 @@ start1 c = c.before.before.before
 headed :
     (c : After-put_head-third) →
     let s = start1 c in Wrote s.args.out.now s.args.at (line_head 75 s.args.condition s.args.k s.args.r) c.put_head-third.new.out c.put_head-third.result
-headed c = let s = start1 c in rewrote (ap₂ (line_head 75 s.args.condition) (read s.fits.k) (read s.fits.r)) c.put_head-third.ensures
+headed c = let s = start1 c in rewrote (ap₂ (line_head 75 s.args.condition) (read s.ranges.k) (read s.ranges.r)) c.put_head-third.ensures
 
 come1 : (c : After-put_head-third) → Come (start1 c).args.out.now (start1 c).args.at 67 c.put_head-third.new.out c.put_head-third.result
 come1 c = let s = start1 c in come_within 67 (head_most 75 s.args.condition s.args.k s.args.r) (headed c)
@@ -39,7 +39,7 @@ shape_of-out c = wrote_length c.put_byte.ensures ∙ (come2 c.before.before.befo
 
 pub returns : goal.returns
 returns c =
-    let e1 : After-slice_known-3-1 = record { before = c.before.before.before.before.before; type_inv = record { out = c.slice_known-3-1.given } } in
+    let e1 = c.before.before.before.before.before.before.before.before.before.before.before in
     (then (headed e1)
     (then (read_signed e1.args.q e1.ranges.q c.put_signed-end.ensures)
     c.put_byte.ensures))

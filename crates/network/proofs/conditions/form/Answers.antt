@@ -33,12 +33,12 @@ module _ (e : After-coefficients-checked) where
   row_reply : coefficients_reply (lent_of directions q asked) (length directions) ≡ e.coefficients-checked.result
   unfolding lent_of
   row_reply =
-      let f = start.fits.target in
+      let f = start.ranges.target in
       sym (e.coefficients-checked.ensures.answer ∙ rw start.requires (simp to_z-of_z))
 
   row_list : e.coefficients-checked.new.a ≡ coefficients_list (lent_of directions q asked) start.args.row.now
   unfolding lent_of
-  row_list = let f = start.fits.target in e.coefficients-checked.ensures.list ∙ simp to_z-of_z
+  row_list = let f = start.ranges.target in e.coefficients-checked.ensures.list ∙ simp to_z-of_z
 
 -- and what the one on the misclosure has said
 module _ (g : After-misclosure-closed) where
@@ -50,7 +50,7 @@ module _ (g : After-misclosure-closed) where
 
   figure : misclosure_figure (lent_of (directions formed) (q formed) (asked formed)) ≡ g.misclosure-closed.result
   unfolding lent_of
-  figure = let f = (start formed).fits.target in sym (g.misclosure-closed.ensures.answer ∙ simp to_z-of_z)
+  figure = let f = (start formed).ranges.target in sym (g.misclosure-closed.ensures.answer ∙ simp to_z-of_z)
 
 pub returns-in-Refused : goal.returns-in-Refused
 returns-in-Refused c =
@@ -62,9 +62,9 @@ returns-in-Refused c =
 
 pub returns-in-Value : goal.returns-in-Value
 returns-in-Value c =
-    let g = c.before in let e = formed g in let v = c.closed-1.given in record {
-      figure = ap Value (read_at v.0.0 c.known_told-1.given.0.1)
-          ∙ closing_accepted (directions e) (q e) (start e).args.j (asked e) (accepted g) v.0.0 (figure g ∙ v.1);
+    let g = c.before in let e = formed g in record {
+      figure = ap Value (read_at c.in-Value.w (search rules))
+          ∙ closing_accepted (directions e) (q e) (start e).args.j (asked e) (accepted g) c.in-Value.w (figure g ∙ c.in-Value.is);
       list = row_list e;
     }
 

@@ -128,7 +128,7 @@ module _ (c : After-form_at-closed) where
   line = (record { before = c.before.before.before; type_inv = record { file = c.shared_slice_known-1.given } })
 
   asked : headed (kind line) (to_z w64 (of_z w64 (target line))) (net_from (file line) (next line)).pending ≡ condition line
-  asked = ap (λ (z : ℤ). headed (kind line) z (net_from (file line) (next line)).pending) (read_at (target line) line.known_told-1.given.1.0.1)
+  asked = ap (λ (z : ℤ). headed (kind line) z (net_from (file line) (next line)).pending) (read_at (target line) (search rules))
 
   wide : (loop line).loop-kind.at + length (directions line) - (loop line).loop-kind.at ≡ length (directions line)
   wide = omega arith
@@ -181,10 +181,10 @@ loop-kind-smaller c = let e : After-form_at-closed = record { before = c.before.
 
 pub loop-kind-preserved : goal.loop-kind-preserved
 loop-kind-preserved c =
-    let e : After-form_at-closed = record { before = c.before.before.before.before; type_inv = record { file = c.shared_slice_known-1.given } } in let k = line e in let l = loop k in let v = c.figure-1.given in (
+    let e : After-form_at-closed = record { before = c.before.before.before.before; type_inv = record { file = c.shared_slice_known-1.given } } in let k = line e in let l = loop k in (
       same_left e.form_at-closed.ensures.closed.conditions
-          (form_more l.loop-kind.invariant.0 (here k) (few k) (narrow k) _ (old k) _ (listed e) (old_long k) (wide e) v.0.0 (sym (figured e) ∙ v.1) _ _
-          (read_at v.0.0 c.known_told-in-Value-1.given.0.1) c.letter_of.ensures),
+          (form_more l.loop-kind.invariant.0 (here k) (few k) (narrow k) _ (old k) _ (listed e) (old_long k) (wide e) c.in-Value.x (sym (figured e) ∙ c.in-Value.is) _ _
+          (read_at c.in-Value.x (search rules)) c.letter_of.ensures),
       e.form_at-closed.ensures.closed.within,
       e.form_at-closed.ensures.closed.opened,
       e.form_at-closed.ensures.after,

@@ -6,7 +6,7 @@ use Rattle.network.proofs.conditions.heading_of.Goals as goal
 
 pub returns-in-Angles : goal.returns-in-Angles
 unfolding heading_in
-returns-in-Angles c = rw (c.in-Angles.is, read_at c.in-Angles.target c.known_told-1.given.0.1)
+returns-in-Angles c = rw (c.in-Angles.is, read_at c.in-Angles.target (search rules))
 
 pub returns-in-Sides : goal.returns-in-Sides
 unfolding heading_in

@@ -27,7 +27,7 @@ shape_of-q-in_default c = c.loop-x.invariant.q_long ∙ sym c.requires.direction
 pub returns-in_default : goal.returns-in_default
 returns-in_default c =
     record {
-      directions = read_all c.loop-x.invariant (directions_stop c.args.file.now c.loop-x.start c.read-turn.result.said c.read-turn.ensures.said c.in-Direction.keys2 c.loop-x.invariant.led);
+      directions = read_all c.loop-x.invariant (directions_stop c.args.file.now c.loop-x.start c.read-turn.result.said c.read-turn.ensures.said c.in_default.not-Direction c.loop-x.invariant.led);
       after = record { says = c.read-turn.ensures.said; after = c.read-turn.ensures.next };
     }
 
@@ -67,5 +67,4 @@ loop-x-smaller c = omega (arith, (on c).on, (on c).within)
 
 pub loop-x-preserved : goal.loop-x-preserved
 loop-x-preserved c =
-    let v = c.said-1.given in let f = c.known_told-1.given in
-    read_more (loop c).loop-x.invariant (on c) _ _ _ v.1 _ _ (read_at v.0.1.0 f.1.0.1) (read_at v.0.1.1.0 f.1.1.0.1) (room c)
+    read_more (loop c).loop-x.invariant (on c) _ _ _ c.in-Direction.is _ _ (read_at c.in-Direction.x (search rules)) (read_at c.in-Direction.g (search rules)) (room c)

@@ -19,8 +19,8 @@ returns-then-n-gt0 c = rw (lt-ltb 0 c.args.c.n c.if-n-gt0.true)
 no_condition : (c : Else-n-gt0) → ltb 0 c.args.c.n ≡ false
 no_condition c = le-ltb 0 c.args.c.n (omega arith)
 
-turn_test : (c : After-out_of_turn) → let a = c.args in c.out_of_turn_lem.result ≡ out_of_turn a.c.m a.number
-turn_test c = let f = c.ranges.number in c.out_of_turn_lem.ensures ∙ simp to_z-of_z
+turn_test : (c : After-out_of_turn) → let a = c.args in c.out_of_turn.result ≡ out_of_turn a.c.m a.number
+turn_test c = let f = c.ranges.number in c.out_of_turn.ensures ∙ simp to_z-of_z
 
 in_turn : (c : Else-out_of_turn) → let a = c.args in out_of_turn a.c.m a.number ≡ false
 in_turn c = sym (turn_test c.before) ∙ c.if-out_of_turn.false

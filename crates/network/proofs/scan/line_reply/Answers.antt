@@ -9,15 +9,14 @@ use Rattle.network.proofs.scan.line_reply.Goals as goal
 pub returns-in-Direction : goal.returns-in-Direction
 unfolding line_reply
 returns-in-Direction c =
-    let v = c.said-1.given in let h = c.known_told-1.given in
-    let f = fits_of_mag v.0.0 h.0.1 in let g = fits_of_mag v.0.1.0 h.1.0.1 in let j = fits_of_mag v.0.1.1.0 h.1.1.0.1 in
-    rw v.1 (c.direction_reply.ensures ∙ simp to_z-of_z)
+    let f = fits_of_mag c.in-Direction.number (search rules) in let g = fits_of_mag c.in-Direction.direction (search rules) in let j = fits_of_mag c.in-Direction.q (search rules) in
+    rw c.in-Direction.is (c.direction_reply.ensures ∙ simp to_z-of_z)
 
 pub returns-in-Angles : goal.returns-in-Angles
 unfolding line_reply
 returns-in-Angles c =
-    let v = c.said-in-Angles-1.given in let h = c.known_told-in-Angles-1.given in let f = fits_of_mag v.0.0 h.0.1 in
-    rw v.1 (c.angles_reply.ensures ∙ simp to_z-of_z)
+    let f = fits_of_mag c.in-Angles.target (search rules) in
+    rw c.in-Angles.is (c.angles_reply.ensures ∙ simp to_z-of_z)
 
 pub returns-in-Sides : goal.returns-in-Sides
 unfolding line_reply
@@ -26,10 +25,9 @@ returns-in-Sides c = rw c.in-Sides.is c.sides_reply.ensures
 pub returns-in-Term : goal.returns-in-Term
 unfolding line_reply
 returns-in-Term c =
-    let v = c.said-in-Term-1.given in let h = c.known_told-in-Term-1.given in
-    let f = fits_of_mag v.0.1.0 h.1.0.1 in let g = fits_of_mag v.0.1.1.0 h.1.1.0.1 in
-    let j = fits_of_mag v.0.1.1.1.0 h.1.1.1.0.1 in let l = fits_of_mag v.0.1.1.1.1.0 h.1.1.1.1.0.1 in
-    rw v.1 (c.term_reply.ensures ∙ simp to_z-of_z)
+    let f = fits_of_mag c.in-Term.value (search rules) in let g = fits_of_mag c.in-Term.d (search rules) in
+    let j = fits_of_mag c.in-Term.i (search rules) in let l = fits_of_mag c.in-Term.k (search rules) in
+    rw c.in-Term.is (c.term_reply.ensures ∙ simp to_z-of_z)
 
 pub returns-in-Unreadable : goal.returns-in-Unreadable
 unfolding line_reply

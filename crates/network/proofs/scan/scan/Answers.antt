@@ -44,7 +44,7 @@ module _ (l : At-loop-start) where
   onward = rw (le-ltb 65535 (length file) (omega arith)) l.loop-start.invariant.3
 
   low : Low counts
-  low = passed_low place counts (omega (arith, l.loop-start.invariant.1, l.loop-start.invariant.0, l.if-file-gt-MOST_BYTES.left)) l.loop-start.invariant.2
+  low = passed_low place counts (omega (arith, l.loop-start.invariant.1, l.loop-start.invariant.0, l.if-file-gt-MOST_BYTES.false)) l.loop-start.invariant.2
 
 -- ---- a turn that has read a line and its reply
 module _ (c : After-line_reply-checked) where
@@ -54,12 +54,12 @@ module _ (c : After-line_reply-checked) where
   inside : start turn < length (file turn)
   inside = c.loop-start-test.true
 
-  replied : line_reply (place turn) (counts turn) (said_at (file turn) (start turn)) ≡ c.Line-Reply.result
-  replied = ap (line_reply (place turn) (counts turn)) (sym c.read-turn.ensures.said) ∙ sym c.Line-Reply.ensures
+  replied : line_reply (place turn) (counts turn) (said_at (file turn) (start turn)) ≡ c.line_reply-checked.result
+  replied = ap (line_reply (place turn) (counts turn)) (sym c.read-turn.ensures.said) ∙ sym c.line_reply-checked.ensures
 
-  module _ (e : c.Line-Reply.result ≡ Accepted) where
+  module _ (e : c.line_reply-checked.result ≡ Accepted) where
     accepted : line_reply (place turn) (counts turn) c.read-turn.result.said ≡ Accepted
-    accepted = sym c.Line-Reply.ensures ∙ e
+    accepted = sym c.line_reply-checked.ensures ∙ e
 
     next : c.read-turn.result.next ≡ place_from LF (file turn) (start turn) + 1
     next = c.read-turn.ensures.next (readable (place turn) (counts turn) c.read-turn.result.said accepted)
@@ -82,7 +82,7 @@ pub counted-counts-requires : goal.counted-counts-requires
 counted-counts-requires c = low (turn (record { before = c.before.before; type_inv = record { file = c.shared_slice_known-1.given } }))
 
 pub overflow_add-place : goal.overflow_add-place
-overflow_add-place c = let e : After-line_reply-checked = record { before = c.before.before.before; type_inv = record { file = c.shared_slice_known-1.given } } in let l = turn e in omega (arith, inside e, l.loop-start.invariant.1, l.if-file-gt-MOST_BYTES.left)
+overflow_add-place c = let e : After-line_reply-checked = record { before = c.before.before.before; type_inv = record { file = c.shared_slice_known-1.given } } in let l = turn e in omega (arith, inside e, l.loop-start.invariant.1, l.if-file-gt-MOST_BYTES.false)
 
 pub loop-start-smaller : goal.loop-start-smaller
 loop-start-smaller c = let e : After-line_reply-checked = record { before = c.before.before.before; type_inv = record { file = c.shared_slice_known-1.given } } in let w = on e c.in_default.is in omega (arith, w.on, w.within)

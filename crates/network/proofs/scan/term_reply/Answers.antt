@@ -15,11 +15,11 @@ use Rattle.network.proofs.scan.term_reply.Goals.{After-term_fault, Else-not-belo
 
 pub returns-then-not-belongs : goal.returns-then-not-belongs
 unfolding term_reply
-returns-then-not-belongs c = rw (ap not (sym c.belongs.ensures) ∙ c.if-not-belongs.true)
+returns-then-not-belongs c = rw (ap not (sym c.belongs.ensures ∙ c.if-not-belongs.true))
 
 -- ---- what each test found, and what is known past it
 fitting : (c : Else-not-belongs) → let a = c.args in not (belongs a.c.heading a.letter) ≡ false
-fitting c = ap not (sym c.belongs.ensures) ∙ c.if-not-belongs.false
+fitting c = ap not (sym c.belongs.ensures ∙ c.if-not-belongs.false)
 
 few : (c : Else-terms-ge-MOST_TERMS) → leb 12 c.args.c.terms ≡ false
 few c = lt-leb 12 c.args.c.terms (omega arith)

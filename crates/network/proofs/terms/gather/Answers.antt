@@ -11,6 +11,7 @@ use Rattle.exact.proofs.Bound.{read_at}
 use Rattle.network.specs.Turns.{Readable}
 use Rattle.network.proofs.Walking.{Walked, walked, terms_stop}
 use Rattle.network.proofs.Reading.{Gathering, gather_none, gather_room, gather_more, gathered}
+use Rattle.std.proofs.lemmas.Int.{ints}
 use Rattle.network.proofs.terms.gather.Goals as goal
 use Rattle.network.proofs.terms.gather.Goals.{At-loop-letter, In-Term}
 
@@ -38,7 +39,7 @@ shape_of-ks-in_default c = c.loop-letter.invariant.long.4 ∙ sym c.requires.twe
 pub returns-in_default : goal.returns-in_default
 returns-in_default c =
     record {
-      terms = gathered c.loop-letter.invariant (terms_stop c.args.file.now c.loop-letter.at c.read-turn.result.said c.read-turn.ensures.said c.in-Term.keys2 c.loop-letter.invariant.body);
+      terms = gathered c.loop-letter.invariant (terms_stop c.args.file.now c.loop-letter.at c.read-turn.result.said c.read-turn.ensures.said c.in_default.not-Term c.loop-letter.invariant.body);
       after = record { says = c.read-turn.ensures.said; after = c.read-turn.ensures.next };
     }
 
@@ -96,12 +97,11 @@ loop-letter-smaller c = omega (arith, (on c).on, (on c).within)
 
 pub loop-letter-preserved : goal.loop-letter-preserved
 loop-letter-preserved c =
-    let v = c.said-1.given in let f = c.known_told-1.given in
-    gather_more (loop c).loop-letter.invariant (on c) _ _ _ _ _ v.1 _ _ _ _ _ (
-      to_z_pos w64 v.0.0 (omega (arith, f.0)),
-      read_at v.0.1.0 f.1.0.1,
-      read_at v.0.1.1.0 f.1.1.0.1,
-      read_at v.0.1.1.1.0 f.1.1.1.0.1,
-      read_at v.0.1.1.1.1.0 f.1.1.1.1.0.1,
+    gather_more (loop c).loop-letter.invariant (on c) _ _ _ _ _ c.in-Term.is _ _ _ _ _ (
+      to_z_pos w64 c.in-Term.letter (omega (arith, ints)),
+      read_at c.in-Term.value (search rules),
+      read_at c.in-Term.d (search rules),
+      read_at c.in-Term.i (search rules),
+      read_at c.in-Term.k (search rules),
     )
     (room c)

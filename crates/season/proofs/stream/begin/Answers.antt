@@ -11,7 +11,7 @@ use Rattle.season.proofs.stream.begin.Goals.{Else-lengths_amiss}
 -- ---- the lengths are as they must be
 module _ (c : Else-lengths_amiss) where
   kept : lengths_amiss (length c.args.held.now) (length c.args.totals.now) (length c.args.place.now) ≡ false
-  kept = sym c.before.lengths_amiss_lem.ensures ∙ c.if-lengths_amiss.false
+  kept = sym c.before.lengths_amiss.ensures ∙ c.if-lengths_amiss.false
 
   long : let a = c.args in (length a.held.now ≡ 65536) × (length a.totals.now ≡ 16) × (length a.place.now ≡ 3)
   long = let a = c.args in lengths_known a.held.now a.totals.now a.place.now kept
@@ -19,7 +19,7 @@ module _ (c : Else-lengths_amiss) where
 pub returns-then-lengths_amiss : goal.returns-then-lengths_amiss
 returns-then-lengths_amiss c =
     let a = c.args in let held = a.held.now in let totals = a.totals.now in let place = a.place.now in
-    refused_begins held totals place (sym c.before.lengths_amiss_lem.ensures ∙ c.if-lengths_amiss.true)
+    refused_begins held totals place (sym c.before.lengths_amiss.ensures ∙ c.if-lengths_amiss.true)
 
 pub clear-requires : goal.clear-requires
 clear-requires c = (long (record { before = c.before.before; type_inv = record { place = c.slice_known-2-1.given; totals = c.slice_known-1.given; held = c.shared_slice_known-1.given } })).1

@@ -21,6 +21,6 @@ returns-then-closes c =
 pub returns : goal.returns
 returns c =
     let held = c.args.held.now in let totals = c.args.totals.now in let p = c.args.p in
-    ap (λ (x : List ℕ). stream x totals (place_at c.before.kept_bytes_lem.result c.line_after.result 0)) c.keep.ensures
-    ∙ ap₂ (λ (b l : ℕ). stream (kept_in held p.bytes c.args.byte) totals (place_at b l 0)) c.before.kept_bytes_lem.ensures c.line_after.ensures
+    ap (λ (x : List ℕ). stream x totals (place_at c.before.kept_bytes.result c.line_after.result 0)) c.keep.ensures
+    ∙ ap₂ (λ (b l : ℕ). stream (kept_in held p.bytes c.args.byte) totals (place_at b l 0)) c.before.kept_bytes.ensures c.line_after.ensures
     ∙ sym (taken_kept c.args.byte (stream held totals p) (sym c.closes.ensures ∙ c.if-closes.false))

@@ -97,7 +97,7 @@ module _ (d : After-first_direction-direction) where
   taken = d.before.before.before.before.before.before.before
 
   all_small : (t taken).n ≤ sized taken
-  all_small = omega (arith, d.if-sized-n.left, n_is taken)
+  all_small = omega (arith, d.if-sized-n.false, n_is taken)
 
   abbrev v_first : ℕ
   v_first = d.first_direction-direction.result
