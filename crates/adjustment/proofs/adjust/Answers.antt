@@ -2,7 +2,6 @@
 use mathlib.Core.Path.{◌≡◌, sym, ◌∙◌}
 use mathlib.Core.List.{List}
 use native.Mathlib.Omega.{arith}
-use borrow.Author.Rules.{rules}
 use lib.IntN.{ℤ}
 use Rattle.reply.specs.declared.Reply.TheVariants.{Accepted}
 use Rattle.doolittle.specs.Table.{Table, table_of}
@@ -47,15 +46,15 @@ module _ (c : In_default) where
 
 pub solve-reply-requires : goal.solve-reply-requires
 solve-reply-requires c = let s = (passed c.before.before.before.before).sound in record {
-      sound = s;
-      q_in_bounds = (s.m_most, s.m_most);
-      w_in_bounds = (s.n_most, s.n_most);
-    }
+  sound = s;
+  q_in_bounds = (s.m_most, s.m_most);
+  w_in_bounds = (s.n_most, s.n_most);
+}
 
 pub returns-in-Refused-reply : goal.returns-in-Refused-reply
 returns-in-Refused-reply c =
     let d = c.before.before.before.before.before.before.before.before.before.before in let s = start d in
-    refused_adjusts (ds s) (q s) (a s) (w s) (lent s) _ ((passed d).reply-1 ∙ sym c.solve-reply.ensures.value ∙ c.in-Refused-reply.is)
+    refused_adjusts (ds s) (q s) (a s) (w s) (lent s) _ ((passed d).reply ∙ sym c.solve-reply.ensures.value ∙ c.in-Refused-reply.is)
 
 -- the table is solved
 module _ (c : In_default-reply) where
@@ -70,10 +69,10 @@ module _ (c : In_default-reply) where
 
 pub answer-requires : goal.answer-requires
 answer-requires c =
-    let e = c.before.before.before.before.before.before.before.before.before.before in let k = (solved e).solve-reply.auto.1.1.1 in let p = passed (told e) in let s = p.sound in record {
+    let e = c.before.before.before.before.before.before.before.before.before.before in let k = (solved e).solve-reply.auto in let p = passed (told e) in let s = p.sound in record {
       sound = s;
       solved = (solved e).solve-reply.ensures.solved e.in_default-reply.is;
-      q_in_bounds = (omega (arith, k.0, s.m_most), omega (arith, k.1.0, s.m_most), omega (arith, k.1.1.0, s.n_most), omega (arith, k.1.1.1.0, s.n_most));
+      q_in_bounds = (omega (arith, k.v, s.m_most), omega (arith, k.u, s.m_most), omega (arith, k.k, s.n_most), omega (arith, k.r, s.n_most));
       directions_len = (p.directions, p.in_circle);
       corrections_len = p.by_direction;
       correlates_len = p.by_condition;
@@ -82,4 +81,4 @@ answer-requires c =
 pub returns : goal.returns
 returns c =
     let e = c.before.before.before.before.before.before.before.before.before.before.before.before.before.before.before.before.before in let d = told e in let s = start d in
-    accepted_adjusts (ds s) (q s) (a s) (w s) (lent s) (accepted e) (passed d).sound (passed d).reply-1 _ c.answer.ensures
+    accepted_adjusts (ds s) (q s) (a s) (w s) (lent s) (accepted e) (passed d).sound (passed d).reply _ c.answer.ensures

@@ -3,7 +3,6 @@ use mathlib.Core.Path.{◌≡◌, sym, ◌∙◌, ap}
 use mathlib.Core.List.{List}
 use Prim.Native.Nat.{ℕ}
 use native.Mathlib.Omega.{arith}
-use borrow.Author.Rules.{rules}
 use lib.ListN.{length, get_or}
 use lib.IntN.{ℤ, pos, ◌+ℤ◌}
 use Rattle.exact.specs.Circle.{C, modulo}
@@ -65,7 +64,7 @@ solve-reply-requires c =
 pub returns-in-Refused-reply : goal.returns-in-Refused-reply
 returns-in-Refused-reply c =
     let d = c.before.before.before.before.before.before.before.before.before.before in
-    record { answer = sym ((passed d).reply-1 ∙ sym c.solve-reply.ensures.value ∙ c.in-Refused-reply.is); lists = never _ }
+    record { answer = sym ((passed d).reply ∙ sym c.solve-reply.ensures.value ∙ c.in-Refused-reply.is); lists = never _ }
 
 -- the table is solved, in the lists themselves
 module _ (c : In_default-reply) where
@@ -110,14 +109,14 @@ print_remainders-requires c =
 
 pub returns : goal.returns
 returns c =
-    let e = c.before.before.before.before.before.before in let d = told e in let p = passed d in let s = start d in let l = solved e in let kept = (after e).solve-reply.auto.1.1.1 in
+    let e = c.before.before.before.before.before.before in let d = told e in let p = passed d in let s = start d in let l = solved e in let kept = (after e).solve-reply.auto in
     record {
       answer = sym (p.reply ∙ sym (after e).solve-reply.ensures.value ∙ e.in_default-reply.is);
       lists = λ f i. lists
-          (tabulate_is (pos 0) (t s).m (V_of (t s) (K (t s))) (v e) (kept.0 ∙ p.by_direction.0) l.v i)
+          (tabulate_is (pos 0) (t s).m (V_of (t s) (K (t s))) (v e) (kept.v ∙ p.by_direction.0) l.v i)
           (tabulate_is (pos 0) (t s).m (u_of (t s) (K (t s))) (u e) (u_long e) l.u i)
           ((c.adjust_directions.ensures ∙ ap (λ (m : ℕ). tabulate m (λ i. modulo (get_or (ds s) i (pos 0) +ℤ get_or (u e) i (pos 0)) C)) p.by_direction.2 ∙ adjusted_list l (ds s)) i)
-          (tabulate_is (pos 0) (t s).n (K (t s)) (k e) (kept.1.1.0 ∙ p.by_condition.0) l.k i)
-          (tabulate_is (pos 0) (t s).n (R_of (t s) (K (t s))) (r e) (kept.1.1.1.0 ∙ p.by_condition.1) l.r i)
+          (tabulate_is (pos 0) (t s).n (K (t s)) (k e) (kept.k ∙ p.by_condition.0) l.k i)
+          (tabulate_is (pos 0) (t s).n (R_of (t s) (K (t s))) (r e) (kept.r ∙ p.by_condition.1) l.r i)
           ((c.print_remainders.ensures ∙ misses_list l) i);
     }

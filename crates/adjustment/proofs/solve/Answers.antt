@@ -3,7 +3,6 @@ use mathlib.Core.Path.{◌≡◌, refl, ◌∙◌}
 use mathlib.Core.List.{List}
 use Prim.Native.Nat.{ℕ, ◌≤◌, ◌<◌}
 use native.Mathlib.Omega.{arith}
-use borrow.Author.Rules.{rules}
 use lib.ListN.{length, get_or}
 use lib.IntN.{ℤ, pos, nat_abs}
 use Rattle.exact.proofs.Searching.{Failed}
@@ -41,7 +40,7 @@ module _ (c : Else-sound-n) where
 
 module _ (c : After-correlates-from) where
   abbrev sound : Else-sound-n
-  sound = (record { before = c.before.before.before; type_inv = record { rows = c.reduce-sound.given } })
+  sound = record { before = c.before.before.before; type_inv = record { rows = c.reduce-sound.array_long } }
 
   abbrev start2 : Start
   start2 = start1 sound
@@ -68,7 +67,7 @@ module _ (c : Else-from-gt0) where
       none_too_large (table start3) (no_weak (sound correlated)).0 correlated.correlates-from.result s.large s.within (omega arith)
 
   k_is : (j : ℕ) → j < (table start3).n → get_or (k correlated) j (pos 0) ≡ K (table start3) j
-  k_is j l = (solves correlated).correlates-from j (omega arith) l
+  k_is j l = (solves correlated).correlates j (omega arith) l
 
   k_small : Small 100000000 (k correlated) (table start3).n
   k_small j l = rw (k_is j l) (none_large.1 j l)
@@ -91,9 +90,9 @@ module _ (c : After-corrections) where
 
 pub reduce-sound-requires : goal.reduce-sound-requires
 reduce-sound-requires c = record {
-      sound = c.requires.sound;
-      shaped = zero_rows;
-    }
+  sound = c.requires.sound;
+  shaped = zero_rows;
+}
 
 pub returns-then-sound-n : goal.returns-then-sound-n
 returns-then-sound-n c =
@@ -104,7 +103,7 @@ returns-then-sound-n c =
 
 pub correlates-from-requires : goal.correlates-from-requires
 correlates-from-requires c =
-    let e : Else-sound-n = record { before = c.before.before; type_inv = record { rows = c.reduce-sound.given } } in record {
+    let e : Else-sound-n = record { before = c.before.before; type_inv = record { rows = c.reduce-sound.array_long } } in record {
       n_bound = ((start1 e).requires.sound.n_most, (start1 e).requires.w_in_bounds.0);
       by_index = triangle_within (table (start1 e)) (rows e) (triangle e);
     }
@@ -130,9 +129,9 @@ remainders-close-requires c =
     let b = c.before.before in let s = start4 b in record {
       sound = s.requires.sound;
       q_in_bounds = (
-          omega (arith, v_long b, s.requires.q_in_bounds.0),
-          λ i l. rw (v_is b i l) (V_size s.args.q.now s.args.a.now s.args.w.now s.requires.sound (K (table s)) (none_large (small b)).1 i l),
-        );
+        omega (arith, v_long b, s.requires.q_in_bounds.0),
+        λ i l. rw (v_is b i l) (V_size s.args.q.now s.args.a.now s.args.w.now s.requires.sound (K (table s)) (none_large (small b)).1 i l),
+      );
       w_in_bounds = s.requires.w_in_bounds.1;
     }
 

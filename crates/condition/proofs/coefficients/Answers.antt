@@ -2,7 +2,6 @@
 use mathlib.Core.Path.{◌≡◌, refl, sym, ◌∙◌}
 use Prim.Native.Nat.{ℕ, ◌+◌}
 use native.Mathlib.Omega.{arith}
-use borrow.Author.Rules.{rules}
 use lib.Dec.{ltb}
 use lib.IntN.{pos, nat_abs}
 use lib.ListN.{length, get_or}
@@ -80,17 +79,17 @@ pub returns-then-beyond : goal.returns-then-beyond
 returns-then-beyond c =
     let o = summed c.before in let e = o.before.before in
     refusal (s o) (Coefficient 1)
-    (too_large (l (s o)) (length (s o).args.a.now) e.if-a-directions.left (passed e) (sym (test c.before) ∙ c.if-beyond.true))
+    (too_large (l (s o)) (length (s o).args.a.now) e.if-a-directions.false (passed e) (sym (test c.before) ∙ c.if-beyond.true))
 
 pub hand_over-requires : goal.hand_over-requires
 hand_over-requires c =
     let e = (summed c.before.before.before).before.before in
-    omega (arith, e.if-a-directions.left, (right e).counts.few_directions)
+    omega (arith, e.if-a-directions.false, (right e).counts.few_directions)
 
 pub returns : goal.returns
 returns c =
     let o = summed c.before.before.before.before.before in let e = o.before.before in let s = s o in
-    let b = s.args.a.now in let same = e.if-a-directions.left in
+    let b = s.args.a.now in let same = e.if-a-directions.false in
     let r = all_right (l s) (length b) same (passed e) (sym (test c.before.before.before.before.before) ∙ c.if-beyond.false) in
     coefficients_kept (sym r)
     (c.hand_over.ensures

@@ -1,6 +1,5 @@
 -- `condition::misclosure` meets its promise: the checks, then w by the kind of condition, then its range. Assumes nothing.
 use mathlib.Core.Path.{◌≡◌, sym, ◌∙◌, ap}
-use borrow.Author.Rules.{rules}
 use Prim.Native.Nat.{◌≤◌}
 use lib.IntN.{ℤ, pos, nat_abs, ◌-ℤ◌, ◌*ℤ◌}
 use lib.ListN.{length}
@@ -76,7 +75,7 @@ module _ (c : In-Angle) where
   angle_fits = let x = bounded (total t) (total_small t) in let y = bounded (s t).args.target ((right t).target c.in-Angle.is) in fits_in (search bounds) tt
 
   target_is : to_z w64 (of_z w64 (s t).args.target) ≡ (s t).args.target
-  target_is = read (s t).fits.target
+  target_is = read (s t).ranges.target
 
   angle_w : to_z w64 (of_z w64 (to_z w64 (of_z w64 t.total-total.result) -ℤ to_z w64 (of_z w64 (s t).args.target))) ≡ total t -ℤ (s t).args.target
   angle_w = rw (total_is t, target_is) (read angle_fits)

@@ -1,6 +1,5 @@
 -- `target_fault` meets its contract. Assumes nothing.
 use mathlib.Core.Path.{◌∙◌}
-use borrow.Author.Rules.{rules}
 use mir.ValLaws.{to_z-of_z}
 use Rattle.condition.proofs.target_fault.Goals as goal
 

@@ -1,7 +1,6 @@
 -- `term_fault` meets its contract. Assumes nothing.
 use mathlib.Core.Path.{◌∙◌}
 use native.Mathlib.Omega.{arith}
-use borrow.Author.Rules.{rules}
 use mir.Syntax.{w64}
 use mir.ValLaws.{to_z-of_z, to_z_pos}
 use Rattle.condition.specs.Terms.{term_fault}

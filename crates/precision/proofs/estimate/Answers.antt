@@ -2,7 +2,6 @@
 use mathlib.Core.Path.{◌≡◌, ◌∙◌, ap, ap₂}
 use Prim.Native.Nat.{ℕ, ◌*◌}
 use native.Mathlib.Omega.{arith}
-use borrow.Author.Rules.{rules}
 use lib.IntN.{ℤ, pos, nat_abs, ◌*ℤ◌}
 use mir.Syntax.{w64}
 use mir.Val.{SFits, to_z, of_z}
@@ -21,9 +20,9 @@ known s = admitted s.args.u.now s.args.q.now s.args.n s.requires
 
 pub sum-s-requires : goal.sum-s-requires
 sum-s-requires c = let k = known c in record {
-      u_len_bound = (k.m_most, k.q_long);
-      small = (k.u_most, k.q_least);
-    }
+  u_len_bound = (k.m_most, k.q_long);
+  small = (k.u_most, k.q_least);
+}
 
 pub overflow_mul-n : goal.overflow_mul-n
 overflow_mul-n c = omega (arith, (known c.before).n_most)

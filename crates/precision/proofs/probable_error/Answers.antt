@@ -1,7 +1,6 @@
 -- `precision::probable_error` keeps its promise. Assumes nothing.
 use mathlib.Core.Path.{◌≡◌, sym, ◌∙◌, ap₂}
 use mathlib.Core.Bool.{false}
-use borrow.Author.Rules.{rules}
 use lib.ListN.{length}
 use Rattle.exact.proofs.Bound.{read_at}
 use Rattle.adjustment.specs.Refusals.{counts_amiss}

@@ -1,16 +1,10 @@
 -- `correct::adjust_directions` meets its contract. Assumes nothing.
-use mathlib.Core.Path.{◌≡◌, refl, ◌∙◌, ap₂, subst}
 use mathlib.Core.List.{List}
-use Prim.Native.Nat.{ℕ, ◌-◌, ◌≤◌, ◌<◌}
-use native.Mathlib.Omega.{arith}
-use borrow.Author.Rules.{rules}
+use Prim.Native.Nat.{ℕ, ◌-◌, ◌≤◌}
 use lib.ListN.{length, get_or}
 use lib.IntN.{ℤ, pos, ◌+ℤ◌}
-use mir.Syntax.{w64}
-use mir.Val.{to_z, of_z}
 use Rattle.exact.specs.Circle.{C, modulo}
-use Rattle.exact.proofs.Bound.{read_at, read_within}
-use Rattle.exact.proofs.Filling.{Filled, filled_none, filled_more, filled_all}
+use Rattle.exact.proofs.Filling.{Filled}
 use Rattle.adjustment.proofs.correct.adjust_directions.Given as goal
 
 -- a direction with its correction

@@ -1,14 +1,13 @@
 -- `correct::corrections` meets its contract. Assumes nothing.
 use mathlib.Core.Path.{◌∙◌, ap₂}
-use Prim.Native.Nat.{ℕ, ◌-◌, ◌≤◌, ◌<◌, zero-le}
+use Prim.Native.Nat.{ℕ, ◌≤◌, ◌<◌, zero-le}
 use native.Mathlib.Omega.{arith}
-use borrow.Author.Rules.{rules}
 use lib.ListN.{length, get_or}
 use lib.IntN.{pos, nat_abs, ◌*ℤ◌}
 use mir.Syntax.{w64}
 use mir.Val.{to_z, of_z}
 use Rattle.exact.proofs.Bound.{read_at, read_within}
-use Rattle.exact.proofs.Filling.{Filled, filled_none, filled_more}
+use Rattle.exact.proofs.Filling.{filled_none, filled_more}
 use Rattle.doolittle.specs.Table.{Table, at, table_of}
 use Rattle.adjustment.specs.Corrections.{V_of}
 use Rattle.doolittle.proofs.Sizes.{sum_within, product_size}

@@ -2,10 +2,9 @@
 use mathlib.Core.Path.{◌≡◌, sym, ◌∙◌, ap, ap₂, subst}
 use mathlib.Core.Bool.{Bool}
 use mathlib.Core.List.{List}
-use Prim.Native.Nat.{ℕ, ◌+◌, ◌*◌, ◌-◌, ◌≤◌, ◌<◌, zero-le}
+use Prim.Native.Nat.{ℕ, ◌+◌, ◌≤◌, ◌<◌, zero-le}
 use native.Mathlib.Omega.{arith}
 use native.Mathlib.Nat.{zero-mul}
-use borrow.Author.Rules.{rules}
 use borrow.Author.Tests.{lt-ltb, le-ltb}
 use lib.Dec.{ltb}
 use lib.ListN.{length, get_or}
@@ -15,7 +14,7 @@ use mir.Val.{to_z, of_z}
 use Rattle.exact.specs.Sum.{sum}
 use Rattle.exact.proofs.Bound.{read_at, read_within}
 use Rattle.exact.proofs.Searching.{Failed, failed_none, failed_more, first_at, first_none}
-use Rattle.exact.proofs.Filling.{Filled, filled_none, filled_more}
+use Rattle.exact.proofs.Filling.{filled_none, filled_more}
 use Rattle.doolittle.specs.Table.{Table, at, table_of}
 use Rattle.adjustment.specs.Demand.{seen}
 use Rattle.adjustment.specs.Inner.{closing}
@@ -89,7 +88,7 @@ module _ (c : After-magnitude) where
   remainder_is : c.remainder-z.result ≡ closing (t turn) (at (v turn)) (j turn)
   remainder_is =
       c.remainder-z.ensures
-      ∙ ap₂ (λ (x y : ℤ). x +ℤ pos 10000000 *ℤ y) (read_at turn.sum_seen-s.result turn.sum_seen-s.ok ∙ sum_is turn) (read_at (at (start turn).args.w.now (j turn)) c.x-1.given)
+      ∙ ap₂ (λ (x y : ℤ). x +ℤ pos 10000000 *ℤ y) (read_at turn.sum_seen-s.result turn.sum_seen-s.type_inv ∙ sum_is turn) (read_at (at (start turn).args.w.now (j turn)) c.x-1.given)
 
   size_is : c.magnitude.result ≡ nat_abs (closing (t turn) (at (v turn)) (j turn))
   size_is = c.magnitude.ensures ∙ ap nat_abs (read_at c.remainder-z.result c.remainder-z.type_inv ∙ remainder_is)

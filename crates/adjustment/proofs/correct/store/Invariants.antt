@@ -1,14 +1,8 @@
 -- `correct::store` meets its contract. Assumes nothing.
-use mathlib.Core.Path.{◌≡◌, refl, subst}
-use Prim.Native.Nat.{ℕ, ◌-◌, ◌≤◌}
-use native.Mathlib.Omega.{arith}
-use borrow.Author.Rules.{rules}
-use lib.ListN.{length, get_or}
+use Prim.Native.Nat.{◌-◌, ◌≤◌}
+use lib.ListN.{length}
 use lib.IntN.{pos}
-use mir.Syntax.{w64}
-use mir.Val.{to_z, of_z}
-use Rattle.exact.proofs.Bound.{read_at}
-use Rattle.exact.proofs.Filling.{Filled, filled_none, filled_more, filled_all}
+use Rattle.exact.proofs.Filling.{Filled}
 use Rattle.doolittle.specs.Table.{at}
 use Rattle.adjustment.proofs.correct.store.Given as goal
 

@@ -1,18 +1,11 @@
 -- `correct::sum_seen` meets its contract. Assumes nothing.
-use mathlib.Core.Path.{◌≡◌, sym, ◌∙◌, ap, ap₂}
+use mathlib.Core.Path.{◌≡◌}
 use mathlib.Core.List.{List}
-use Prim.Native.Nat.{ℕ, ◌+◌, ◌-◌, ◌≤◌, ◌<◌}
-use native.Mathlib.Omega.{arith}
-use borrow.Author.Rules.{rules}
+use Prim.Native.Nat.{ℕ, ◌+◌, ◌-◌, ◌≤◌}
 use lib.ListN.{get_or}
-use lib.IntN.{ℤ, pos, nat_abs, ◌+ℤ◌, ◌*ℤ◌}
-use mir.Syntax.{w64}
-use mir.Val.{to_z}
+use lib.IntN.{ℤ, pos, ◌*ℤ◌}
 use Rattle.exact.specs.Sum.{sum}
-use Rattle.exact.proofs.Bound.{read_at, read_within}
-use Rattle.exact.proofs.Sum.{sum_none, sum_more}
 use Rattle.doolittle.specs.Table.{at}
-use Rattle.doolittle.proofs.Sizes.{sum_within, product_size}
 use Rattle.adjustment.proofs.correct.sum_seen.Given as goal
 
 -- a term of the sum

@@ -1,6 +1,5 @@
 -- `correct::turned` meets its contract. Assumes nothing.
 use mathlib.Core.Path.{◌∙◌, ap, ap₂}
-use borrow.Author.Rules.{rules}
 use lib.IntN.{ℤ, ◌+ℤ◌}
 use Rattle.exact.specs.Circle.{C, modulo}
 use Rattle.exact.proofs.Bound.{bounded, bounds, fits_in, read, read_at}

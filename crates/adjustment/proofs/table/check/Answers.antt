@@ -3,7 +3,6 @@ use mathlib.Core.Path.{◌≡◌, sym, ◌∙◌, ap}
 use mathlib.Core.Bool.{false}
 use mathlib.Core.List.{List}
 use Prim.Native.Nat.{ℕ, ◌*◌}
-use borrow.Author.Rules.{rules}
 use lib.ListN.{length}
 use lib.IntN.{ℤ}
 use Rattle.reply.specs.declared.Reply.TheVariants.{Accepted}
@@ -43,7 +42,7 @@ lengths_amiss-requires c =
 pub returns-then-lengths_amiss : goal.returns-then-lengths_amiss
 returns-then-lengths_amiss c =
     let e = c.before.before in let s = e.before.before in
-    sym (by_lengths (ds s) (q s) (a s) (w s) s.args.v s.args.u s.args.adjusted s.args.k s.args.r s.args.s (counts_right e) (sym c.before.lengths_amiss_lem.ensures ∙ c.if-lengths_amiss.true))
+    sym (by_lengths (ds s) (q s) (a s) (w s) s.args.v s.args.u s.args.adjusted s.args.k s.args.r s.args.s (counts_right e) (sym c.before.lengths_amiss.ensures ∙ c.if-lengths_amiss.true))
 
 -- the lengths are right
 module _ (c : Else-lengths_amiss) where
@@ -51,7 +50,7 @@ module _ (c : Else-lengths_amiss) where
   start = c.before.before.before.before
 
   lengths_right : lengths_amiss (length (ds start)) (length (w start)) (length (q start)) (length (a start)) start.args.v start.args.u start.args.adjusted start.args.k start.args.r start.args.s ≡ false
-  lengths_right = sym c.before.lengths_amiss_lem.ensures ∙ c.if-lengths_amiss.false
+  lengths_right = sym c.before.lengths_amiss.ensures ∙ c.if-lengths_amiss.false
 
   lengths : Lengths (length (ds start)) (length (w start)) (length (q start)) (length (a start)) start.args.v start.args.u start.args.adjusted start.args.k start.args.r start.args.s
   lengths = lengths_known (length (ds start)) (length (w start)) (length (q start)) (length (a start)) _ _ _ _ _ _ lengths_right

@@ -1,10 +1,9 @@
 -- `table::check_conditions` meets its contract. Assumes nothing.
 use mathlib.Core.Path.{◌≡◌, sym, ◌∙◌, ap, subst}
 use mathlib.Core.Bool.{Bool, true, false, ◌||◌, cond}
-use Prim.Native.Nat.{ℕ, ◌+◌, ◌*◌, ◌-◌, ◌≤◌, ◌<◌}
+use Prim.Native.Nat.{ℕ, ◌+◌, ◌≤◌, ◌<◌}
 use native.Mathlib.Omega.{arith}
 use native.Mathlib.Nat.{zero-mul}
-use borrow.Author.Rules.{rules}
 use borrow.Author.Tests.{lt-ltb, le-ltb}
 use lib.Dec.{ltb}
 use lib.ListN.{length, get_or}
@@ -15,7 +14,7 @@ use Rattle.exact.proofs.Searching.{Failed, failed_none, failed_more}
 use Rattle.reply.specs.declared.Refusal.{Refusal}
 use Rattle.reply.specs.declared.Refusal.TheVariants.{Coefficient, Misclosure}
 use Rattle.reply.proofs.Checking.{refuse_at, refuse_none}
-use Rattle.doolittle.specs.Table.{Table, at, table_of}
+use Rattle.doolittle.specs.Table.{Table, table_of}
 use Rattle.adjustment.specs.Refusals.{coefficient_fault, misclosure_fault, conditions_reply}
 use Rattle.doolittle.proofs.Sizes.{row_end, next_row}
 use Rattle.adjustment.proofs.table.check_conditions.Goals as goal

@@ -1,16 +1,11 @@
 -- `table::coefficient_fault` meets its contract. Assumes nothing.
-use mathlib.Core.Path.{◌≡◌, sym, ◌∙◌, ap, subst}
 use mathlib.Core.Bool.{Bool}
 use mathlib.Core.List.{List}
 use Prim.Native.Nat.{ℕ, ◌+◌, ◌-◌, ◌≤◌}
-use native.Mathlib.Omega.{arith}
-use borrow.Author.Rules.{rules}
-use borrow.Author.Tests.{lt-ltb, le-ltb}
 use lib.Dec.{ltb}
 use lib.ListN.{get_or}
 use lib.IntN.{ℤ, pos, nat_abs}
-use Rattle.exact.proofs.Bound.{read_at}
-use Rattle.exact.proofs.Searching.{Failed, failed_none, failed_more, some_at, some_none}
+use Rattle.exact.proofs.Searching.{Failed}
 use Rattle.doolittle.specs.Table.{at}
 use Rattle.adjustment.proofs.table.coefficient_fault.Given as goal
 

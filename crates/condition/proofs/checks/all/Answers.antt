@@ -2,7 +2,6 @@
 use mathlib.Core.Path.{◌≡◌, sym, ◌∙◌, ap}
 use mathlib.Core.Bool.{false}
 use native.Mathlib.Omega.{arith}
-use borrow.Author.Rules.{rules}
 use lib.IntN.{ℤ}
 use lib.ListN.{length}
 use mir.Syntax.{w64}
@@ -39,7 +38,7 @@ directions_right : (c : In-Accepted) → let l = l (s c.before.before) in direct
 directions_right c = sym c.check-of_directions.ensures.answer ∙ c.in-Accepted.is
 
 target_test : (c : After-target_check-of_target) → let l = l (s c.before.before.before) in c.target_check-of_target.result ≡ target_check l.kind l.target
-target_test c = let f = (s c.before.before.before).fits.target in c.target_check-of_target.ensures ∙ simp to_z-of_z
+target_test c = let f = (s c.before.before.before).ranges.target in c.target_check-of_target.ensures ∙ simp to_z-of_z
 
 target_right : (c : In-Accepted-of_target) → let l = l (s c.before.before.before.before) in target_check l.kind l.target ≡ Accepted
 target_right c = sym (target_test c.before) ∙ c.in-Accepted-of_target.is

@@ -1,7 +1,6 @@
 -- `condition::checks::target_check` meets its contract. Assumes nothing.
 use mathlib.Core.Path.{◌≡◌, sym, ◌∙◌}
 use mir.ValLaws.{to_z-of_z}
-use borrow.Author.Rules.{rules}
 use Rattle.condition.specs.Rules.{target_fault}
 use Rattle.condition.proofs.checks.target_check.Goals as goal
 use Rattle.condition.proofs.checks.target_check.Goals.{After-target_fault}

@@ -1,14 +1,12 @@
 -- `condition::checks::terms_check` meets its contract: the terms passed are accepted in turn. Assumes nothing.
 use mathlib.Core.Path.{◌≡◌, sym, ◌∙◌}
-use Prim.Native.Nat.{ℕ, ◌+◌, ◌-◌, ◌≤◌}
+use Prim.Native.Nat.{ℕ, ◌+◌}
 use native.Mathlib.Omega.{arith}
-use borrow.Author.Rules.{rules}
 use lib.ListN.{length}
 use mir.Syntax.{w64}
 use mir.Val.{to_z, of_z}
 use Rattle.exact.proofs.Bound.{read}
 use Rattle.reply.specs.declared.Reply.{Reply}
-use Rattle.reply.specs.declared.Reply.TheVariants.{Accepted}
 use Rattle.reply.proofs.Checking.{turn_none, turn_more, turn_stops}
 use Rattle.condition.specs.declared.term.Term.{Term}
 use Rattle.condition.specs.Rules.{term_check, terms_check, term_at}

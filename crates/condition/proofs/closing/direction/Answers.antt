@@ -2,7 +2,6 @@
 use mathlib.Core.Path.{◌≡◌, sym, ◌∙◌, ap}
 use Prim.Native.Nat.{ℕ, ◌-◌}
 use native.Mathlib.Omega.{arith}
-use borrow.Author.Rules.{rules}
 use lib.IntN.{pos, nat_abs}
 use lib.ListN.{length, get_or}
 use mir.Syntax.{w64}
@@ -18,13 +17,13 @@ h_read : (c : Start) → nat_abs (to_z w64 (of_z w64 c.args.number)) ≡ nat_abs
 h_read c = ap nat_abs (read c.ranges.number)
 
 pub overflow_cast-h : goal.overflow_cast-h
-overflow_cast-h c = number_cast (length c.args.directions.now) c.args.number c.requires (omega (arith, c.well-formed.0.1))
+overflow_cast-h c = number_cast (length c.args.directions.now) c.args.number c.requires (omega (arith, c.well_formed.0.1))
 
 pub returns-then-h-eq0 : goal.returns-then-h-eq0
 returns-then-h-eq0 c = rw (sym (h_read c.before) ∙ c.if-h-eq0.true)
 
 pub offset_bounds-directions-h : goal.offset_bounds-directions-h
-offset_bounds-directions-h c = record { fits = omega (arith, h_read c.before, c.requires.high, c.before.well-formed.0.1) }
+offset_bounds-directions-h c = record { fits = omega (arith, h_read c.before, c.requires.high, c.before.well_formed.0.1) }
 
 pub bounds-directions-h : goal.bounds-directions-h
 bounds-directions-h c = omega (arith, h_read c.before, c.requires.high, c.if-h-eq0.false)

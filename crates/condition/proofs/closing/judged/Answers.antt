@@ -1,6 +1,5 @@
 -- `condition::closing::judged` meets its contract. Assumes nothing.
 use mathlib.Core.Path.{◌≡◌, ◌∙◌}
-use borrow.Author.Rules.{rules}
 use borrow.Author.Tests.{lt-ltb, le-ltb}
 use lib.IntN.{nat_abs}
 use mir.ValLaws.{to_z-of_z}

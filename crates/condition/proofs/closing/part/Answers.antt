@@ -1,6 +1,5 @@
 -- `condition::closing::part` meets its contract, kind by kind. Assumes nothing.
 use mathlib.Core.Path.{sym, ◌∙◌, ap, subst}
-use borrow.Author.Rules.{rules}
 use lib.ListN.{length}
 use Rattle.exact.proofs.Bound.{fits_of_mag, read}
 use Rattle.condition.specs.declared.term.Letter.{Letter}

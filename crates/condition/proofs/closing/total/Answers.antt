@@ -1,9 +1,8 @@
 -- `condition::closing::total` meets its contract: after j turns the sum is that of the first j terms. Assumes nothing.
 use mathlib.Core.Path.{◌≡◌, sym, ◌∙◌, ap, subst}
 use mathlib.Core.List.{List}
-use Prim.Native.Nat.{ℕ, ◌-◌, ◌≤◌}
+use Prim.Native.Nat.{ℕ}
 use native.Mathlib.Omega.{arith}
-use borrow.Author.Rules.{rules}
 use lib.IntN.{ℤ, ◌+ℤ◌}
 use lib.ListN.{length}
 use mir.Syntax.{w64}
@@ -24,9 +23,9 @@ loop-j-init c = (omega arith, sym (sum_none _))
 
 pub at-t-requires : goal.at-t-requires
 at-t-requires c = record {
-      lists = c.requires.lists;
-      place = omega arith;
-    }
+  lists = c.requires.lists;
+  place = omega arith;
+}
 
 -- ---- what is lent
 module _ (c : Start) where

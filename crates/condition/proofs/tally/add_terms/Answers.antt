@@ -1,10 +1,9 @@
 -- `condition::tally::add_terms` meets its contract: after j turns the tally holds what the first j terms add. Assumes nothing.
 use mathlib.Core.Path.{◌≡◌, sym, ◌∙◌, ap, subst}
-use Prim.Native.Nat.{ℕ, ◌-◌, ◌≤◌}
+use Prim.Native.Nat.{ℕ}
 use native.Mathlib.Omega.{arith}
-use borrow.Author.Rules.{rules}
-use lib.IntN.{pos, ◌+ℤ◌}
-use lib.ListN.{length, get_or}
+use lib.IntN.{◌+ℤ◌}
+use lib.ListN.{length}
 use Rattle.exact.specs.Sum.{sum}
 use Rattle.exact.proofs.Sum.{sum_none, sum_more}
 use Rattle.condition.specs.declared.term.Term.{Term}

@@ -1,17 +1,11 @@
 -- `condition::tally::add_terms` meets its contract: after j turns the tally holds what the first j terms add. Assumes nothing.
-use mathlib.Core.Path.{◌≡◌, sym, ◌∙◌, ap, subst}
+use mathlib.Core.Path.{◌≡◌}
 use Prim.Native.Nat.{ℕ, ◌-◌, ◌≤◌}
-use native.Mathlib.Omega.{arith}
-use borrow.Author.Rules.{rules}
-use lib.IntN.{pos, ◌+ℤ◌}
+use lib.IntN.{pos}
 use lib.ListN.{length, get_or}
 use Rattle.exact.specs.Sum.{sum}
-use Rattle.exact.proofs.Sum.{sum_none, sum_more}
-use Rattle.condition.specs.declared.term.Term.{Term}
 use Rattle.condition.specs.Terms.{share}
 use Rattle.condition.specs.Rules.{term_at}
-use Rattle.condition.specs.Sound.{Sound}
-use Rattle.condition.proofs.Shares.{tally_size}
 use Rattle.condition.proofs.tally.add_terms.Given as goal
 
 abbrev pub invariant-loop-j : goal.invariant-loop-j

@@ -1,17 +1,11 @@
 -- `condition::tally::beyond` meets its contract: no coefficient passed is beyond 2,000. Assumes nothing.
-use mathlib.Core.Path.{◌≡◌, sym, ◌∙◌}
 use mathlib.Core.Bool.{Bool}
 use mathlib.Core.List.{List}
 use Prim.Native.Nat.{ℕ, ◌+◌, ◌-◌, ◌≤◌}
-use native.Mathlib.Omega.{arith}
-use borrow.Author.Rules.{rules}
-use borrow.Author.Tests.{lt-ltb, le-ltb}
 use lib.Dec.{ltb}
 use lib.IntN.{ℤ, pos, nat_abs}
 use lib.ListN.{get_or}
-use mir.ValLaws.{to_z-of_z}
-use Rattle.exact.proofs.Bound.{fits_of_mag}
-use Rattle.exact.proofs.Searching.{Failed, failed_none, failed_more, some_at, some_none}
+use Rattle.exact.proofs.Searching.{Failed}
 use Rattle.condition.proofs.tally.beyond.Given as goal
 
 -- the coefficient of direction h + 1 is beyond 2,000

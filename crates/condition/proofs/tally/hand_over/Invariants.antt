@@ -1,12 +1,8 @@
 -- `condition::tally::hand_over` meets its contract: after h turns the first h coefficients stand in the list. Assumes nothing.
-use mathlib.Core.Path.{◌≡◌, refl, subst}
-use Prim.Native.Nat.{ℕ, ◌+◌, ◌-◌, ◌≤◌}
-use native.Mathlib.Omega.{arith}
-use borrow.Author.Rules.{rules}
-use lib.IntN.{ℤ, pos}
+use Prim.Native.Nat.{◌+◌, ◌-◌, ◌≤◌}
+use lib.IntN.{pos}
 use lib.ListN.{length, get_or}
-use Rattle.exact.proofs.Bound.{read, fits_of_mag}
-use Rattle.exact.proofs.Filling.{Filled, filled_none, filled_more, filled_all}
+use Rattle.exact.proofs.Filling.{Filled}
 use Rattle.condition.proofs.tally.hand_over.Given as goal
 
 abbrev pub invariant-loop-h : goal.invariant-loop-h

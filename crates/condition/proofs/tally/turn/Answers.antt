@@ -2,7 +2,6 @@
 use mathlib.Core.Path.{◌≡◌, ◌∙◌}
 use Prim.Native.Nat.{ℕ, ◌≤◌}
 use native.Mathlib.Omega.{arith}
-use borrow.Author.Rules.{rules}
 use lib.IntN.{ℤ, pos, neg_ℤ, nat_abs, ◌+ℤ◌, +ℤ_assoc}
 use lib.ListN.{get_or}
 use mir.Syntax.{w64}
@@ -43,7 +42,10 @@ pub add-requires : goal.add-requires
 add-requires c =
     let s = c.before.before.before in
     rw (i_read s, negated_read (x s) (x_small s) tt)
-    (omega (arith, s.requires.ends.i.high, s.requires.whole), ((λ h. omega (arith, s.requires.small.0 h)), negated_small (x s) (x_small s)))
+    (record {
+      place = omega (arith, s.requires.ends.i.high, s.requires.whole);
+      small = ((λ h. omega (arith, s.requires.small.0 h)), negated_small (x s) (x_small s));
+    })
 
 -- ---- the tally with x less at i
 module _ (c : After-add) where
@@ -67,10 +69,13 @@ overflow_cast-k c = let s = s c.before.before in number_cast 64 (t s).k s.requir
 pub add-requires-2 : goal.add-requires-2
 add-requires-2 c =
     let a = c.before.before in let s = s a in
-    rw (k_read s, read s.fits.x) (omega (arith, s.requires.ends.k.high, s.requires.whole), (less_small a, x_small s))
+    rw (k_read s, read s.ranges.x) (record {
+      place = omega (arith, s.requires.ends.k.high, s.requires.whole);
+      small = (less_small a, x_small s);
+    })
 
 pub returns : goal.returns
 returns c n =
     let a = c.before.before.before.before in let s = s a in
     c.add-2.ensures n
-    ∙ rw (k_read s, read s.fits.x, less_is a n) (+ℤ_assoc (before a n) (placed (nat_abs (t s).i) (neg_ℤ (x s)) n) (placed (nat_abs (t s).k) (x s) n))
+    ∙ rw (k_read s, read s.ranges.x, less_is a n) (+ℤ_assoc (before a n) (placed (nat_abs (t s).i) (neg_ℤ (x s)) n) (placed (nat_abs (t s).k) (x s) n))

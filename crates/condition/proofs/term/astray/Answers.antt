@@ -1,6 +1,5 @@
 -- `condition::term::astray` meets its contract. Assumes nothing.
 use mathlib.Core.Path.{◌≡◌, sym, ◌∙◌}
-use borrow.Author.Rules.{rules}
 use lib.IntN.{pos}
 use mir.ValLaws.{to_z-of_z}
 use Rattle.exact.specs.Outside.{outside}

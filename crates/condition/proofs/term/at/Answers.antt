@@ -3,7 +3,6 @@ use lib.IntN.{pos}
 use lib.ListN.{get_or}
 use mir.ValLaws.{to_z-of_z}
 use Rattle.exact.proofs.Bound.{fits_of_mag}
-use borrow.Author.Rules.{rules}
 use Rattle.condition.proofs.term.at.Goals as goal
 
 pub returns : goal.returns

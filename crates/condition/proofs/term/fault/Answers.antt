@@ -1,6 +1,5 @@
 -- `condition::term::fault` meets its contract, kind by kind. Assumes nothing.
 use mathlib.Core.Path.{◌≡◌, sym, ◌∙◌}
-use borrow.Author.Rules.{rules}
 use mir.ValLaws.{to_z-of_z}
 use Rattle.exact.proofs.Bound.{fits_of_mag}
 use Rattle.exact.proofs.Sameness.{bits_test}

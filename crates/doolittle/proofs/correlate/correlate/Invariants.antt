@@ -1,20 +1,12 @@
 -- `correlate::correlate` meets its contract. Assumes nothing.
-use mathlib.Core.Path.{◌≡◌, sym, ◌∙◌, ap, ap₂}
+use mathlib.Core.Path.{◌≡◌}
 use mathlib.Core.List.{List}
 use Prim.Native.Nat.{ℕ, suc, ◌+◌, ◌-◌, ◌≤◌, ◌<◌}
-use native.Mathlib.Omega.{arith}
-use borrow.Author.Rules.{rules}
-use lib.IntN.{ℤ, pos, neg_ℤ, nat_abs, ◌+ℤ◌, ◌*ℤ◌}
-use mir.Syntax.{w64}
-use mir.Val.{to_z, of_z}
+use lib.IntN.{ℤ, ◌+ℤ◌}
 use Rattle.exact.specs.Sum.{sum}
-use Rattle.exact.specs.Nearest.{nearest}
-use Rattle.exact.proofs.Bound.{read_at, read_within}
 use Rattle.doolittle.specs.Table.{at}
 use Rattle.doolittle.specs.Solution.{carried}
-use Rattle.doolittle.specs.Inner.{From, cell}
-use Rattle.doolittle.proofs.Sizes.{carried_size, own_size, parts_size}
-use Rattle.doolittle.proofs.Reducing.{parts_none, parts_more}
+use Rattle.doolittle.specs.Inner.{cell}
 use Rattle.doolittle.proofs.correlate.correlate.Given as goal
 
 -- what row j adds for the correlate of row suc j + e

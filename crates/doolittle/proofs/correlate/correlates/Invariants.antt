@@ -1,18 +1,11 @@
 -- `correlate::correlates` meets its contract. Assumes nothing.
-use mathlib.Core.Path.{◌≡◌, refl, sym, ◌∙◌, ap, subst}
-use mathlib.Core.List.{List}
-use Prim.Native.Nat.{ℕ, ◌-◌, ◌≤◌, ◌<◌}
-use native.Mathlib.Omega.{arith}
-use borrow.Author.Rules.{rules}
-use lib.ListN.{length, get_or, length-set}
-use lib.IntN.{ℤ, pos, nat_abs}
-use mir.Syntax.{w64}
-use mir.Val.{to_z, of_z}
-use Rattle.exact.proofs.Bound.{read_at}
+use mathlib.Core.Path.{◌≡◌}
+use Prim.Native.Nat.{◌≤◌}
+use lib.ListN.{length, get_or}
+use lib.IntN.{pos, nat_abs}
 use Rattle.doolittle.specs.Table.{Table}
 use Rattle.doolittle.specs.Solution.{K}
-use Rattle.doolittle.specs.Inner.{Triangle, back_of, From}
-use Rattle.doolittle.proofs.Correlating.{next_correlate, first_large, none_large, one_before}
+use Rattle.doolittle.specs.Inner.{Triangle, From}
 use Rattle.doolittle.proofs.correlate.correlates.Given as goal
 
 abbrev pub invariant-loop-left : goal.invariant-loop-left

@@ -1,15 +1,14 @@
 -- `reduce::add_direction` meets its contract. Assumes nothing.
 use mathlib.Core.Path.{◌≡◌, refl, sym, ◌∙◌, ap, ap₂}
 use mathlib.Core.List.{List}
-use Prim.Native.Nat.{ℕ, ◌+◌, ◌*◌, ◌-◌, ◌≤◌, ◌<◌}
+use Prim.Native.Nat.{ℕ, ◌+◌, ◌*◌, ◌≤◌, ◌<◌}
 use native.Mathlib.Omega.{arith}
-use borrow.Author.Rules.{rules}
 use lib.ListN.{length}
 use lib.IntN.{ℤ, pos, nat_abs, ◌+ℤ◌, ◌*ℤ◌, +ℤ_idr}
 use mir.Syntax.{w64}
 use mir.Val.{to_z, of_z}
 use Rattle.exact.proofs.Bound.{read_at, read_within}
-use Rattle.exact.proofs.Filling.{Filled, filled_none, filled_more}
+use Rattle.exact.proofs.Filling.{filled_none, filled_more}
 use Rattle.doolittle.specs.Table.{Table, at, table_of}
 use Rattle.doolittle.specs.Inner.{share}
 use Rattle.doolittle.proofs.Sizes.{product_size, row_end, next_row}
@@ -88,7 +87,7 @@ module _ (c : After-weighted-gx) where
   weighted_size : nat_abs (to_z w64 (of_z w64 c.weighted-gx.result)) ≤ 20000
   weighted_size =
       let p = start.requires in
-      rw weighted_is (product_size ((t start).q (i start)) ((t start).a (j start) (i start)) (p.0.q_most (i start) p.1.0.2) (p.0.a_most (j start) p.1.0.0 (i start) p.1.0.2))
+      rw weighted_is (product_size ((t start).q (i start)) ((t start).a (j start) (i start)) (p.sound.q_most (i start) p.j_in_bounds.2) (p.sound.a_most (j start) p.j_in_bounds.0 (i start) p.j_in_bounds.2))
 
 pub loop-k-init : goal.loop-k-init
 loop-k-init c =

@@ -1,19 +1,12 @@
 -- `reduce::add_direction` meets its contract. Assumes nothing.
-use mathlib.Core.Path.{◌≡◌, refl, sym, ◌∙◌, ap, ap₂}
+use mathlib.Core.Path.{◌≡◌}
 use mathlib.Core.List.{List}
-use Prim.Native.Nat.{ℕ, ◌+◌, ◌*◌, ◌-◌, ◌≤◌, ◌<◌}
-use native.Mathlib.Omega.{arith}
-use borrow.Author.Rules.{rules}
+use Prim.Native.Nat.{ℕ, ◌*◌, ◌-◌, ◌≤◌}
 use lib.ListN.{length}
-use lib.IntN.{ℤ, pos, nat_abs, ◌+ℤ◌, ◌*ℤ◌, +ℤ_idr}
-use mir.Syntax.{w64}
-use mir.Val.{to_z, of_z}
-use Rattle.exact.proofs.Bound.{read_at, read_within}
-use Rattle.exact.proofs.Filling.{Filled, filled_none, filled_more}
+use lib.IntN.{ℤ, pos, ◌+ℤ◌}
+use Rattle.exact.proofs.Filling.{Filled}
 use Rattle.doolittle.specs.Table.{Table, at, table_of}
 use Rattle.doolittle.specs.Inner.{share}
-use Rattle.doolittle.proofs.Sizes.{product_size, row_end, next_row}
-use Rattle.doolittle.proofs.Reducing.{untouched}
 use Rattle.doolittle.proofs.reduce.add_direction.Given as goal
 
 -- the entry at place k with the part of direction i

@@ -1,6 +1,5 @@
 -- `reduce::by_pivot` meets its contract. Assumes nothing.
 use mathlib.Core.Path.{◌∙◌, ap, ap₂}
-use borrow.Author.Rules.{rules}
 use lib.IntN.{neg_ℤ, ◌*ℤ◌, +ℤ_idl}
 use Rattle.exact.specs.Nearest.{nearest}
 use Rattle.exact.proofs.Bound.{bounded, bounds, fits_in, fits_of_mag, read}

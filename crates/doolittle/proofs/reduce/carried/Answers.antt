@@ -1,5 +1,4 @@
 -- `reduce::carried` meets its contract. Assumes nothing.
-use borrow.Author.Rules.{rules}
 use Rattle.exact.proofs.Bound.{bounded, bounds, fits_in, fits_of_mag, read}
 use Rattle.doolittle.proofs.reduce.carried.Goals as goal
 

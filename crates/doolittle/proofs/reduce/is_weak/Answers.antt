@@ -4,7 +4,6 @@ use mathlib.Core.Bool.{false}
 use mathlib.Core.List.{List}
 use Prim.Native.Nat.{ℕ, ◌≤◌}
 use native.Mathlib.Nat.{le_refl}
-use borrow.Author.Rules.{rules}
 use borrow.Author.Tests.{ltb-false}
 use lib.Dec.{ltb}
 use lib.IntN.{ℤ, nat_abs}
@@ -92,7 +91,7 @@ pub is_low-requires : goal.is_low-requires
 is_low-requires c = read_within (at (row (start3 c)) (j (start3 c))) c.pivot-1.given (small_pivot c)
 
 low_is : (c : After-is_low) → c.is_low.result ≡ low_pivot (at (row (start3 c.before)) (j (start3 c.before))) (entry (start3 c.before))
-low_is c = let s = start3 c.before in c.is_low.ensures ∙ ap₂ low_pivot (pivot_read c.before) (read s.fits.entry)
+low_is c = let s = start3 c.before in c.is_low.ensures ∙ ap₂ low_pivot (pivot_read c.before) (read s.ranges.entry)
 
 pub returns-then-is_low : goal.returns-then-is_low
 returns-then-is_low c =
@@ -118,4 +117,8 @@ multiply-requires c =
 pub returns : goal.returns
 returns c =
     let e = c.before.before in let b = e.before.before in let s = start3 b in let r = c.multiply.ensures in
-    (r.0 ∙ sym (weak_by_multiplier (n s) (j s) (entry s) (at (row s)) (at (row s) 24) (small_d b.before.before) (small_l b) (sound_pivot e)), r.1)
+    record {
+      value = r.value ∙ sym (weak_by_multiplier (n s) (j s) (entry s) (at (row s)) (at (row s) 24) (small_d b.before.before) (small_l b) (sound_pivot e));
+      from = r.from_2;
+      kept = r.kept;
+    }

@@ -2,10 +2,9 @@
 use mathlib.Core.Path.{◌≡◌, sym, ◌∙◌, ap, ap₂, subst}
 use mathlib.Core.Bool.{Bool, ◌&&◌}
 use mathlib.Core.List.{List}
-use Prim.Native.Nat.{ℕ, suc, ◌-◌, ◌≤◌, ◌<◌}
+use Prim.Native.Nat.{ℕ, suc, ◌<◌}
 use native.Mathlib.Numerals.{add-one}
 use native.Mathlib.Omega.{arith}
-use borrow.Author.Rules.{rules}
 use borrow.Author.Tests.{lt-ltb, le-ltb}
 use lib.Dec.{ltb, lit≤}
 use lib.ListN.{set, length-set}
@@ -17,7 +16,7 @@ use Rattle.exact.proofs.Bound.{read_at}
 use Rattle.exact.proofs.Searching.{not_both, Failed, failed_more, some_at, some_none, from_failed, from_test}
 use Rattle.doolittle.specs.Table.{at}
 use Rattle.doolittle.specs.Solution.{multiplier}
-use Rattle.doolittle.specs.Inner.{From, Kept, row_at, cell}
+use Rattle.doolittle.specs.Inner.{row_at}
 use Rattle.doolittle.proofs.Keeping.{kept_none, kept_put, kept_then, column_more}
 use Rattle.doolittle.proofs.reduce.multiply.Goals as goal
 use Rattle.doolittle.proofs.reduce.multiply.Goals.{After-magnitude, After-x-1, At-loop-k, Start}

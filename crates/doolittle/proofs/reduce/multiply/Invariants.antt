@@ -1,24 +1,14 @@
 -- `reduce::multiply` meets its contract. Assumes nothing.
-use mathlib.Core.Path.{◌≡◌, sym, ◌∙◌, ap, ap₂, subst}
+use mathlib.Core.Path.{◌≡◌}
 use mathlib.Core.Bool.{Bool, ◌&&◌}
 use mathlib.Core.List.{List}
 use Prim.Native.Nat.{ℕ, suc, ◌-◌, ◌≤◌, ◌<◌}
-use native.Mathlib.Numerals.{add-one}
-use native.Mathlib.Omega.{arith}
-use borrow.Author.Rules.{rules}
-use borrow.Author.Tests.{lt-ltb, le-ltb}
-use lib.Dec.{ltb, lit≤}
-use lib.ListN.{set, length-set}
-use lib.Seq.{get_or-set_other}
-use lib.IntN.{ℤ, pos, nat_abs}
-use mir.Syntax.{w64}
-use mir.Val.{to_z, of_z}
-use Rattle.exact.proofs.Bound.{read_at}
-use Rattle.exact.proofs.Searching.{not_both, Failed, failed_more, some_at, some_none, from_failed, from_test}
+use lib.Dec.{ltb}
+use lib.IntN.{ℤ, nat_abs}
+use Rattle.exact.proofs.Searching.{Failed}
 use Rattle.doolittle.specs.Table.{at}
 use Rattle.doolittle.specs.Solution.{multiplier}
-use Rattle.doolittle.specs.Inner.{From, Kept, row_at, cell}
-use Rattle.doolittle.proofs.Keeping.{kept_none, kept_put, kept_then, column_more}
+use Rattle.doolittle.specs.Inner.{From, Kept, cell}
 use Rattle.doolittle.proofs.reduce.multiply.Given as goal
 
 -- M(j,k), and its test

@@ -1,6 +1,5 @@
 -- `reduce::plus_carried` meets its contract. Assumes nothing.
 use mathlib.Core.Path.{◌≡◌, ◌∙◌, ap₂}
-use borrow.Author.Rules.{rules}
 use lib.IntN.{◌+ℤ◌}
 use Rattle.exact.proofs.Bound.{bounded, bounded_by, bounds, fits_in, fits_of_mag, read}
 use Rattle.doolittle.specs.Solution.{carried}

@@ -1,7 +1,7 @@
 -- `reduce::reduce` meets its contract. Assumes nothing.
 use mathlib.Core.Path.{◌≡◌, sym, ◌∙◌, subst}
 use mathlib.Core.List.{List, []}
-use Prim.Native.Nat.{ℕ, ◌*◌, ◌-◌, ◌≤◌, ◌<◌}
+use Prim.Native.Nat.{ℕ, ◌<◌}
 use native.Mathlib.Omega.{arith}
 use native.Mathlib.Nat.{zero-mul, le_refl}
 use borrow.Author.Rules.{rules}
@@ -12,7 +12,7 @@ use Rattle.exact.proofs.Bound.{read_at}
 use Rattle.exact.proofs.Searching.{Failed, failed_none, failed_more, first_at, first_none}
 use Rattle.doolittle.specs.Table.{Table, at, table_of}
 use Rattle.doolittle.specs.Solution.{D, L, weak}
-use Rattle.doolittle.specs.Inner.{Holds, Shaped, Kept, Rows, cell}
+use Rattle.doolittle.specs.Inner.{Holds, Kept, Rows, cell}
 use Rattle.doolittle.proofs.Sizes.{row_end, next_row}
 use Rattle.doolittle.proofs.Keeping.{row_put, kept_put, rows_kept}
 use Rattle.doolittle.proofs.Reducing.{normal_within, above_within, row_reduced, row_weak, row_multiplied, rows_none, rows_more}

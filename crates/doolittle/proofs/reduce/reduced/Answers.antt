@@ -1,16 +1,15 @@
 -- `reduce::reduced` meets its contract. Assumes nothing.
 use mathlib.Core.Path.{◌≡◌, ◌∙◌, ap}
 use mathlib.Core.List.{List}
-use Prim.Native.Nat.{ℕ, ◌-◌, ◌≤◌}
+use Prim.Native.Nat.{ℕ}
 use native.Mathlib.Omega.{arith}
-use borrow.Author.Rules.{rules}
 use lib.ListN.{length, set, length-set}
 use lib.Seq.{get_or-set_same, get_or-set_other}
 use lib.IntN.{ℤ, pos}
 use mir.Syntax.{w64}
 use mir.Val.{to_z, of_z}
 use Rattle.exact.proofs.Bound.{read_at, read_within}
-use Rattle.exact.proofs.Filling.{Filled, filled_none, filled_more}
+use Rattle.exact.proofs.Filling.{filled_none, filled_more}
 use Rattle.doolittle.specs.Table.{at}
 use Rattle.doolittle.specs.Inner.{with_above, row_at}
 use Rattle.doolittle.proofs.reduce.reduced.Goals as goal

@@ -1,15 +1,10 @@
 -- `reduce::some_large` meets its contract. Assumes nothing.
-use mathlib.Core.Path.{◌≡◌, sym, ◌∙◌, ap, subst}
 use mathlib.Core.Bool.{Bool, ◌&&◌}
 use mathlib.Core.List.{List}
-use Prim.Native.Nat.{ℕ, ◌-◌, ◌≤◌, ◌<◌}
-use native.Mathlib.Omega.{arith}
-use borrow.Author.Rules.{rules}
-use borrow.Author.Tests.{lt-ltb, le-ltb}
+use Prim.Native.Nat.{ℕ, ◌-◌, ◌≤◌}
 use lib.Dec.{ltb, leb}
 use lib.IntN.{ℤ, nat_abs}
-use Rattle.exact.proofs.Bound.{read_at}
-use Rattle.exact.proofs.Searching.{Failed, failed_more, some_at, some_none, from_failed, from_test}
+use Rattle.exact.proofs.Searching.{Failed}
 use Rattle.doolittle.specs.Table.{at}
 use Rattle.doolittle.proofs.reduce.some_large.Given as goal
 

@@ -1,9 +1,8 @@
 -- `reduce::with_above` meets its contract. Assumes nothing.
 use mathlib.Core.Path.{◌≡◌, ◌∙◌, ap₂}
 use mathlib.Core.List.{List}
-use Prim.Native.Nat.{ℕ, ◌+◌, ◌-◌, ◌≤◌, ◌<◌}
+use Prim.Native.Nat.{ℕ, ◌≤◌, ◌<◌}
 use native.Mathlib.Omega.{arith}
-use borrow.Author.Rules.{rules}
 use lib.IntN.{ℤ, nat_abs, ◌+ℤ◌}
 use mir.Syntax.{w64}
 use mir.Val.{to_z, of_z}
@@ -48,7 +47,7 @@ module _ (c : After-y-1) where
       rw loop.loop-i.invariant.1
       (omega (
         arith,
-        parts_size (to_z w64 (of_z w64 start.args.x)) i 2560000000 4000000000001 (λ h. carried (m h) (y h)) (rw (read start.fits.x) start.requires.j_bound.2) (omega arith)
+        parts_size (to_z w64 (of_z w64 start.args.x)) i 2560000000 4000000000001 (λ h. carried (m h) (y h)) (rw (read start.ranges.x) start.requires.j_bound.2) (omega arith)
             (λ h l. carried_size (m h) (y h) 4000000000 (within h (omega arith)).0 (within h (omega arith)).1),
       ))
 

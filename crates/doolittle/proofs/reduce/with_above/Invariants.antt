@@ -1,18 +1,11 @@
 -- `reduce::with_above` meets its contract. Assumes nothing.
-use mathlib.Core.Path.{◌≡◌, ◌∙◌, ap₂}
+use mathlib.Core.Path.{◌≡◌}
 use mathlib.Core.List.{List}
-use Prim.Native.Nat.{ℕ, ◌+◌, ◌-◌, ◌≤◌, ◌<◌}
-use native.Mathlib.Omega.{arith}
-use borrow.Author.Rules.{rules}
-use lib.IntN.{ℤ, nat_abs, ◌+ℤ◌}
-use mir.Syntax.{w64}
-use mir.Val.{to_z, of_z}
+use Prim.Native.Nat.{ℕ, ◌-◌, ◌≤◌}
+use lib.IntN.{ℤ, ◌+ℤ◌}
 use Rattle.exact.specs.Sum.{sum}
-use Rattle.exact.proofs.Bound.{read, read_at, read_within}
 use Rattle.doolittle.specs.Solution.{carried}
 use Rattle.doolittle.specs.Inner.{cell}
-use Rattle.doolittle.proofs.Sizes.{carried_size, parts_size}
-use Rattle.doolittle.proofs.Reducing.{parts_none, parts_more}
 use Rattle.doolittle.proofs.reduce.with_above.Given as goal
 
 -- what row i adds

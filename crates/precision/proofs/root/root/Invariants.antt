@@ -1,11 +1,5 @@
 -- `precision::root::root` meets its contract: e is right in the bits above `bit`, which falls by one a turn. Assumes nothing.
-use mathlib.Core.Path.{◌≡◌, sym, ◌∙◌, ap, subst}
-use Prim.Native.Nat.{ℕ, zero, suc, ◌+◌, ◌-◌, ◌*◌, ◌≤◌, ◌<◌, ◌^◌, ◌%◌}
-use native.Mathlib.Nat.{one-mul}
-use native.Mathlib.Omega.{arith}
-use lib.Pow.{shl_exact}
-use Rattle.exact.proofs.Bound.{mul_le}
-use Rattle.precision.proofs.Rooting.{root_only}
+use Prim.Native.Nat.{◌+◌, ◌*◌, ◌≤◌, ◌<◌, ◌^◌}
 use Rattle.precision.proofs.root.root.Given as goal
 
 abbrev pub invariant-loop-bit : goal.invariant-loop-bit
