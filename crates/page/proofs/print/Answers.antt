@@ -1,5 +1,4 @@
 -- `page::print` meets its contract. Assumes nothing.
-use borrow.Author.Rules.{rules}
 use Rattle.page.proofs.Printing.{prints_listing, prints_refusal}
 use Rattle.page.proofs.print.Goals as goal
 

@@ -1,12 +1,8 @@
 -- `totals::add` meets its contract: the places before i hold the sums. Assumes nothing.
-use mathlib.Core.Path.{◌≡◌, ◌∙◌, ap, subst}
-use Prim.Native.Nat.{ℕ, ◌-◌, ◌≤◌}
-use native.Mathlib.Omega.{arith}
-use native.Mathlib.Nat.{le_refl}
-use borrow.Author.Rules.{rules}
+use Prim.Native.Nat.{◌-◌, ◌≤◌}
 use lib.ListN.{get_or}
-use Rattle.exact.proofs.Filling.{Filled, filled_none, filled_more, filled_all}
-use Rattle.totals.specs.Totals.{joined, sum_of}
+use Rattle.exact.proofs.Filling.{Filled}
+use Rattle.totals.specs.Totals.{joined}
 use Rattle.totals.proofs.add.Given as goal
 
 abbrev pub invariant-loop-i : goal.invariant-loop-i

@@ -1,11 +1,6 @@
 -- `totals::check` meets its contract: no place before i is at fault. Assumes nothing.
-use mathlib.Core.Path.{◌≡◌, sym, ◌∙◌, subst}
-use Prim.Native.Nat.{◌+◌, ◌-◌, ◌≤◌}
-use native.Mathlib.Omega.{arith}
-use borrow.Author.Rules.{rules}
-use Rattle.exact.proofs.Searching.{Failed, failed_none, failed_more}
-use Rattle.reply.specs.declared.Refusal.TheVariants.{OutOfRange}
-use Rattle.reply.proofs.Checking.{refuse_at, refuse_none}
+use Prim.Native.Nat.{◌-◌, ◌≤◌}
+use Rattle.exact.proofs.Searching.{Failed}
 use Rattle.totals.specs.Promise.{too_large_at}
 use Rattle.totals.proofs.check.Given as goal
 

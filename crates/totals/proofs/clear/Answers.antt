@@ -1,9 +1,8 @@
 -- `totals::clear` meets its contract: the places before i hold 0, the total of no nets. Assumes nothing.
 use mathlib.Core.Path.{◌≡◌, refl, subst}
 use mathlib.Core.List.{[]}
-use Prim.Native.Nat.{ℕ, ◌-◌, ◌≤◌}
+use Prim.Native.Nat.{ℕ}
 use native.Mathlib.Omega.{arith}
-use borrow.Author.Rules.{rules}
 use Rattle.exact.proofs.Filling.{Filled, filled_none, filled_more, filled_all}
 use Rattle.totals.specs.Totals.{total, report_of}
 use Rattle.totals.proofs.clear.Goals as goal

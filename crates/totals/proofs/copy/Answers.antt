@@ -1,8 +1,7 @@
 -- `totals::copy` meets its contract: the places before i are those of the other. Assumes nothing.
 use mathlib.Core.Path.{◌≡◌, refl, sym, ◌∙◌, subst}
-use Prim.Native.Nat.{ℕ, ◌-◌, ◌≤◌}
+use Prim.Native.Nat.{ℕ}
 use native.Mathlib.Omega.{arith}
-use borrow.Author.Rules.{rules}
 use lib.ListN.{get_or}
 use Rattle.exact.proofs.Filling.{Filled, filled_none, filled_more, filled_all, tabulate_is}
 use Rattle.totals.proofs.copy.Goals as goal

@@ -2,7 +2,6 @@
 use mathlib.Core.Path.{sym, ◌∙◌}
 use native.Mathlib.Nat.{max-eq_left, max-eq_right}
 use native.Mathlib.Omega.{arith}
-use borrow.Author.Rules.{rules}
 use Rattle.totals.proofs.Totalling.{joined_largest, joined_sum}
 use Rattle.totals.proofs.joined.Goals as goal
 

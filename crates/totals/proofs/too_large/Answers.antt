@@ -1,6 +1,5 @@
 -- `totals::too_large` meets its contract. Assumes nothing.
 use native.Mathlib.Omega.{arith}
-use borrow.Author.Rules.{rules}
 use borrow.Author.Tests.{lt-ltb, le-ltb}
 use Rattle.totals.specs.Promise.{most_total, too_large}
 use Rattle.totals.proofs.too_large.Goals as goal

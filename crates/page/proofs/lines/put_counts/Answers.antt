@@ -1,7 +1,6 @@
 -- `page::lines::put_counts` meets its contract. Assumes nothing.
 use mathlib.Core.Path.{◌∙◌}
 use native.Mathlib.Omega.{arith}
-use borrow.Author.Rules.{rules}
 use Rattle.text.proofs.Putting.{Come, then, wrote_length, come_within, count_on, count_most}
 use Rattle.page.proofs.lines.put_counts.Goals as goal
 use Rattle.page.proofs.lines.put_counts.Goals.{After-put_count-one, After-put_count-two, Start}

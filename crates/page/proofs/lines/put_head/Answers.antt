@@ -1,7 +1,6 @@
 -- `page::lines::put_head` meets its contract. Assumes nothing.
 use mathlib.Core.Path.{◌∙◌}
 use native.Mathlib.Omega.{arith}
-use borrow.Author.Rules.{rules}
 use Rattle.text.proofs.Putting.{Come, then, wrote_length, read_signed, come, count_on, signed_on}
 use Rattle.page.proofs.lines.put_head.Goals as goal
 use Rattle.page.proofs.lines.put_head.Goals.{After-put_byte-head, After-put_count-numbered, After-put_signed-one, Start}

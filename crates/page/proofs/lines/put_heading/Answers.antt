@@ -1,7 +1,6 @@
 -- `page::lines::put_heading` meets its contract. Assumes nothing.
 use mathlib.Core.Path.{◌∙◌}
 use native.Mathlib.Omega.{arith}
-use borrow.Author.Rules.{rules}
 use Rattle.text.proofs.Putting.{Come, then, wrote_length, come}
 use Rattle.page.proofs.lines.put_heading.Goals as goal
 use Rattle.page.proofs.lines.put_heading.Goals.{After-put_three-head, Start}

@@ -1,7 +1,6 @@
 -- `page::lines::put_numbered` meets its contract. Assumes nothing.
 use mathlib.Core.Path.{◌∙◌, ap₂}
 use native.Mathlib.Omega.{arith}
-use borrow.Author.Rules.{rules}
 use Rattle.exact.proofs.Bound.{read}
 use Rattle.page.specs.Lines.{line_head}
 use Rattle.text.specs.Written.{Wrote}
@@ -17,7 +16,7 @@ start1 c = c.before.before.before
 headed :
     (c : After-put_head-end) →
     let s = start1 c in Wrote s.args.out.now s.args.at (line_head s.args.letter s.args.number s.args.first s.args.second) c.put_head-end.new.out c.put_head-end.result
-headed c = let s = start1 c in rewrote (ap₂ (line_head s.args.letter s.args.number) (read s.fits.first) (read s.fits.second)) c.put_head-end.ensures
+headed c = let s = start1 c in rewrote (ap₂ (line_head s.args.letter s.args.number) (read s.ranges.first) (read s.ranges.second)) c.put_head-end.ensures
 
 come1 : (c : After-put_head-end) → Come (start1 c).args.out.now (start1 c).args.at 67 c.put_head-end.new.out c.put_head-end.result
 come1 c = let s = start1 c in come_within 67 (head_most s.args.letter s.args.number s.args.first s.args.second) (headed c)
@@ -30,6 +29,4 @@ shape_of-out c = wrote_length c.put_byte.ensures ∙ (come1 c.before.before.befo
 
 pub returns : goal.returns
 returns c =
-    let e1 : After-slice_known-2-1 = record { before = c.before.before.before.before.before; type_inv = record { out = c.slice_known-2-1.given } } in
-    (then (headed e1)
-    c.put_byte.ensures)
+    then (headed c.before.before.before.before.before.before.before) c.put_byte.ensures

@@ -1,7 +1,6 @@
 -- `page::lines::put_refused` meets its contract. Assumes nothing.
 use mathlib.Core.Path.{◌∙◌}
 use native.Mathlib.Omega.{arith}
-use borrow.Author.Rules.{rules}
 use Rattle.text.proofs.Putting.{Come, then, wrote_length, come, come_on}
 use Rattle.page.proofs.lines.put_refused.Goals as goal
 use Rattle.page.proofs.lines.put_refused.Goals.{After-put_byte-head, After-put_three-refu, After-put_three-used, Start}

@@ -4,7 +4,6 @@ use mathlib.Core.List.{◌∷◌}
 use Prim.Native.Nat.{ℕ}
 use native.Mathlib.Numerals.{add-one}
 use native.Mathlib.Omega.{arith}
-use borrow.Author.Rules.{rules}
 use lib.IntN.{nat_abs}
 use lib.ListN.{length, length-set}
 use Rattle.exact.proofs.Bound.{read}
@@ -52,4 +51,4 @@ put_digits-requires-2 c = omega (arith, c.requires, ap length (above (record { b
 pub returns : goal.returns
 returns c =
     let p = c.put_digits-2 in let e : Else-z-lt0 = record { before = c.before.before.before.before.before; type_inv = record { out = c.slice_known-1.given } } in
-    rw (above e) (p.ensures.next, p.ensures.list)
+    record { next = rw (above e) p.ensures.next; list = rw (above e) p.ensures.list }

@@ -1,10 +1,6 @@
 -- `text::find::place_from` meets its contract: from `i` the search finds what it finds from `start`. Assumes nothing.
-use mathlib.Core.Path.{◌≡◌, refl, sym, ◌∙◌}
-use Prim.Native.Nat.{◌-◌}
+use mathlib.Core.Path.{refl, sym, ◌∙◌}
 use native.Mathlib.Omega.{arith}
-use borrow.Author.Rules.{rules}
-use lib.ListN.{length}
-use Rattle.text.specs.Parts.{place_from}
 use Rattle.text.proofs.Parting.{place_here, place_next, place_end}
 use Rattle.text.proofs.find.place_from.Goals as goal
 

@@ -1,6 +1,5 @@
 -- `text::line::line` meets its contract. Assumes nothing.
 use native.Mathlib.Omega.{arith}
-use borrow.Author.Rules.{rules}
 use Rattle.text.specs.Lines.{LF}
 use Rattle.text.proofs.Parting.{place_after}
 use Rattle.text.proofs.Splitting.{line_whole, line_none}

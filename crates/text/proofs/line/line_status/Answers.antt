@@ -1,6 +1,5 @@
 -- `text::line::line_status` meets its contract. Assumes nothing.
 use native.Mathlib.Omega.{arith}
-use borrow.Author.Rules.{rules}
 use Rattle.text.proofs.Splitting.{status_whole, status_missing, status_none}
 use Rattle.text.proofs.line.line_status.Goals as goal
 

@@ -4,11 +4,9 @@ use mathlib.Core.Bool.{true}
 use mathlib.Core.List.{List}
 use Prim.Native.Nat.{ℕ, ◌+◌, ◌-◌, ◌≤◌, ◌<◌, ◌^◌}
 use native.Mathlib.Omega.{arith}
-use borrow.Author.Rules.{rules}
 use borrow.Author.Tests.{lt-ltb, le-ltb}
-use lib.ListN.{length, drop, get_or, take}
-use Rattle.text.specs.Numbers.{no_digit, read_digits, Spans}
-use Rattle.text.specs.declared.number.Digits.TheVariants.{Whole}
+use lib.ListN.{length, get_or}
+use Rattle.text.specs.Numbers.{no_digit, Spans}
 use Rattle.text.proofs.Numerals.{small_next, small_18}
 use Rattle.text.proofs.Spanning.{span_none, span_more}
 use Rattle.text.proofs.number.digits_from.Goals as goal

@@ -1,16 +1,9 @@
 -- `text::number::digits_from` meets its contract: i digits have a value below 10 ^ i. Assumes nothing.
 use mathlib.Core.Path.{◌≡◌}
-use mathlib.Core.Bool.{true}
-use mathlib.Core.List.{List}
-use Prim.Native.Nat.{ℕ, ◌+◌, ◌-◌, ◌≤◌, ◌<◌, ◌^◌}
-use native.Mathlib.Omega.{arith}
-use borrow.Author.Rules.{rules}
-use borrow.Author.Tests.{lt-ltb, le-ltb}
-use lib.ListN.{length, drop, get_or, take}
-use Rattle.text.specs.Numbers.{no_digit, read_digits, Spans}
+use Prim.Native.Nat.{◌-◌, ◌≤◌, ◌<◌, ◌^◌}
+use lib.ListN.{drop, take}
+use Rattle.text.specs.Numbers.{read_digits}
 use Rattle.text.specs.declared.number.Digits.TheVariants.{Whole}
-use Rattle.text.proofs.Numerals.{small_next, small_18}
-use Rattle.text.proofs.Spanning.{span_none, span_more}
 use Rattle.text.proofs.number.digits_from.Given as goal
 
 abbrev pub invariant-loop-end : goal.invariant-loop-end

@@ -1,5 +1,4 @@
 -- `text::number::minus_of` meets its contract. Assumes nothing.
-use borrow.Author.Rules.{rules}
 use Rattle.text.proofs.Numerals.{small_fits, small_of, minus_fits, minus_zero, minus_whole, minus_none}
 use Rattle.text.proofs.number.minus_of.Goals as goal
 

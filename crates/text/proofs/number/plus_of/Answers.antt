@@ -1,5 +1,4 @@
 -- `text::number::plus_of` meets its contract. Assumes nothing.
-use borrow.Author.Rules.{rules}
 use Rattle.text.proofs.Numerals.{small_fits, small_of, plus_whole, plus_none}
 use Rattle.text.proofs.number.plus_of.Goals as goal
 

@@ -1,17 +1,15 @@
 -- `text::number::unsigned_to` meets its contract, by the byte that follows the digits. Assumes nothing.
 use mathlib.Core.Path.{◌≡◌, sym, ◌∙◌, ap}
-use mathlib.Core.Logic.{⊎_elim}
 use mathlib.Core.List.{List}
 use Prim.Native.Nat.{ℕ, ◌+◌, ◌-◌, ◌<◌, ◌≤◌}
 use native.Mathlib.Omega.{arith}
-use borrow.Author.Rules.{rules}
 use lib.ListN.{length, get_or, take, drop}
 use Rattle.text.specs.Numbers.{unsigned_of, unsigned_to}
 use Rattle.text.specs.declared.number.Digits.TheVariants.{NoDigits}
 use Rattle.text.proofs.Numerals.{unsigned_empty, unsigned_zero, unsigned_many, unsigned_one}
 use Rattle.text.proofs.Spanning.{no_whole, span_length, span_first, ended_text, ended_here, ended_place, ended_other}
 use Rattle.text.proofs.number.unsigned_to.Goals as goal
-use Rattle.text.proofs.number.unsigned_to.Goals.{After-digits_from-span, Else-end-start, Else-text-end-2}
+use Rattle.text.proofs.number.unsigned_to.Goals.{then-start-end+else-text-start-eq-ZERO, else-start-end, After-digits_from-span, Else-end-start, Else-text-end-2}
 
 -- ---- the digits that have been read
 module _ (c : After-digits_from-span) where
@@ -104,11 +102,12 @@ pub returns : goal.returns
 returns c =
     let b : Else-end-start = record { before = c.before.before; type_inv = record { text = c.shared_slice_known-2-1.given } } in let e = ended b in let d = read e in record {
       value = sym d.digits_from-span.ensures.value
-          ∙ ⊎_elim
-          (λ w. unsigned_many (most d) (digits d) (some b) (few b) (omega (arith, long d, w.0.taken)) (λ z. w.2.left (sym (first b) ∙ z)))
-          (λ w. unsigned_one (most d) (digits d) (some b) (few b) (omega (arith, long d, w.left)))
-          c.if-start-end.branch
+          ∙ elim c.if-start-end.branch [
+            | then-start-end+else-text-start-eq-ZERO w ↦
+                unsigned_many (most d) (digits d) (some b) (few b) (omega (arith, long d, w.if-start-end.true)) (λ z. w.if-text-start-eq-ZERO.false (sym (first b) ∙ z))
+            | else-start-end w ↦ unsigned_one (most d) (digits d) (some b) (few b) (omega (arith, long d, w.if-start-end.false))
+          ]
           ∙ sym (whole e);
       small = d.digits_from-span.ensures.small;
-      next = λ v q. ap (λ (n : ℕ). n + 1) (sym (ended_place (most d) (text d) (start d) _ d.digits_from-span.result d.digits_from-span.ensures d.requires.2 (within e) e.if-text-end-2.left));
+      next = λ v q. ap (λ (n : ℕ). n + 1) (sym (ended_place (most d) (text d) (start d) _ d.digits_from-span.result d.digits_from-span.ensures d.requires.2 (within e) e.if-text-end-2.false));
     }

@@ -2,11 +2,11 @@
 use mathlib.Core.Path.{◌≡◌, refl, sym, ◌∙◌, ap}
 use mathlib.Core.List.{List}
 use mathlib.Core.Option.{Option, none, some}
-use Prim.Native.Nat.{ℕ, suc, ◌+◌, ◌-◌, ◌<◌, ◌≤◌}
+use Prim.Native.Nat.{ℕ, suc, ◌+◌, ◌-◌, ◌<◌}
 use native.Mathlib.Omega.{arith}
 use borrow.Author.Rules.{rules}
 use lib.IntN.{ℤ}
-use lib.ListN.{length, take, set, length-set}
+use lib.ListN.{take, set, length-set}
 use mir.Syntax.{w64}
 use mir.Val.{to_z, of_z}
 use Rattle.exact.proofs.Bound.{read_at}
@@ -91,7 +91,7 @@ loop-i-preserved c =
       omega (arith, inside c),
       omega (arith, next c, tab_within (most l) f at (value c) (reads c)),
       length-set l.loop-i.x l.loop-i.i _ ∙ l.loop-i.invariant.2,
-      row_more (most l) f (start l) at (count l) l.loop-i.i l.loop-i.x l.loop-i.invariant.3 (value c) _ _ (read_at (value c) c.known_told-1.given.0.1) (reads c) (next c)
+      row_more (most l) f (start l) at (count l) l.loop-i.i l.loop-i.x l.loop-i.invariant.3 (value c) _ _ (read_at (value c) (search rules)) (reads c) (next c)
           (omega (arith, inside c)) (bounds-x-i c),
       ap (place_from LF f) (next c) ∙ sym (tab_place (most l) f at (value c) (reads c)) ∙ l.loop-i.invariant.4,
     )
@@ -130,7 +130,7 @@ returns c =
     let i : count l - 1 ≡ l.loop-i.i = omega (arith, one) in
     let x = l.loop-i.x in let y = to_z w64 (of_z w64 z) in
     let row : row_within (most l) (file l) (start l) (count l) ≡ some (take (count l) (set x (count l - 1) y)) =
-    row_last (most l) (file l) (start l) l.loop-i.at (count l) l.loop-i.i x l.loop-i.invariant.3 z y (read_at z c.known_told-in-Value-number-2-1.given.0.1) (sym r.ensures.number ∙ said) one
+    row_last (most l) (file l) (start l) l.loop-i.at (count l) l.loop-i.i x l.loop-i.invariant.3 z y (read_at z (search rules)) (sym r.ensures.number ∙ said) one
     (omega (arith, i, bounds-x-last c))
     ∙ ap (λ (n : ℕ). some (take (count l) (set x n y))) (sym i) in record {
       end = row_some (most l) (file l) (start l) (count l) _ _ row (r.ensures.next z said ∙ ap (λ (n : ℕ). n + 1) l.loop-i.invariant.4);

@@ -1,7 +1,6 @@
 -- `text::writer::put_count` meets its contract. Assumes nothing.
 use mathlib.Core.Path.{◌∙◌}
 use native.Mathlib.Omega.{arith}
-use borrow.Author.Rules.{rules}
 use Rattle.text.specs.Decimal.{digits_of}
 use Rattle.text.specs.Written.{Wrote}
 use Rattle.text.proofs.Putting.{then, wrote_length, count_most}

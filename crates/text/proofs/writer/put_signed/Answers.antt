@@ -1,7 +1,6 @@
 -- `text::writer::put_signed` meets its contract. Assumes nothing.
 use mathlib.Core.Path.{◌∙◌}
 use native.Mathlib.Omega.{arith}
-use borrow.Author.Rules.{rules}
 use mir.Syntax.{w64}
 use mir.Val.{to_z, of_z}
 use Rattle.exact.proofs.Bound.{read}

@@ -1,7 +1,6 @@
 -- `text::writer::put_three` meets its contract. Assumes nothing.
 use mathlib.Core.Path.{◌∙◌}
 use native.Mathlib.Omega.{arith}
-use borrow.Author.Rules.{rules}
 use Rattle.text.proofs.Putting.{Come, then, wrote_length, come, come_on}
 use Rattle.text.proofs.writer.put_three.Goals as goal
 use Rattle.text.proofs.writer.put_three.Goals.{After-put_byte-second, After-put_byte-third, Start}
@@ -26,7 +25,7 @@ pub put_byte-requires : goal.put_byte-requires
 put_byte-requires c = let b = c.before.before.before in omega (arith, (start2 b).requires, (come2 b).far, (come2 b).kept)
 
 pub shape_of-out : goal.shape_of-out
-shape_of-out c = wrote_length c.put_byte.ensures ∙ (come2 (record { before = c.before.before.before.before.before; type_inv = record { out = c.slice_known-3-1.given } })).kept
+shape_of-out c = wrote_length c.put_byte.ensures ∙ (come2 c.before.before.before.before.before.before.before).kept
 
 pub returns : goal.returns
 returns c =

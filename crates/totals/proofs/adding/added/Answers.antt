@@ -3,9 +3,7 @@ use mathlib.Core.Path.{sym, ◌∙◌, ap, ap₂}
 use mathlib.Core.List.{List}
 use Prim.Native.Nat.{ℕ, ◌+◌}
 use native.Mathlib.Omega.{arith}
-use borrow.Author.Rules.{rules}
 use lib.ListN.{get_or, set}
-use Rattle.totals.specs.Totals.{joined}
 use Rattle.totals.specs.Adding.{joined_at, added}
 use Rattle.totals.proofs.Printing.{pair_within}
 use Rattle.totals.proofs.Entering.{fits, second_fits}

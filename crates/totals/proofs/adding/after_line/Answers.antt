@@ -1,7 +1,6 @@
 -- `totals::adding::after_line` meets its contract. Assumes nothing.
 use mathlib.Core.Path.{sym, ◌∙◌, ap}
 use borrow.Author.Tests.{eq-eqb, ne_eqb}
-use borrow.Author.Rules.{rules}
 use Rattle.totals.specs.Adding.{entered, after_line}
 use Rattle.totals.proofs.adding.after_line.Goals as goal
 

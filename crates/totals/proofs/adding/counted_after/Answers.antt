@@ -2,7 +2,6 @@
 use mathlib.Core.Path.{sym, ◌∙◌}
 use native.Mathlib.Omega.{arith}
 use borrow.Author.Tests.{eq-eqb, ne_eqb, lt-ltb, le-ltb}
-use borrow.Author.Rules.{rules}
 use Rattle.totals.specs.Adding.{counted_after}
 use Rattle.totals.proofs.Promising.{small_at}
 use Rattle.totals.proofs.adding.counted_after.Goals as goal

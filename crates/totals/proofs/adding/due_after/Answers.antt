@@ -1,6 +1,5 @@
 -- `totals::adding::due_after` meets its contract. Assumes nothing.
 use borrow.Author.Tests.{lt-ltb, le-ltb}
-use borrow.Author.Rules.{rules}
 use Rattle.totals.specs.Adding.{due_after}
 use Rattle.totals.proofs.adding.due_after.Goals as goal
 

@@ -1,5 +1,5 @@
 -- `totals::adding::end` meets its contract, by what is known. Assumes nothing.
-use mathlib.Core.Path.{sym, ◌∙◌, ap}
+use mathlib.Core.Path.{◌≡◌, sym, ◌∙◌, ap}
 use mathlib.Core.Bool.{false}
 use native.Mathlib.Omega.{arith}
 use borrow.Author.Rules.{rules}
@@ -22,8 +22,8 @@ pub returns-then-t-ne0 : goal.returns-then-t-ne0
 returns-then-t-ne0 c =
     let a = c.args in
     record {
-      text = rewrote (at_fault (length a.out.now) a.a.tally a.a.length c.if-out-lt-REPORT.false c.if-t-ne0.true) c.Put-refused.ensures;
-      within = omega (arith, c.if-out-lt-REPORT.false, c.Put-refused.ensures.place, refused_most 1 a.a.tally.fault);
+      text = rewrote (at_fault (length a.out.now) a.a.tally a.a.length c.if-out-lt-REPORT.false c.if-t-ne0.true) c.put_refused.ensures;
+      within = omega (arith, c.if-out-lt-REPORT.false, c.put_refused.ensures.place, refused_most 1 a.a.tally.fault);
     }
 
 pub returns-then-unfinished : goal.returns-then-unfinished
@@ -42,13 +42,10 @@ returns-then-t c =
       within = omega (arith, c.if-out-lt-REPORT.false, c.put_refused-then-t.ensures.place, refused_most 30 100001);
     }
 
-pub slice_bounds-print-end : goal.slice_bounds-print-end
-slice_bounds-print-end c = search rules
-
 pub returns : goal.returns
 returns c =
-    let g = c.before.before.before in let a = g.args in let room = length a.out.now in
+    let a = c.args in let room = length a.out.now in let long : length a.a.tally.sum ≡ 16 = search rules in
     record {
-      text = rewrote (sym (reported room a.a.tally.sum false (sym (slice_bounds-print-end g)) g.if-out-lt-REPORT.false) ∙ summed room a.a.tally a.a.length g.if-out-lt-REPORT.false g.if-t-ne0.false (sym g.unfinished.ensures ∙ g.if-unfinished.false) g.if-t.false) c.print.ensures.text;
+      text = rewrote (sym (reported room a.a.tally.sum false long c.if-out-lt-REPORT.false) ∙ summed room a.a.tally a.a.length c.if-out-lt-REPORT.false c.if-t-ne0.false (sym c.unfinished.ensures ∙ c.if-unfinished.false) c.if-t.false) c.print.ensures.text;
       within = c.print.ensures.within;
     }

@@ -1,6 +1,5 @@
 -- `totals::adding::entry_with` meets its contract. Assumes nothing.
 use mathlib.Core.Path.{refl, ◌∙◌, ap, ap₂}
-use borrow.Author.Rules.{rules}
 use lib.IntN.{nat_abs}
 use Rattle.exact.proofs.Bound.{read}
 use Rattle.exact.proofs.Order.{lt_true, lt_false}

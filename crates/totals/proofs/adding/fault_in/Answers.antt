@@ -1,6 +1,5 @@
 -- `totals::adding::fault_in` meets its contract. Assumes nothing.
 use mathlib.Core.Path.{sym, ◌∙◌}
-use borrow.Author.Rules.{rules}
 use Rattle.totals.specs.Adding.{fault_in}
 use Rattle.totals.proofs.adding.fault_in.Goals as goal
 

@@ -1,7 +1,6 @@
 -- `totals::adding::faulty` meets its contract. Assumes nothing.
 use mathlib.Core.Path.{ap}
 use Prim.Native.Nat.{ℕ}
-use borrow.Author.Rules.{rules}
 use Rattle.totals.specs.Adding.{faulty}
 use Rattle.totals.specs.declared.adding.Tally.{Tally}
 use Rattle.totals.proofs.adding.faulty.Goals as goal

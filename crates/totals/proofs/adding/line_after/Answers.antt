@@ -1,6 +1,5 @@
 -- `totals::adding::line_after` meets its contract. Assumes nothing.
 use borrow.Author.Tests.{lt-ltb, le-ltb}
-use borrow.Author.Rules.{rules}
 use Rattle.totals.specs.Promise.{most_total}
 use Rattle.totals.specs.Adding.{line_after}
 use Rattle.totals.proofs.adding.line_after.Goals as goal

@@ -1,10 +1,8 @@
 -- `totals::adding::next` meets its contract: the bytes that are left lead on from the state so far. Assumes nothing.
-use mathlib.Core.Path.{◌≡◌, refl, sym, ◌∙◌}
+use mathlib.Core.Path.{◌≡◌}
 use Prim.Native.Nat.{◌-◌, ◌≤◌}
-use borrow.Author.Rules.{rules}
 use lib.ListN.{length, drop}
 use Rattle.totals.specs.Adding.{after_bytes, stream_of}
-use Rattle.totals.proofs.Streaming.{bytes_more, bytes_done}
 use Rattle.totals.proofs.adding.next.Given as goal
 
 abbrev pub invariant-loop-i : goal.invariant-loop-i

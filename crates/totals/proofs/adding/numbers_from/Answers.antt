@@ -2,7 +2,6 @@
 use mathlib.Core.Path.{sym, ◌∙◌, ap₂}
 use Prim.Native.Nat.{◌≤◌}
 use native.Mathlib.Omega.{arith}
-use borrow.Author.Rules.{rules}
 use lib.IntN.{pos}
 use lib.ListN.{length, take, get_or-eq_default}
 use lib.Seq.{get_or-take, length-take-le}

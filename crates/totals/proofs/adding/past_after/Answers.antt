@@ -2,7 +2,6 @@
 use Prim.Native.Nat.{◌+◌}
 use native.Mathlib.Omega.{arith}
 use borrow.Author.Tests.{eq-eqb, ne_eqb, lt-ltb}
-use borrow.Author.Rules.{rules}
 use Rattle.totals.specs.Promise.{most_nets}
 use Rattle.totals.specs.Adding.{past_after}
 use Rattle.totals.proofs.adding.past_after.Goals as goal

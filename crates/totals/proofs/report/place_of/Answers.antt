@@ -7,9 +7,9 @@ use Rattle.totals.proofs.report.place_of.Goals as goal
 pub returns-then-line-lt12 : goal.returns-then-line-lt12
 unfolding place_of
 returns-then-line-lt12 c = record {
-      place = rw (lt-ltb c.args.line 12 c.if-line-lt12.true);
-      within = omega arith;
-    }
+  place = rw (lt-ltb c.args.line 12 c.if-line-lt12.true);
+  within = omega arith;
+}
 
 pub returns-then-line-eq12 : goal.returns-then-line-eq12
 unfolding place_of

@@ -1,6 +1,5 @@
 -- `totals::report::print` meets its contract, by the totals and the buffer. Assumes nothing.
 use native.Mathlib.Omega.{arith}
-use borrow.Author.Rules.{rules}
 use lib.ListN.{length}
 use Rattle.text.specs.Written.{Wrote}
 use Rattle.text.proofs.Putting.{then, rewrote, wrote_length}

@@ -1,5 +1,4 @@
 -- `totals::report::put_head` meets its contract, by the line. Assumes nothing.
-use borrow.Author.Rules.{rules}
 use Rattle.text.proofs.Putting.{rewrote, then}
 use Rattle.totals.proofs.Printing.{head_nets, head_accepted, head_angles, head_sides, head_count, head_shared}
 use Rattle.totals.proofs.report.put_head.Goals as goal

@@ -1,8 +1,7 @@
 -- `totals::report::put_lines` meets its contract: the lines before `line` have been written. Assumes nothing.
 use mathlib.Core.Path.{subst}
-use Prim.Native.Nat.{ℕ, ◌-◌, ◌≤◌}
+use Prim.Native.Nat.{ℕ}
 use native.Mathlib.Omega.{arith}
-use borrow.Author.Rules.{rules}
 use Rattle.text.specs.Written.{in_order, Wrote}
 use Rattle.totals.specs.Text.{line_of}
 use Rattle.text.proofs.Putting.{wrote_length, lines_none, lines_on_lem, lines_room}
