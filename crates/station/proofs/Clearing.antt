@@ -5,7 +5,7 @@
 --   free_before                       a place without a reason had none before
 --   settled                           after the four steps no place is spoilt, for any step
 use mathlib.Core.Path.{◌≡◌, refl, sym, ◌∙◌, ap, subst}
-use mathlib.Core.Bool.{Bool, true, false, not, cond, ◌&&◌, and-false, and_true as and_yes, and-not_self}
+use mathlib.Core.Bool.{Bool, true, false, not, cond, ◌&&◌, and-false, and-true as and_yes, and-not_self}
 use mathlib.Core.List.{List}
 use Prim.Native.Nat.{ℕ, zero, suc, ◌/◌, ◌%◌, ◌<◌, ◌≤◌}
 use native.Mathlib.Decide.{dec_lt}

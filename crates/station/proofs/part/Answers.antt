@@ -2,7 +2,6 @@
 use mathlib.Core.Path.{◌≡◌, sym, ◌∙◌, ap}
 use mathlib.Core.List.{List}
 use Prim.Native.Nat.{ℕ}
-use borrow.Author.Rules.{rules}
 use borrow.Author.Tests.{eq-eqb}
 use lib.ListN.{length}
 use lib.Seq.{sets}
@@ -23,68 +22,62 @@ sighted s = book s.args.position.now s.args.object.now s.args.face.now s.args.re
 
 -- the lists as they were lent
 abbrev lists : Start → Lent
-lists s = lent s.args.kept-position.now s.args.kept-object.now s.args.kept-face.now s.args.kept-reading.now s.args.ordinals.now s.args.reasons.now
+lists s = lent s.args.kept_position.now s.args.kept_object.now s.args.kept_face.now s.args.kept_reading.now s.args.ordinals.now s.args.reasons.now
 
 -- the reply of the rule, whose two tests of room hold
-replied : (c : After-judge-reply) → let s = c.before.before.before.before.before.before in c.judge-reply.result ≡ rescue_reply (sighted s) (rooms (sighted s) (lists s))
-replied c =
-    let s = c.before.before.before.before.before.before in
-    c.judge-reply.ensures.replied ∙ ap (rescue_reply (sighted s)) (eq-eqb _ _ s.requires.1 ∙ sym s.requires.0)
+replied : (c : After-judge-reply) → let s = (goal.at.After-judge-reply c).Start in c.judge-reply.result ≡ rescue_reply (sighted s) (rooms (sighted s) (lists s))
+replied c = c.judge-reply.ensures.replied ∙ ap (rescue_reply (sighted (goal.at.After-judge-reply c).Start)) (eq-eqb _ _ c.requires.1 ∙ sym c.requires.0)
 
 pub returns-in-Refused : goal.returns-in-Refused
 returns-in-Refused c =
-    let e = sym c.in-Refused.is ∙ replied (record { before = c.before.before.before.before.before; type_inv = record { reasons = c.slice_known-3-1.given; ordinals = c.slice_known-2-1.given } }) in
-    refused_keeps (sighted c.before.before.before.before.before.before.before.before.before.before) (lists c.before.before.before.before.before.before.before.before.before.before) _ c.refused.result c.refused.ensures e
+    let at = goal.at.returns-in-Refused c in let s = at.Start in
+    refused_keeps (sighted s) (lists s) _ c.refused.result c.refused.ensures (sym c.in-Refused.is ∙ replied at.After-judge-reply)
 
 -- an accepted list: its reasons, and lists that fit
 module _ (c : In_default) where
-  abbrev judged : After-judge-reply
-  judged = (record { before = c.before.before.before.before; type_inv = record { reasons = c.slice_known-3-1.given; ordinals = c.slice_known-2-1.given } })
-
   abbrev start : Start
-  start = judged.before.before.before.before.before.before
+  start = (goal.at.In_default c).Start
 
   abbrev spoiled : Book
   spoiled = sighted start
 
   abbrev noted : List ℕ
-  noted = judged.judge-reply.new.reason
+  noted = c.judge-reply.new.reason
 
-  accepted : judged.judge-reply.result ≡ Accepted
+  accepted : c.judge-reply.result ≡ Accepted
   accepted = c.in_default.is
 
   noted_is : noted ≡ tabulate (sightings spoiled) (reason spoiled)
-  noted_is = judged.judge-reply.ensures.reasons_are ∙ (λ i. leaves (accepted i) (tabulate (sightings spoiled) (reason spoiled)) start.args.reason.now)
+  noted_is = c.judge-reply.ensures.reasons_are ∙ (λ i. leaves (accepted i) (tabulate (sightings spoiled) (reason spoiled)) start.args.reason.now)
 
   long : sightings spoiled ≡ length noted
   long = sym (reasons_long spoiled noted noted_is)
 
   ranges : InRange spoiled
-  ranges = (rescue_in spoiled (rooms spoiled (lists start)) (sym (replied judged) ∙ accepted)).0
+  ranges = (rescue_in spoiled (rooms spoiled (lists start)) (sym (replied (goal.at.In_default c).After-judge-reply) ∙ accepted)).0
 
   fits : let l = lists start in RoomsFit (sightings spoiled) (length l.kept.position) (length l.kept.object) (length l.kept.face) (length l.kept.reading) (length l.ordinal) (length l.reason)
   fits = rooms_fit_lem _ _ _ _ _ _ _ start.requires.0
 
 pub keep-requires : goal.keep-requires
-keep-requires c = let e : In_default = record { before = c.before.before; type_inv = record { reasons = c.slice_known-3-1.given; ordinals = c.slice_known-2-1.given } } in (long e, (fits e).positions_fit ∙ long e)
+keep-requires c = let e = (goal.at.keep-requires c).In_default in (long e, (fits e).positions_fit ∙ long e)
 
 pub keep-requires-2 : goal.keep-requires-2
-keep-requires-2 c = let e : In_default = record { before = c.before.before.before.before.before; type_inv = record { reasons = c.slice_known-3-1.given; ordinals = c.slice_known-2-1.given } } in ((ranges e).objects ∙ long e, (fits e).objects_fit ∙ long e)
+keep-requires-2 c = let e = (goal.at.keep-requires-2 c).In_default in ((ranges e).objects ∙ long e, (fits e).objects_fit ∙ long e)
 
 pub keep-requires-3 : goal.keep-requires-3
-keep-requires-3 c = let e : In_default = record { before = c.before.before.before.before.before.before.before.before; type_inv = record { reasons = c.slice_known-3-1.given; ordinals = c.slice_known-2-1.given } } in ((ranges e).faces ∙ long e, (fits e).faces_fit ∙ long e)
+keep-requires-3 c = let e = (goal.at.keep-requires-3 c).In_default in ((ranges e).faces ∙ long e, (fits e).faces_fit ∙ long e)
 
 pub keep-kept-requires : goal.keep-kept-requires
-keep-kept-requires c = let e : In_default = record { before = c.before.before.before.before.before.before.before.before.before.before.before; type_inv = record { reasons = c.slice_known-3-1.given; ordinals = c.slice_known-2-1.given } } in ((ranges e).readings ∙ long e, (fits e).readings_fit ∙ long e)
+keep-kept-requires c = let e = (goal.at.keep-kept-requires c).In_default in ((ranges e).readings ∙ long e, (fits e).readings_fit ∙ long e)
 
 pub list_dropped-dropped-requires : goal.list_dropped-dropped-requires
-list_dropped-dropped-requires c = let e : In_default = record { before = c.before.before.before.before.before.before.before.before.before.before.before.before.before.before; type_inv = record { reasons = c.slice_known-3-1.given; ordinals = c.slice_known-2-1.given } } in ((fits e).ordinals_fit ∙ long e, (fits e).reasons_fit ∙ long e)
+list_dropped-dropped-requires c = let e = (goal.at.list_dropped-dropped-requires c).In_default in ((fits e).ordinals_fit ∙ long e, (fits e).reasons_fit ∙ long e)
 
 pub returns : goal.returns
 returns c =
-    let e : In_default = record { before = c.before.before.before.before.before.before.before.before.before.before.before.before.before.before.before.before.before.before.before.before; type_inv = record { reasons = c.slice_known-3-1.given; ordinals = c.slice_known-2-1.given } } in
-    let b = spoiled e in let x = noted_is e in let l = lists (start e) in
-    accepted_keeps b l _ c.keep-kept.result c.list_dropped-dropped.result (sym (accepted e) ∙ replied (judged e))
+    let e = (goal.at.returns c).In_default in let b = spoiled e in let x = noted_is e in let l = lists (start e) in
+    accepted_keeps b l _ c.keep-kept.result c.list_dropped-dropped.result (sym (accepted e) ∙ replied (goal.at.returns c).After-judge-reply)
     (c.keep-kept.ensures.count ∙ ap length (keeps b (noted e) x b.reading) ∙ gather_long (is_kept b) (sightings b) (reading_at b) (position_at b))
     (c.list_dropped-dropped.ensures.count ∙ ap length (drops_ordinals b (noted e) x))
     (λ i. lent

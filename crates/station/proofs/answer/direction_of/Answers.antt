@@ -1,7 +1,6 @@
 -- `answer::direction_of` meets its contract: at most 16 pairs, g within two circles and e within one, so t + P fits. Assumes nothing.
 use mathlib.Core.Path.{◌≡◌, refl, sym, ◌∙◌, ap}
 use Prim.Native.Nat.{ℕ, ◌≤◌}
-use borrow.Author.Rules.{rules}
 use lib.IntN.{ℤ, pos, nat_abs, ◌+ℤ◌, ◌*ℤ◌}
 use lib.Signed.{lt_z, ◌<ℤ◌}
 use mir.Syntax.{w64}

@@ -1,8 +1,7 @@
 -- `answer::write` meets its contract: both lists are filled from the front. Assumes nothing.
 use mathlib.Core.Path.{◌≡◌, subst}
-use Prim.Native.Nat.{ℕ, ◌≤◌, ◌-◌}
+use Prim.Native.Nat.{ℕ}
 use native.Mathlib.Omega.{arith}
-use borrow.Author.Rules.{rules}
 use lib.IntN.{pos}
 use Rattle.exact.proofs.Filling.{Filled, filled_none, filled_more, filled_all}
 use Rattle.station.specs.Means.{P, direction as directionOf}

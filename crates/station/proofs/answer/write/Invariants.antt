@@ -1,12 +1,8 @@
 -- `answer::write` meets its contract: both lists are filled from the front. Assumes nothing.
-use mathlib.Core.Path.{◌≡◌, subst}
-use Prim.Native.Nat.{ℕ, ◌≤◌, ◌-◌}
-use native.Mathlib.Omega.{arith}
-use borrow.Author.Rules.{rules}
+use Prim.Native.Nat.{◌≤◌, ◌-◌}
 use lib.IntN.{pos}
-use Rattle.exact.proofs.Filling.{Filled, filled_none, filled_more, filled_all}
+use Rattle.exact.proofs.Filling.{Filled}
 use Rattle.station.specs.Means.{P, direction as directionOf}
-use Rattle.station.proofs.Figures.{told}
 use Rattle.station.proofs.answer.write.Given as goal
 
 abbrev pub invariant-loop-j : goal.invariant-loop-j

@@ -1,5 +1,4 @@
 -- `checks::fault_at` meets its contract, check by check. Assumes nothing.
-use borrow.Author.Rules.{rules}
 use Rattle.station.specs.Replies.{fault}
 use Rattle.station.proofs.checks.fault_at.Goals as goal
 

@@ -1,9 +1,6 @@
 -- `checks::first_fault` meets its contract: no place before k is at fault. Assumes nothing.
-use mathlib.Core.Path.{◌≡◌, sym, ◌∙◌, subst}
 use Prim.Native.Nat.{◌≤◌, ◌-◌}
-use native.Mathlib.Omega.{arith}
-use borrow.Author.Rules.{rules}
-use Rattle.exact.proofs.Searching.{Failed, failed_none, failed_more, first_at, first_none}
+use Rattle.exact.proofs.Searching.{Failed}
 use Rattle.station.specs.Replies.{fault}
 use Rattle.station.proofs.checks.first_fault.Given as goal
 

@@ -1,9 +1,8 @@
 -- `checks::spread_fault` meets its contract: an object that was sighted has a lowest position, whose g is the base. Assumes nothing.
-use mathlib.Core.Path.{◌≡◌, ◌∙◌, ap}
+use mathlib.Core.Path.{◌≡◌, ◌∙◌, ap, sym}
 use mathlib.Core.Bool.{true}
 use Prim.Native.Nat.{ℕ, ◌<◌}
 use native.Mathlib.Omega.{arith}
-use borrow.Author.Rules.{rules}
 use lib.Dec.{ltb}
 use lib.IntN.{nat_abs, ◌-ℤ◌}
 use mir.Syntax.{w64}
@@ -12,16 +11,15 @@ use Rattle.exact.specs.Circle.{C}
 use Rattle.station.specs.Means.{centred, seen, g, base, e, spread_fault}
 use Rattle.station.proofs.Figures.{told, g_size}
 use Rattle.station.proofs.Positions.{lowest_least}
-use Rattle.station.proofs.Tests.{refuted, upheld}
 use Rattle.station.proofs.checks.spread_fault.Goals as goal
 use Rattle.station.proofs.checks.spread_fault.Goals.{After-doubled_direction-base, After-lowest, Else-not-seen}
 
 pub returns-then-not-seen : goal.returns-then-not-seen
 unfolding spread_fault
-returns-then-not-seen c = rw (refuted c.seen.ensures c.if-not-seen.true)
+returns-then-not-seen c = rw (sym c.seen.ensures ∙ c.if-not-seen.true)
 
 sighted : (c : Else-not-seen) → let a = c.args in seen a.count.now a.i a.j ≡ true
-sighted c = upheld c.seen.ensures c.if-not-seen.false
+sighted c = sym c.seen.ensures ∙ c.if-not-seen.false
 
 lowest_in : (c : After-lowest) → c.lowest.result < 16
 lowest_in c =

@@ -1,6 +1,5 @@
 -- `fields::out_of_range` meets its contract, field by field. Assumes nothing.
 use mathlib.Core.Path.{sym, ◌∙◌}
-use borrow.Author.Rules.{rules}
 use mir.ValLaws.{to_z-of_z}
 use Rattle.station.specs.Sightings.{out_of_range}
 use Rattle.station.proofs.fields.out_of_range.Goals as goal

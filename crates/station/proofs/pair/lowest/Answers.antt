@@ -1,8 +1,6 @@
 -- `pair::lowest` meets its contract: in no position before i was the object sighted. Assumes nothing.
 use mathlib.Core.Path.{◌≡◌, sym, ◌∙◌, subst}
-use Prim.Native.Nat.{◌≤◌, ◌-◌}
 use native.Mathlib.Omega.{arith}
-use borrow.Author.Rules.{rules}
 use Rattle.exact.proofs.Searching.{Failed, failed_none, failed_more, first_at, first_none}
 use Rattle.station.specs.Means.{seen, lowest}
 use Rattle.station.proofs.pair.lowest.Goals as goal

@@ -1,10 +1,7 @@
 -- `pair::lowest` meets its contract: in no position before i was the object sighted. Assumes nothing.
-use mathlib.Core.Path.{◌≡◌, sym, ◌∙◌, subst}
 use Prim.Native.Nat.{◌≤◌, ◌-◌}
-use native.Mathlib.Omega.{arith}
-use borrow.Author.Rules.{rules}
-use Rattle.exact.proofs.Searching.{Failed, failed_none, failed_more, first_at, first_none}
-use Rattle.station.specs.Means.{seen, lowest}
+use Rattle.exact.proofs.Searching.{Failed}
+use Rattle.station.specs.Means.{seen}
 use Rattle.station.proofs.pair.lowest.Given as goal
 
 abbrev pub invariant-loop-i : goal.invariant-loop-i

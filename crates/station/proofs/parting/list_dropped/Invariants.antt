@@ -1,13 +1,8 @@
 -- `parting::list_dropped` meets its contract: the first n places hold the dropped ones among the first h. Assumes nothing.
-use mathlib.Core.Path.{◌≡◌, refl, ap, subst}
-use mathlib.Core.Bool.{Bool, not}
-use mathlib.Core.Logic.{⊎_elim}
-use Prim.Native.Nat.{ℕ, ◌+◌, ◌-◌, ◌≤◌}
-use native.Mathlib.Omega.{arith}
-use borrow.Author.Rules.{rules}
-use borrow.Author.Tests.{eq-eqb, ne_eqb}
+use mathlib.Core.Bool.{not}
+use Prim.Native.Nat.{◌+◌, ◌-◌, ◌≤◌}
 use lib.ListN.{length, get_or}
-use Rattle.exact.proofs.Gathering.{Gathered, gathered_none, gathered_taken, gathered_passed, gathered_as}
+use Rattle.exact.proofs.Gathering.{Gathered}
 use Rattle.station.specs.Steps.{free}
 use Rattle.station.proofs.parting.list_dropped.Given as goal
 

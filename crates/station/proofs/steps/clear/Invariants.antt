@@ -1,16 +1,11 @@
 -- `steps::clear` meets its contract: below k the table is cleared, from k on it is as it was. Assumes nothing.
-use mathlib.Core.Path.{◌≡◌, sym, subst}
-use mathlib.Core.Bool.{Bool, true, false, cond}
+use mathlib.Core.Bool.{cond}
 use mathlib.Core.List.{List}
-use mathlib.Core.Logic.{⊎_elim}
-use Prim.Native.Nat.{ℕ, ◌+◌, ◌-◌, ◌≤◌, ◌%◌}
-use native.Mathlib.Omega.{arith}
-use borrow.Author.Rules.{rules}
-use borrow.Author.Tests.{eq-eqb, ne_eqb}
+use Prim.Native.Nat.{ℕ, ◌-◌, ◌≤◌, ◌%◌}
 use lib.IntN.{ℤ, pos}
 use lib.ListN.{get_or}
-use Rattle.exact.proofs.Filling.{Filled, filled_none, filled_more, filled_same, filled_all}
-use Rattle.station.specs.Steps.{free, cleared}
+use Rattle.exact.proofs.Filling.{Filled}
+use Rattle.station.specs.Steps.{free}
 use Rattle.station.proofs.steps.clear.Given as goal
 
 -- the number at place i afterwards

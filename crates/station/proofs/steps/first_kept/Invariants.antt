@@ -1,14 +1,11 @@
 -- `steps::first_kept` meets its contract: every sighting before h has a reason. Assumes nothing.
-use mathlib.Core.Path.{◌≡◌, sym, ◌∙◌, ap, subst}
+use mathlib.Core.Path.{◌≡◌, sym, ap}
 use mathlib.Core.Bool.{Bool}
 use mathlib.Core.List.{List}
 use Prim.Native.Nat.{ℕ, ◌-◌, ◌≤◌}
-use native.Mathlib.Omega.{arith}
-use borrow.Author.Rules.{rules}
-use borrow.Author.Tests.{eq-eqb, ne_eqb}
 use lib.IntN.{ℤ}
 use lib.ListN.{length, get_or}
-use Rattle.exact.proofs.Searching.{Failed, failed_none, failed_more, first_at, first_none}
+use Rattle.exact.proofs.Searching.{Failed}
 use Rattle.station.specs.Rescue.{place_in}
 use Rattle.station.specs.Steps.{free}
 use Rattle.station.proofs.steps.first_kept.Given as goal

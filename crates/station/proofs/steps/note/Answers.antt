@@ -2,10 +2,8 @@
 use mathlib.Core.Path.{◌≡◌, sym, ◌∙◌, subst}
 use mathlib.Core.Bool.{Bool, true, false, cond}
 use mathlib.Core.List.{List}
-use mathlib.Core.Logic.{⊎_elim}
-use Prim.Native.Nat.{ℕ, ◌+◌, ◌-◌, ◌≤◌}
+use Prim.Native.Nat.{ℕ, ◌+◌}
 use native.Mathlib.Omega.{arith}
-use borrow.Author.Rules.{rules}
 use lib.IntN.{ℤ}
 use lib.ListN.{get_or}
 use Rattle.exact.proofs.Filling.{Filled, filled_none, filled_more, filled_same, filled_all}
@@ -13,6 +11,7 @@ use Rattle.station.specs.declared.checks.Check.{Check}
 use Rattle.station.specs.Replies.{fault}
 use Rattle.station.specs.Steps.{noted}
 use Rattle.station.proofs.steps.note.Goals as goal
+use Rattle.station.proofs.steps.note.Goals.{then-fault_at, else-fault_at}
 
 -- the reason at place i afterwards
 abbrev after : Check → ℕ → List ℤ → List ℤ → List ℕ → ℕ → ℕ
@@ -28,10 +27,10 @@ loop-k-preserved c =
     let test = sym c.fault_at.ensures in
     let told : (t : Bool) → fault a.check a.count.now a.sums.now k ≡ t → cond t a.step (get_or a.why.now k 0) ≡ g k = λ t e i. cond (sym e i) a.step (get_or a.why.now k 0) in (
       omega arith,
-      ⊎_elim
-          (λ w. subst (Filled 0 g 0 (k + 1) a.why.now) (sym w.1) (filled_more 0 g 0 k a.why.now c.loop-k.why a.step (omega (arith, c.requires.2)) c.loop-k.invariant.1 (told true (test ∙ w.0.taken))))
-          (λ w. subst (Filled 0 g 0 (k + 1) a.why.now) (sym w.1) (filled_same 0 g 0 k a.why.now c.loop-k.why c.loop-k.invariant.1 (told false (test ∙ w.0.left))))
-          c.if-fault_at.branch,
+      elim c.if-fault_at.branch [
+        | then-fault_at w ↦ subst (Filled 0 g 0 (k + 1) a.why.now) (sym w.why-is) (filled_more 0 g 0 k a.why.now c.loop-k.why a.step (omega (arith, c.requires.2)) c.loop-k.invariant.1 (told true (test ∙ w.if-fault_at.true)))
+        | else-fault_at w ↦ subst (Filled 0 g 0 (k + 1) a.why.now) (sym w.why-is) (filled_same 0 g 0 k a.why.now c.loop-k.why c.loop-k.invariant.1 (told false (test ∙ w.if-fault_at.false)))
+      ],
     )
 
 pub returns : goal.returns

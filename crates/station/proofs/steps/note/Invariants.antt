@@ -1,17 +1,12 @@
 -- `steps::note` meets its contract: below k the reasons are noted, from k on they are as they were. Assumes nothing.
-use mathlib.Core.Path.{◌≡◌, sym, ◌∙◌, subst}
-use mathlib.Core.Bool.{Bool, true, false, cond}
+use mathlib.Core.Bool.{cond}
 use mathlib.Core.List.{List}
-use mathlib.Core.Logic.{⊎_elim}
-use Prim.Native.Nat.{ℕ, ◌+◌, ◌-◌, ◌≤◌}
-use native.Mathlib.Omega.{arith}
-use borrow.Author.Rules.{rules}
+use Prim.Native.Nat.{ℕ, ◌-◌, ◌≤◌}
 use lib.IntN.{ℤ}
 use lib.ListN.{get_or}
-use Rattle.exact.proofs.Filling.{Filled, filled_none, filled_more, filled_same, filled_all}
+use Rattle.exact.proofs.Filling.{Filled}
 use Rattle.station.specs.declared.checks.Check.{Check}
 use Rattle.station.specs.Replies.{fault}
-use Rattle.station.specs.Steps.{noted}
 use Rattle.station.proofs.steps.note.Given as goal
 
 -- the reason at place i afterwards

@@ -1,9 +1,8 @@
 -- `steps::write_reasons` meets its contract: below h the reasons are written. Assumes nothing.
 use mathlib.Core.Path.{◌≡◌, ap, subst}
 use mathlib.Core.List.{List}
-use Prim.Native.Nat.{ℕ, ◌-◌, ◌≤◌}
+use Prim.Native.Nat.{ℕ}
 use native.Mathlib.Omega.{arith}
-use borrow.Author.Rules.{rules}
 use lib.IntN.{ℤ}
 use lib.ListN.{length, get_or}
 use Rattle.exact.proofs.Filling.{Filled, filled_none, filled_more, filled_all}

@@ -1,6 +1,5 @@
 -- `table::seen` meets its contract. Assumes nothing.
 use mathlib.Core.Path.{◌∙◌, ap}
-use borrow.Author.Rules.{rules}
 use lib.IntN.{pos, ◌+ℤ◌}
 use lib.Signed.{lt_z}
 use Rattle.exact.proofs.Bound.{bounded, bounds, fits_in, read}

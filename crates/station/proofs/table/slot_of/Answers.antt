@@ -1,7 +1,6 @@
 -- `table::slot_of` meets its contract. Assumes nothing.
 use mathlib.Core.Path.{◌≡◌, ◌∙◌, ap}
 use native.Mathlib.Omega.{arith}
-use borrow.Author.Rules.{rules}
 use lib.IntN.{nat_abs}
 use Rattle.exact.proofs.Bound.{read}
 use Rattle.station.proofs.table.slot_of.Goals as goal
