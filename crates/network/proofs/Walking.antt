@@ -11,8 +11,6 @@ use mathlib.Core.List.{List, [], ◌∷◌, ◌++◌, append-nil}
 use Prim.Native.Nat.{ℕ, ◌+◌, ◌<◌, ◌≤◌}
 use native.Mathlib.Numerals.{add-one}
 use native.Mathlib.Omega.{arith}
-use types.Run.{OneOf, miss}
-use denote.Enum.Declared.{tag_of}
 use borrow.Author.Tests.{ltb-true, ltb-false}
 use lib.Dec.{ltb}
 use lib.ListN.{length, take, drop, set, length-append}
@@ -31,7 +29,6 @@ use Rattle.network.specs.declared.conditions.Heading.{Heading}
 use Rattle.network.specs.declared.conditions.Heading.TheVariants.{Of, NoHeading}
 use Rattle.network.specs.declared.record.Record.{Record}
 use Rattle.network.specs.declared.record.Record.TheVariants.{Direction, Angles, Sides, Term, Unreadable}
-use Rattle.network.specs.contracts.record.Record.{the_type}
 
 -- ---- the line at a start
 module _ (file : List ℕ) (start : ℕ) where
@@ -107,18 +104,18 @@ opened_pending [] h = refl
 opened_pending (line ∷ lines) h = open_pending (record_of line) (net_of lines) (Body lines) h
 
 -- ---- where a walk stops: the keys are the places of the kinds in `Record`
-no_direction : (said : Record) (P Q : Type 0) → OneOf (1 ∷ 2 ∷ 3 ∷ 4 ∷ []) (tag_of the_type said) → ByKind said P Q ⊥ → ByKind said ⊥ Q ⊥
-no_direction (Direction number direction q) P Q o h = absurd (miss (1 ∷ 2 ∷ 3 ∷ 4 ∷ []) 0 tt o)
+no_direction : (said : Record) (P Q : Type 0) → ((x y z : ℤ) → said ≡ Direction x y z → ⊥) → ByKind said P Q ⊥ → ByKind said ⊥ Q ⊥
+no_direction (Direction number direction q) P Q o h = absurd (o number direction q refl)
 no_direction (Angles target) P Q o h = h
 no_direction Sides P Q o h = h
 no_direction (Term letter value d i k) P Q o h = h
 no_direction Unreadable P Q o h = h
 
-no_term : (said : Record) (Q : Type 0) → OneOf (0 ∷ 1 ∷ 2 ∷ 4 ∷ []) (tag_of the_type said) → ByKind said ⊥ Q Q → ByKind said ⊥ Q ⊥
+no_term : (said : Record) (Q : Type 0) → ((x : ℕ) (v y z w : ℤ) → said ≡ Term x v y z w → ⊥) → ByKind said ⊥ Q Q → ByKind said ⊥ Q ⊥
 no_term (Direction number direction q) Q o h = h
 no_term (Angles target) Q o h = h
 no_term Sides Q o h = h
-no_term (Term letter value d i k) Q o h = absurd (miss (0 ∷ 1 ∷ 2 ∷ 4 ∷ []) 3 tt o)
+no_term (Term letter value d i k) Q o h = absurd (o letter value d i k refl)
 no_term Unreadable Q o h = h
 
 abbrev headings : Heading → ℕ
@@ -171,14 +168,14 @@ module _ (file : List ℕ) (start : ℕ) (said : Record) (s : said ≡ said_at f
       subst P (sym lines) (some (line_at file start) _ (sym (s ∙ ap (λ (b : Bool). cond b (record_of (line_at file start)) Unreadable) t)) lines)
   by_line false t P none some = subst P (sym (lines_rest file start (ltb-false (place_from LF file start) (length file) t))) none
 
-  pub directions_stop : OneOf (1 ∷ 2 ∷ 3 ∷ 4 ∷ []) (tag_of the_type said) → Led here → Opened here
+  pub directions_stop : ((x y z : ℤ) → said ≡ Direction x y z → ⊥) → Led here → Opened here
   unfolding Led Opened
   directions_stop o h =
       by_line (found file start) refl (λ lines. Led lines → Opened lines) (λ _. tt)
       (λ line lines e same led. subst (λ (r : Record). ByKind r ⊥ (Body lines) ⊥) (sym e) (no_direction said (Led lines) (Body lines) o (subst (λ (r : Record). ByKind r (Led lines) (Body lines) ⊥) e led)))
       h
 
-  pub terms_stop : OneOf (0 ∷ 1 ∷ 2 ∷ 4 ∷ []) (tag_of the_type said) → Body here → Opened here
+  pub terms_stop : ((x : ℕ) (v y z w : ℤ) → said ≡ Term x v y z w → ⊥) → Body here → Opened here
   unfolding Body Opened
   terms_stop o h =
       by_line (found file start) refl (λ lines. Body lines → Opened lines) (λ _. tt)

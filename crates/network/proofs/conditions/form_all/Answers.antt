@@ -11,15 +11,13 @@ use mir.Syntax.{w64}
 use mir.Val.{to_z, of_z}
 use Rattle.exact.proofs.Bound.{read_at}
 use Rattle.reply.specs.Checks.{figure_of}
-use Rattle.text.specs.Lines.{lines_of}
 use Rattle.condition.specs.Rules.{coefficients_list}
 use Rattle.condition.specs.declared.Kind.{Kind}
 use Rattle.network.specs.Net.{Condition, Net, headed, net_from, lent_of, condition_reply, misclosure_of}
-use Rattle.network.specs.Turns.{Stands}
-use Rattle.network.specs.Gathered.{Opened, heading_in}
+use Rattle.network.specs.Gathered.{heading_in}
 use Rattle.network.specs.declared.conditions.Heading.TheVariants.{Of}
 use Rattle.network.proofs.Walking.{Walked, walked, heading_readable, opened_rest, no_heading}
-use Rattle.network.proofs.Forming.{heading_here, FormedTo, same_left, formed_none, terms_fit, form_turn, form_room, part_length, form_refused, forms_refused, form_more, row_put, form_end}
+use Rattle.network.proofs.Forming.{heading_here, same_left, formed_none, terms_fit, form_turn, form_room, part_length, form_refused, forms_refused, form_more, row_put, form_end}
 use Rattle.network.proofs.conditions.form_all.Goals as goal
 use Rattle.network.proofs.conditions.form_all.Goals.{After-form_at-closed, At-loop-kind, In-Of, Start}
 

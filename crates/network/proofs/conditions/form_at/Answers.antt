@@ -1,7 +1,6 @@
 -- `network::conditions::form_at` meets its contract. Assumes nothing.
 use mathlib.Core.Path.{sym}
 use native.Mathlib.Omega.{arith}
-use borrow.Author.Rules.{rules}
 use lib.Seq.{length-take-le}
 use Rattle.exact.proofs.Bound.{read}
 use Rattle.network.proofs.Forming.{closes}

@@ -2,7 +2,6 @@
 use mathlib.Core.Path.{◌∙◌, ap, subst}
 use Prim.Native.Nat.{ℕ, ◌+◌, ◌≤◌}
 use native.Mathlib.Omega.{arith}
-use borrow.Author.Rules.{rules}
 use lib.ListN.{length}
 use Rattle.network.specs.Turns.{Readable}
 use Rattle.network.proofs.Recording.{short_said, no_tab_said, numbers_said, numbers_place}
@@ -10,15 +9,15 @@ use Rattle.network.proofs.record.read.Goals as goal
 
 pub returns-then-file-start-lt2 : goal.returns-then-file-start-lt2
 returns-then-file-start-lt2 c = let a = c.args in record {
-      said = short_said a.file.now a.start c.if-file-start-lt2.true;
-      next = λ z. absurd z;
-    }
+  said = short_said a.file.now a.start c.if-file-start-lt2.true;
+  next = λ z. absurd z;
+}
 
 pub returns-then-file-start-ne-TAB : goal.returns-then-file-start-ne-TAB
 returns-then-file-start-ne-TAB c = let a = c.args in record {
-      said = no_tab_said a.file.now a.start (omega arith) c.if-file-start-ne-TAB.true;
-      next = λ z. absurd z;
-    }
+  said = no_tab_said a.file.now a.start (omega arith) c.if-file-start-ne-TAB.true;
+  next = λ z. absurd z;
+}
 
 pub returns : goal.returns
 returns c =

@@ -1,7 +1,6 @@
 -- `network::record::record_with` meets its contract, letter by letter. Assumes nothing.
 use mathlib.Core.Path.{◌≡◌}
 use mathlib.Core.Bool.{false}
-use borrow.Author.Rules.{rules}
 use borrow.Author.Tests.{eq-eqb, ne_eqb}
 use lib.Dec.{eqb}
 use Rattle.exact.proofs.Bound.{read_at}

@@ -1,7 +1,6 @@
 -- `network::scan::angles_reply` meets its contract. Assumes nothing.
 use mathlib.Core.Path.{◌≡◌, sym, ◌∙◌}
 use mathlib.Core.Bool.{false}
-use borrow.Author.Rules.{rules}
 use mir.ValLaws.{to_z-of_z}
 use Rattle.condition.specs.Rules.{target_fault}
 use Rattle.network.specs.Scan.{one_too_many, angles_reply}

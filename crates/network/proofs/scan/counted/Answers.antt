@@ -1,5 +1,4 @@
 -- `network::scan::counted` meets its contract, record by record. Assumes nothing.
-use borrow.Author.Rules.{rules}
 use Rattle.network.specs.Scan.{counted}
 use Rattle.network.proofs.scan.counted.Goals as goal
 

@@ -1,6 +1,5 @@
 -- `network::scan::end_reply` meets its contract. Assumes nothing.
 use mathlib.Core.Path.{sym, ◌∙◌}
-use borrow.Author.Rules.{rules}
 use Rattle.network.specs.Scan.{end_reply}
 use Rattle.network.proofs.scan.end_reply.Goals as goal
 

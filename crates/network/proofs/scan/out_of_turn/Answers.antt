@@ -2,11 +2,9 @@
 use mathlib.Core.Path.{◌∙◌}
 use Prim.Native.Nat.{◌+◌}
 use native.Mathlib.Omega.{arith}
-use borrow.Author.Rules.{rules}
 use borrow.Author.Tests.{le-leb, lt-leb}
 use mir.Syntax.{w64}
 use mir.ValLaws.{to_z-of_z, to_z_pos}
-use Rattle.exact.specs.Outside.{outside}
 use Rattle.network.specs.Scan.{out_of_turn}
 use Rattle.network.proofs.scan.out_of_turn.Goals as goal
 

@@ -1,6 +1,5 @@
 -- `network::scan::sides_reply` meets its contract. Assumes nothing.
 use mathlib.Core.Path.{sym, ◌∙◌}
-use borrow.Author.Rules.{rules}
 use Rattle.network.specs.Scan.{sides_reply}
 use Rattle.network.proofs.scan.sides_reply.Goals as goal
 
