@@ -1,7 +1,6 @@
 -- `listing::list` meets its contract. Assumes nothing.
 use native.Mathlib.Omega.{arith}
 use Rattle.listing.proofs.Filing.{no_listing, listed_by}
-use borrow.Author.Rules.{rules}
 use Rattle.listing.proofs.list.Goals as goal
 
 pub returns-then-out-room : goal.returns-then-out-room
@@ -14,4 +13,5 @@ returns-then-out-room c =
 
 pub returns : goal.returns
 returns c =
-    listed_by c.args.file.now c.args.sheet c.args.out.now (omega (arith, c.if-out-room.false, c.room.ensures)) c.adjust-listed.ensures c.print.ensures
+    let done = listed_by c.args.file.now c.args.sheet c.args.out.now (omega (arith, c.if-out-room.false, c.room.ensures)) c.adjust-listed.ensures c.print.ensures in
+    record { listing = done.0; within = done.1 }

@@ -1,6 +1,5 @@
 -- `listing::room` meets its contract. Assumes nothing.
 use mathlib.Core.Path.{sym, ap}
-use borrow.Author.Rules.{rules}
 use Rattle.listing.specs.Listing.{room_of}
 use Rattle.listing.proofs.room.Goals as goal
 

@@ -2,7 +2,6 @@
 use mathlib.Core.Path.{◌∙◌}
 use Prim.Native.Nat.{◌+◌, ◌*◌}
 use native.Mathlib.Omega.{arith}
-use borrow.Author.Rules.{rules}
 use Rattle.listing.specs.Listing.{v_line_of}
 use Rattle.text.proofs.Putting.{Come, then, wrote_length, come_within, come_on, lines_most}
 use Rattle.page.proofs.Composing.{heading_most, numbered_most}
@@ -20,9 +19,9 @@ pub put_vs-middle-requires : goal.put_vs-middle-requires
 put_vs-middle-requires c =
     let b = c.before.before.before in let pre = (start1 b).requires in
     record {
-      m_in_bounds = omega (arith, pre.0, (come1 b).far, (come1 b).kept);
-      m_in_bounds_2 = pre.1.0;
-      m_in_bounds_3 = pre.1.1.0;
+      m_in_bounds = omega (arith, pre.n_in_bounds, (come1 b).far, (come1 b).kept);
+      m_in_bounds_2 = pre.m_in_bounds;
+      m_in_bounds_3 = pre.m_in_bounds_2;
     }
 
 abbrev start2 : After-put_vs-middle → Start
@@ -41,7 +40,12 @@ come2 c =
 pub put_ks-requires : goal.put_ks-requires
 put_ks-requires c =
     let b = c.before.before.before in let pre = (start2 b).requires in
-    (omega (arith, pre.0, (come2 b).far, (come2 b).kept), pre.1.1.1)
+    record {
+      n_in_bounds = omega (arith, pre.n_in_bounds, (come2 b).far, (come2 b).kept);
+      n_in_bounds_2 = pre.n_in_bounds_2;
+      n_in_bounds_3 = pre.n_in_bounds_3;
+      n_in_bounds_4 = pre.n_in_bounds_4;
+    }
 
 pub shape_of-out : goal.shape_of-out
 shape_of-out c = wrote_length c.put_ks.ensures ∙ (come2 c.before.before.before.before.before.before.before).kept

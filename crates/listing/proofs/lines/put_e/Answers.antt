@@ -1,7 +1,6 @@
 -- `listing::put_e` meets its contract. Assumes nothing.
 use mathlib.Core.Path.{◌∙◌}
 use native.Mathlib.Omega.{arith}
-use borrow.Author.Rules.{rules}
 use Rattle.text.proofs.Putting.{Come, then, wrote_length, read_signed, come, signed_on}
 use Rattle.listing.proofs.lines.put_e.Goals as goal
 use Rattle.listing.proofs.lines.put_e.Goals.{After-put_byte-head, After-put_signed-one, After-put_signed-two, Start}

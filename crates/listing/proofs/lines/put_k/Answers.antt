@@ -1,7 +1,6 @@
 -- `listing::put_k` meets its contract. Assumes nothing.
 use mathlib.Core.Path.{◌∙◌, ap₂}
 use native.Mathlib.Omega.{arith}
-use borrow.Author.Rules.{rules}
 use Rattle.exact.proofs.Bound.{read}
 use Rattle.text.specs.Written.{Wrote}
 use Rattle.text.proofs.Putting.{Come, rewrote, then, wrote_length, read_signed, signed_on, come_within}

@@ -1,8 +1,7 @@
 -- `listing::put_ks` meets its contract. Assumes nothing.
 use mathlib.Core.Path.{◌≡◌, ◌∙◌, ap, ap₂, subst}
-use Prim.Native.Nat.{ℕ, ◌+◌, ◌-◌, ◌≤◌}
+use Prim.Native.Nat.{ℕ, ◌+◌}
 use native.Mathlib.Omega.{arith}
-use borrow.Author.Rules.{rules}
 use lib.IntN.{ℤ}
 use Rattle.exact.proofs.Bound.{read_at}
 use Rattle.listing.specs.Listing.{k_line, k_line_of}
@@ -22,18 +21,17 @@ put_k-next-requires c =
     lines_room c.args.n c.loop-j.j 90 _ (λ j. k_most (j + 1) _ _ _) c.requires.n_in_bounds c.loop-j-test.true c.loop-j.invariant.1
 
 pub loop-j-preserved : goal.loop-j-preserved
-loop-j-preserved c =
-    (
-      omega (arith, c.loop-j-test.true),
-      lines_on_lem c.loop-j.j (k_line_of c.args.k.now c.args.r.now c.args.q.now) c.loop-j.invariant.1
-          (rewrote
-          (same_line
-          (c.loop-j.j + 1)
-          (read_at _ c.put_k-arg-in-loop-j-1.given)
-          (read_at _ c.put_k-arg-in-loop-j-2-1.given)
-          (read_at _ c.put_k-arg-in-loop-j-3-1.given))
-          c.put_k-next.ensures),
-    )
+loop-j-preserved c = (
+  omega (arith, c.loop-j-test.true),
+  lines_on_lem c.loop-j.j (k_line_of c.args.k.now c.args.r.now c.args.q.now) c.loop-j.invariant.1
+      (rewrote
+      (same_line
+      (c.loop-j.j + 1)
+      (read_at _ c.put_k-arg-in-loop-j-1.given)
+      (read_at _ c.put_k-arg-in-loop-j-2-1.given)
+      (read_at _ c.put_k-arg-in-loop-j-3-1.given))
+      c.put_k-next.ensures),
+)
 
 pub shape_of-out : goal.shape_of-out
 shape_of-out c = wrote_length c.loop-j.invariant.1

@@ -1,14 +1,9 @@
 -- `listing::put_ks` meets its contract. Assumes nothing.
-use mathlib.Core.Path.{◌≡◌, ◌∙◌, ap, ap₂, subst}
-use Prim.Native.Nat.{ℕ, ◌+◌, ◌-◌, ◌≤◌}
-use native.Mathlib.Omega.{arith}
-use borrow.Author.Rules.{rules}
+use mathlib.Core.Path.{◌≡◌, ◌∙◌, ap, ap₂}
+use Prim.Native.Nat.{ℕ, ◌-◌, ◌≤◌}
 use lib.IntN.{ℤ}
-use Rattle.exact.proofs.Bound.{read_at}
 use Rattle.listing.specs.Listing.{k_line, k_line_of}
 use Rattle.text.specs.Written.{in_order, Wrote}
-use Rattle.text.proofs.Putting.{wrote_length, rewrote, lines_none, lines_on_lem, lines_room}
-use Rattle.listing.proofs.Composing.{k_most}
 use Rattle.listing.proofs.lines.put_ks.Given as goal
 
 same_line : (n : ℕ) {k k' r r' q q' : ℤ} → k ≡ k' → r ≡ r' → q ≡ q' → k_line n k r q ≡ k_line n k' r' q'

@@ -1,8 +1,7 @@
 -- `listing::put_vs` meets its contract. Assumes nothing.
 use mathlib.Core.Path.{ap₂, subst}
-use Prim.Native.Nat.{ℕ, ◌+◌, ◌-◌, ◌≤◌}
+use Prim.Native.Nat.{ℕ, ◌+◌}
 use native.Mathlib.Omega.{arith}
-use borrow.Author.Rules.{rules}
 use Rattle.exact.proofs.Bound.{read_at}
 use Rattle.listing.specs.Listing.{v_line, v_line_of}
 use Rattle.text.specs.Written.{in_order, Wrote}
@@ -18,12 +17,11 @@ put_numbered-next-requires c =
     lines_room c.args.m c.loop-i.i 68 _ (λ j. numbered_most 86 (j + 1) _ _) c.requires.m_in_bounds c.loop-i-test.true c.loop-i.invariant.1
 
 pub loop-i-preserved : goal.loop-i-preserved
-loop-i-preserved c =
-    (
-      omega (arith, c.loop-i-test.true),
-      lines_on_lem c.loop-i.i (v_line_of c.args.u.now c.args.adjusted.now) c.loop-i.invariant.1
-          (rewrote (ap₂ (v_line (c.loop-i.i + 1)) (read_at _ c.put_numbered-arg-in-loop-i-1.given) (read_at _ c.put_numbered-arg-in-loop-i-2-1.given)) c.put_numbered-next.ensures),
-    )
+loop-i-preserved c = (
+  omega (arith, c.loop-i-test.true),
+  lines_on_lem c.loop-i.i (v_line_of c.args.u.now c.args.adjusted.now) c.loop-i.invariant.1
+      (rewrote (ap₂ (v_line (c.loop-i.i + 1)) (read_at _ c.put_numbered-arg-in-loop-i-1.given) (read_at _ c.put_numbered-arg-in-loop-i-2-1.given)) c.put_numbered-next.ensures),
+)
 
 pub shape_of-out : goal.shape_of-out
 shape_of-out c = wrote_length c.loop-i.invariant.1

@@ -2,7 +2,6 @@
 use mathlib.Core.Path.{◌∙◌}
 use Prim.Native.Nat.{◌≤◌}
 use native.Mathlib.Omega.{arith}
-use borrow.Author.Rules.{rules}
 use lib.ListN.{length}
 use Rattle.adjustment.specs.Promise.{lists}
 use Rattle.text.proofs.Putting.{then, rewrote, wrote_length}
@@ -31,13 +30,13 @@ returns-in-Refused c =
 pub put_accepted-length-requires : goal.put_accepted-length-requires
 put_accepted-length-requires c =
     let a : After-adjust_own-reply = record { before = c.before.before.before.before.before.before.before.before; type_inv = record { out = c.slice_known-1.given } } in let s = start a in
-    let p = s.requires in let k = a.adjust_own-reply.auto.1.1.1.1.1 in record {
-      n_in_bounds = omega (arith, p.0.0, p.0.1, p.0.2, plain_fits s.args.sheet);
-      m_in_bounds = omega (arith, k.0, p.1.0.1);
-      m_in_bounds_2 = omega (arith, k.1.0, p.1.0.2);
-      n_in_bounds_2 = omega (arith, k.1.1.0, p.1.1.0);
-      n_in_bounds_3 = omega (arith, k.1.1.1.0, p.1.1.1);
-      n_in_bounds_4 = omega (arith, k.1.1.1.1.0, p.1.1.2);
+    let p = s.requires in let k = a.adjust_own-reply.auto in record {
+      n_in_bounds = omega (arith, p.directions_len_bound.0, p.directions_len_bound.1, p.directions_len_bound.2, plain_fits s.args.sheet);
+      m_in_bounds = omega (arith, k.u, p.v_len.1);
+      m_in_bounds_2 = omega (arith, k.adjusted, p.v_len.2);
+      n_in_bounds_2 = omega (arith, k.k, p.k_len.0);
+      n_in_bounds_3 = omega (arith, k.r, p.k_len.1);
+      n_in_bounds_4 = omega (arith, k.misses, p.k_len.2);
     }
 
 -- ---- the listing of an accepted table stands in the buffer
@@ -53,8 +52,8 @@ module _ (c : After-put_accepted-length) where
 
   within : c.put_accepted-length.result ≤ 6560
   within =
-      let p = s.requires.directions_len_bound in let f = adjusted.adjust_own-reply.new.1.1.1.1.1 in
-      omega (arith, c.put_accepted-length.ensures.place, accepted_most (length s.args.directions.now) (length s.args.w.now) f.0 f.1.0 f.1.1.0 f.1.1.1.0 f.1.1.1.1.0, p.0, p.1)
+      let p = s.requires.directions_len_bound in let f = adjusted.adjust_own-reply.new in
+      omega (arith, c.put_accepted-length.ensures.place, accepted_most (length s.args.directions.now) (length s.args.w.now) f.u f.adjusted f.k f.r f.misses, p.0, p.1)
 
 pub put_errors-end-requires : goal.put_errors-end-requires
 put_errors-end-requires c =

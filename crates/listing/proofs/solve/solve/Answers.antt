@@ -1,7 +1,6 @@
 -- `listing::solve::solve` meets its contract. Assumes nothing.
 use mathlib.Core.Path.{sym}
 use native.Mathlib.Omega.{arith}
-use borrow.Author.Rules.{rules}
 use lib.Seq.{length-take-le}
 use Rattle.listing.proofs.solve.solve.Goals as goal
 
