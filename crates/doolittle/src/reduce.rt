@@ -119,7 +119,7 @@ fn with_above(x: i64, rows: &[Row; 24], j: usize, k: usize) -> i64
 // Row j with all rows above it taken, behind their multipliers.
 fn reduced(row: Row, rows: &[Row; 24], j: usize, n: usize) -> Row
     requires j_lt_n { (j < n) × (n ≤ 24) × Shaped rows.now }
-    requires row_within_lem { RowWithin 2560000000 j n row }
+    requires row_within { RowWithin 2560000000 j n row }
     requires by_index { (i : ℕ) → i < j → (nat_abs (cell rows.now j i) ≤ 1000000000) × RowWithin 4000000000 j n (row_at rows.now i) }
     ensures holds { Holds j n (λ k. with_above (at row k) rows.now j k) (with_above (at row CONSTANT) rows.now j CONSTANT) result }
     ensures before { Before j (row_at rows.now j) result }

@@ -1,0 +1,18 @@
+-- `book::list_rescued` meets its contract. Assumes nothing.
+use native.Mathlib.Omega.{arith}
+use borrow.Author.Rules.{rules}
+use Rattle.book.proofs.Judging.{no_rescue, rescue_printed}
+use Rattle.book.proofs.list_rescued.Goals as goal
+
+pub returns-then-out-room_for : goal.returns-then-out-room_for
+returns-then-out-room_for c =
+    let a = c.args in
+    record {
+      listing = no_rescue a.part a.file.now a.out.now (omega (arith, c.if-out-room_for.true, c.room_for.ensures));
+      within = omega arith;
+    }
+
+pub returns : goal.returns
+returns c =
+    let a = c.args in
+    rescue_printed a.part a.file.now a.out.now (omega (arith, c.if-out-room_for.false, c.room_for.ensures)) c.rescue-listed.ensures c.print.ensures

@@ -1,0 +1,8 @@
+-- `molsadriu_rescue_sightings` meets its promise. Assumes nothing.
+use Rattle.office.proofs.Telling.{rescue_told}
+use borrow.Author.Rules.{rules}
+use Rattle.office.proofs.molsadriu_rescue_sightings.Goals as goal
+
+pub returns : goal.returns
+returns c =
+    rescue_told c.tell_rescued.ensures.verdict c.tell_rescued.ensures.numbers c.rescue-rescued.ensures

@@ -1,0 +1,23 @@
+-- `form::heading` meets its contract. Assumes nothing.
+use mathlib.Core.Path.{refl, sym, ◌∙◌}
+use native.Mathlib.Omega.{arith}
+use borrow.Author.Rules.{rules}
+use Rattle.text.specs.Rows.{row_end, row_values, end_of}
+use Rattle.text.proofs.Parting.{begins_length}
+use Rattle.sheet.specs.Form.{adj_head}
+use Rattle.sheet.proofs.Forming.{heading_row, no_heading}
+use Rattle.sheet.proofs.form.heading.Goals as goal
+
+pub read-requires : goal.read-requires
+read-requires c =
+    (omega arith, omega (arith, begins_length adj_head c.args.listing.now (sym c.begins.ensures ∙ c.if-begins.true)), omega arith, omega (arith, c.requires))
+
+pub returns-then-begins : goal.returns-then-begins
+unfolding row_end
+returns-then-begins c =
+    rw (heading_row c.args.listing.now (sym c.begins.ensures ∙ c.if-begins.true)) (c.read.ensures.end, c.read.ensures.values)
+
+pub returns : goal.returns
+unfolding end_of row_values
+returns c =
+    rw (no_heading c.args.listing.now (sym c.begins.ensures ∙ c.if-begins.false)) (refl, refl)

@@ -1,0 +1,20 @@
+-- `totals::adding::after_line` meets its contract. Assumes nothing.
+use mathlib.Core.Path.{sym, ◌∙◌, ap}
+use borrow.Author.Tests.{eq-eqb, ne_eqb}
+use borrow.Author.Rules.{rules}
+use Rattle.totals.specs.Adding.{entered, after_line}
+use Rattle.totals.proofs.adding.after_line.Goals as goal
+
+pub returns-then-t-ne0 : goal.returns-then-t-ne0
+unfolding after_line
+returns-then-t-ne0 c = rw (ne_eqb c.args.t.fault 0 c.if-t-ne0.true)
+
+pub returns-in-Numbers : goal.returns-in-Numbers
+unfolding after_line
+returns-in-Numbers c =
+    rw (eq-eqb c.args.t.fault 0 c.if-t-ne0.false) (c.entered.ensures ∙ ap (entered c.args.t) (sym c.in-Numbers.is ∙ c.entry_at-entry.ensures))
+
+pub returns-in-Malformed : goal.returns-in-Malformed
+unfolding after_line entered
+returns-in-Malformed c =
+    rw (eq-eqb c.args.t.fault 0 c.if-t-ne0.false) (c.faulty.ensures ∙ ap (entered c.args.t) (sym c.in-Malformed.is ∙ c.entry_at-entry.ensures))
