@@ -1,5 +1,5 @@
 // The public operations for programs in C, C++ and Rust. Each calls the library's own operation and tells its reply in numbers; nothing is worked
-// out here. A lent list comes as a pointer and a length. include/molsadriu.h declares these functions.
+// out here. The crate office_c exports these functions, and include/molsadriu.h declares them.
 #![tactic(auto)]
 
 ghost use Rattle.std.specs.Prelude.{◌≡◌, ◌≤◌, length, take, drop};
