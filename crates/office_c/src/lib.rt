@@ -3,8 +3,6 @@
 #![tactic(auto)]
 
 ghost use Rattle.std.specs.Prelude.{◌≡◌, ◌≤◌, length, take, drop};
-ghost use Rattle.reply.specs.Checks.{leaves};
-ghost use Rattle.reply.specs.Verdicts.{verdict_of};
 ghost use Rattle.station.specs.Sightings.{book};
 ghost use Rattle.station.specs.Rescue.{lent};
 ghost use Rattle.adjustment.specs.Promise.{lists};
