@@ -1,5 +1,5 @@
 // The public operations for programs in C, C++ and Rust. Each calls the library's own operation and tells its reply in numbers; nothing is worked
-// out here. A lent list comes as a pointer and a length. include/molsadriu.h declares these functions.
+// out here. The crate office_c exports these functions, and include/molsadriu.h declares them.
 #![tactic(auto)]
 
 ghost use Rattle.std.specs.Prelude.{◌≡◌, ◌≤◌, length, take, drop};
@@ -78,8 +78,7 @@ fn tell_rescued(rescued: Rescued, kept: &mut usize, dropped: &mut usize) -> Verd
 }
 
 // Station means: the direction and the number of pairs of each object, into two lent lists of 16.
-#[unsafe(no_mangle)]
-pub extern "C" fn molsadriu_station_means(
+pub fn molsadriu_station_means(
     position: &[i64],
     object: &[i64],
     face: &[i64],
@@ -95,8 +94,7 @@ pub extern "C" fn molsadriu_station_means(
 }
 
 // Station means of a sighting book: the listing of an accepted one, into a lent buffer of at least 1,136 bytes, and its length, into one lent number.
-#[unsafe(no_mangle)]
-pub extern "C" fn molsadriu_station_book(file: &[u8], out: &mut [u8], length: &mut usize) -> Verdict
+pub fn molsadriu_station_book(file: &[u8], out: &mut [u8], length: &mut usize) -> Verdict
     ensures { SightingBook file.now out.old length.old result out.new length.new }
 {
     let listed = book::means(file, out);
@@ -105,8 +103,7 @@ pub extern "C" fn molsadriu_station_book(file: &[u8], out: &mut [u8], length: &m
 
 // The rescue of a spoiled list of sightings: the kept ones, into the first places of four lent lists, and for each dropped one its ordinal and its reason,
 // into those of two more, each of as many places as there are sightings; and how many are kept and dropped, into two lent numbers.
-#[unsafe(no_mangle)]
-pub extern "C" fn molsadriu_rescue_sightings(
+pub fn molsadriu_rescue_sightings(
     position: &[i64],
     object: &[i64],
     face: &[i64],
@@ -142,8 +139,7 @@ pub extern "C" fn molsadriu_rescue_sightings(
 }
 
 // The kept lines of a spoiled sighting book, which are a book again, into a lent buffer of at least 10,752 bytes, and their length, into one lent number.
-#[unsafe(no_mangle)]
-pub extern "C" fn molsadriu_rescue_book(file: &[u8], out: &mut [u8], length: &mut usize) -> Verdict
+pub fn molsadriu_rescue_book(file: &[u8], out: &mut [u8], length: &mut usize) -> Verdict
     ensures { BookParted Kept file.now out.old length.old result out.new length.new }
 {
     let listed = book::rescue(Part::Kept, file, out);
@@ -152,8 +148,7 @@ pub extern "C" fn molsadriu_rescue_book(file: &[u8], out: &mut [u8], length: &mu
 
 // A line for each sighting of a spoiled book that is dropped, its ordinal and its reason, into a lent buffer of at least 4,096 bytes, and their length, into
 // one lent number.
-#[unsafe(no_mangle)]
-pub extern "C" fn molsadriu_dropped_book(file: &[u8], out: &mut [u8], length: &mut usize) -> Verdict
+pub fn molsadriu_dropped_book(file: &[u8], out: &mut [u8], length: &mut usize) -> Verdict
     ensures { BookParted Dropped file.now out.old length.old result out.new length.new }
 {
     let listed = book::rescue(Part::Dropped, file, out);
@@ -161,8 +156,7 @@ pub extern "C" fn molsadriu_dropped_book(file: &[u8], out: &mut [u8], length: &m
 }
 
 // The coefficients of one condition, into a lent list of as many numbers as there are directions.
-#[unsafe(no_mangle)]
-pub extern "C" fn molsadriu_coefficients(
+pub fn molsadriu_coefficients(
     directions: &[i64],
     q: &[i64],
     letter: u8,
@@ -188,8 +182,7 @@ pub extern "C" fn molsadriu_coefficients(
 }
 
 // The misclosure of the same condition, into one lent number.
-#[unsafe(no_mangle)]
-pub extern "C" fn molsadriu_misclosure(
+pub fn molsadriu_misclosure(
     directions: &[i64],
     q: &[i64],
     letter: u8,
@@ -221,8 +214,7 @@ pub extern "C" fn molsadriu_misclosure(
 }
 
 // Adjusts a lent condition table: V, u, adjusted directions, K, R and Q into six lent lists.
-#[unsafe(no_mangle)]
-pub extern "C" fn molsadriu_adjust_table(
+pub fn molsadriu_adjust_table(
     directions: &[i64],
     q: &[i64],
     a: &[i64],
@@ -255,8 +247,7 @@ pub extern "C" fn molsadriu_adjust_table(
 }
 
 // The mean and the probable error of a direction, of lent printed corrections, their q and the number of conditions, into two lent numbers.
-#[unsafe(no_mangle)]
-pub extern "C" fn molsadriu_probable_error(
+pub fn molsadriu_probable_error(
     u: &[i64],
     q: &[i64],
     n: usize,
@@ -271,8 +262,7 @@ pub extern "C" fn molsadriu_probable_error(
 }
 
 // Adjusts a network file: the listing of an accepted one, into a lent buffer of at least 6,560 bytes, and its length, into one lent number.
-#[unsafe(no_mangle)]
-pub extern "C" fn molsadriu_adjust_file(file: &[u8], out: &mut [u8], length: &mut usize) -> Verdict
+pub fn molsadriu_adjust_file(file: &[u8], out: &mut [u8], length: &mut usize) -> Verdict
     ensures { File Plain file.now out.old length.old result out.new length.new }
 {
     let listed = listing::adjust(Sheet::Plain, file, out);
@@ -280,12 +270,7 @@ pub extern "C" fn molsadriu_adjust_file(file: &[u8], out: &mut [u8], length: &mu
 }
 
 // The same with an E line at the end of the listing, the mean and the probable error of a direction, into a lent buffer of at least 6,606 bytes.
-#[unsafe(no_mangle)]
-pub extern "C" fn molsadriu_probable_file(
-    file: &[u8],
-    out: &mut [u8],
-    length: &mut usize,
-) -> Verdict
+pub fn molsadriu_probable_file(file: &[u8], out: &mut [u8], length: &mut usize) -> Verdict
     ensures { File WithErrors file.now out.old length.old result out.new length.new }
 {
     let listed = listing::adjust(Sheet::WithErrors, file, out);
@@ -293,8 +278,7 @@ pub extern "C" fn molsadriu_probable_file(
 }
 
 // The REFUSED line of a refusal's number and place, into a lent buffer of at least 52 bytes, and how many bytes it has.
-#[unsafe(no_mangle)]
-pub extern "C" fn molsadriu_refused_line(number: u64, place: u64, out: &mut [u8]) -> usize
+pub fn molsadriu_refused_line(number: u64, place: u64, out: &mut [u8]) -> usize
     ensures line { Wrote out.old 0 (refused_line_in (record { number = number; place = place }) (length out.old)) out.new result }
     ensures within { result ≤ length out.old }
 {
@@ -302,8 +286,7 @@ pub extern "C" fn molsadriu_refused_line(number: u64, place: u64, out: &mut [u8]
 }
 
 // The listing of any network file, accepted or refused, into a lent buffer of at least 6,560 bytes, and how many bytes it has.
-#[unsafe(no_mangle)]
-pub extern "C" fn molsadriu_list_file(file: &[u8], out: &mut [u8]) -> usize
+pub fn molsadriu_list_file(file: &[u8], out: &mut [u8]) -> usize
     ensures listing { Wrote out.old 0 (listing_in Plain file.now (length out.old)) out.new result }
     ensures within { result ≤ length out.old }
 {
@@ -311,8 +294,7 @@ pub extern "C" fn molsadriu_list_file(file: &[u8], out: &mut [u8]) -> usize
 }
 
 // The length of the line that starts at `start`, without its LF. Its bytes are the file's own, from there on.
-#[unsafe(no_mangle)]
-pub extern "C" fn molsadriu_line(file: &[u8], start: usize) -> usize
+pub fn molsadriu_line(file: &[u8], start: usize) -> usize
     ensures length { result ≡ length (line_at file.now start) }
     ensures bytes { take result (drop start file.now) ≡ line_at file.now start }
 {
@@ -321,8 +303,7 @@ pub extern "C" fn molsadriu_line(file: &[u8], start: usize) -> usize
 }
 
 // What stands at `start`: 0 a line, 1 none left, 2 bytes whose LF is missing.
-#[unsafe(no_mangle)]
-pub extern "C" fn molsadriu_line_status(file: &[u8], start: usize) -> u64
+pub fn molsadriu_line_status(file: &[u8], start: usize) -> u64
     ensures { result ≡ status_number (status_at file.now start) }
 {
     let status = text::line::line_status(file, start);
@@ -335,8 +316,7 @@ pub extern "C" fn molsadriu_line_status(file: &[u8], start: usize) -> u64
 
 // The report of a season's archive, network files each closed by a full stop line, into a lent list of sixteen totals. A net past 100,000 is the one
 // refusal (30) that comes with an answer, the totals of those before it.
-#[unsafe(no_mangle)]
-pub extern "C" fn molsadriu_report(archive: &[u8], totals: &mut [u64]) -> Verdict
+pub fn molsadriu_report(archive: &[u8], totals: &mut [u64]) -> Verdict
     ensures { SeasonReport archive.now totals.old result totals.new }
 {
     let reply = season::report(archive, totals);
@@ -344,12 +324,7 @@ pub extern "C" fn molsadriu_report(archive: &[u8], totals: &mut [u64]) -> Verdic
 }
 
 // Begins a report whose archive comes in parts. Its state stands in three lent lists: the open net's bytes, the totals so far and the place.
-#[unsafe(no_mangle)]
-pub extern "C" fn molsadriu_season_begin(
-    held: &[u8],
-    totals: &mut [u64],
-    place: &mut [u64],
-) -> Verdict
+pub fn molsadriu_season_begin(held: &[u8], totals: &mut [u64], place: &mut [u64]) -> Verdict
     ensures { SeasonBegun held.now totals.old place.old result totals.new place.new }
 {
     let reply = season::stream::begin(held, totals, place);
@@ -357,8 +332,7 @@ pub extern "C" fn molsadriu_season_begin(
 }
 
 // The next bytes of the archive, however many.
-#[unsafe(no_mangle)]
-pub extern "C" fn molsadriu_season_next(
+pub fn molsadriu_season_next(
     bytes: &[u8],
     held: &mut [u8],
     totals: &mut [u64],
@@ -372,12 +346,7 @@ pub extern "C" fn molsadriu_season_next(
 }
 
 // Ends it: the totals are then the report, also under 30.
-#[unsafe(no_mangle)]
-pub extern "C" fn molsadriu_season_end(
-    held: &[u8],
-    totals: &mut [u64],
-    place: &mut [u64],
-) -> Verdict
+pub fn molsadriu_season_end(held: &[u8], totals: &mut [u64], place: &mut [u64]) -> Verdict
     ensures { SeasonEnded held.now totals.old place.old result totals.new place.new }
 {
     let reply = season::stream::end(held, totals, place);
@@ -385,8 +354,7 @@ pub extern "C" fn molsadriu_season_end(
 }
 
 // The sum of two reports, into a third lent list, which every refusal leaves as it was.
-#[unsafe(no_mangle)]
-pub extern "C" fn molsadriu_add_reports(first: &[u64], second: &[u64], sum: &mut [u64]) -> Verdict
+pub fn molsadriu_add_reports(first: &[u64], second: &[u64], sum: &mut [u64]) -> Verdict
     ensures { ReportSum first.now second.now sum.old result sum.new }
 {
     let reply = totals::add_reports(first, second, sum);
@@ -394,8 +362,7 @@ pub extern "C" fn molsadriu_add_reports(first: &[u64], second: &[u64], sum: &mut
 }
 
 // Whether another office's listing agrees with a network file, into one lent number: 0 where it does, else the line of the first test that fails.
-#[unsafe(no_mangle)]
-pub extern "C" fn molsadriu_check_sheet(net: &[u8], listing: &[u8], line: &mut u64) -> Verdict
+pub fn molsadriu_check_sheet(net: &[u8], listing: &[u8], line: &mut u64) -> Verdict
     ensures { SheetChecked net.now listing.now line.old result line.new }
 {
     let opinion = sheet::check(net, listing);
