@@ -6,51 +6,51 @@
 --   fits_in, abs_in                 `fits_in (search bounds) tt`: the expression fits an i64; `abs_in`: it is within a numeral
 --   fits_within                     a number within a numeral fits: `fits_within z h tt`; fits_of_mag from a call's `.ok`; numeral_fits: a numeral
 --   read, read_at, read_within, bits_equal   what the machine reads back of a number that fits is the number; equal bits are equal numbers
-use mathlib.Core.Path.{_≡_, refl, sym, _∙_, ap}
-use mathlib.Core.List.{[], _∷_}
-use Prim.Native.Nat.{ℕ, zero, suc, _+_, _*_, _<_, _≤_, _^_}
-use native.Mathlib.Nat.{le_trans, mul-le-mul-left, mul-le-mul-right, le-refl}
+use mathlib.Core.Path.{◌≡◌, refl, sym, ◌∙◌, ap}
+use mathlib.Core.List.{[], ◌∷◌}
+use Prim.Native.Nat.{ℕ, zero, suc, ◌+◌, ◌*◌, ◌<◌, ◌≤◌, ◌^◌}
+use native.Mathlib.Nat.{le_trans, mul-le-mul_left, mul-le-mul_right, le_refl}
 use native.Mathlib.Omega.{arith}
 use lib.Dec.{T, ltb, leb, ltb→lt, leb→le}
-use lib.IntN.{ℤ, pos, negsuc, negℤ, natAbs, _+ℤ_, _*ℤ_}
+use lib.IntN.{ℤ, pos, negsuc, neg_ℤ, nat_abs, ◌+ℤ◌, ◌*ℤ◌}
 use lib.Signed.{mag}
 use mir.Syntax.{w64}
-use mir.Val.{SFits, toZ, ofZ}
-use mir.ValLaws.{toZ-ofZ}
-use Rattle·exact·proofs.proofs.Linear.{unknowns, abs_by, linear}
+use mir.Val.{SFits, to_z, of_z}
+use mir.ValLaws.{to_z-of_z}
+use Rattle.exact.proofs.Linear.{unknowns, abs_by, linear}
 
 -- ---- the size of a sum, a negation, a product
-pub abs_add : (a b : ℤ) → natAbs (a +ℤ b) ≤ natAbs a + natAbs b
+pub abs_add : (a b : ℤ) → nat_abs (a +ℤ b) ≤ nat_abs a + nat_abs b
 abs_add a b = let v = unknowns (a ∷ b ∷ []) in abs_by (a +ℤ b) (search linear) (omega arith)
 
-pub abs_neg : (a : ℤ) → natAbs (negℤ a) ≡ natAbs a
+pub abs_neg : (a : ℤ) → nat_abs (neg_ℤ a) ≡ nat_abs a
 abs_neg (pos zero) = refl
 abs_neg (pos (suc n)) = refl
 abs_neg (negsuc n) = refl
 
-pub abs_mul : (a b : ℤ) → natAbs (a *ℤ b) ≡ natAbs a * natAbs b
+pub abs_mul : (a b : ℤ) → nat_abs (a *ℤ b) ≡ nat_abs a * nat_abs b
 abs_mul (pos a) (pos b) = refl
 abs_mul (pos a) (negsuc b) = abs_neg (pos (a * suc b))
 abs_mul (negsuc a) (pos b) = abs_neg (pos (suc a * b))
 abs_mul (negsuc a) (negsuc b) = refl
 
 pub mul_le : {a b c d : ℕ} → a ≤ c → b ≤ d → a * b ≤ c * d
-mul_le {a} {b} {c} {d} h k = le_trans (mul-le-mul-left a k) (mul-le-mul-right d h)
+mul_le {a} {b} {c} {d} h k = le_trans (mul-le-mul_left a k) (mul-le-mul_right d h)
 
 -- ---- a bound, and how it is found
 pub record Bounded (z : ℤ) : Type 0 where
   pub bound : ℕ
-  pub within : natAbs z ≤ bound
+  pub within : nat_abs z ≤ bound
 
-abbrev pub bounded : (z : ℤ) {b : ℕ} → natAbs z ≤ b → Bounded z
+abbrev pub bounded : (z : ℤ) {b : ℕ} → nat_abs z ≤ b → Bounded z
 bounded z {b} h = record { bound = b; within = h }
 
 module _ {x y : ℤ} (s : Bounded x) (t : Bounded y) where
-  pub within_add : natAbs (x +ℤ y) ≤ s .bound + t .bound
+  pub within_add : nat_abs (x +ℤ y) ≤ s.bound + t.bound
   within_add = omega (arith, abs_add x y)
 
-  pub within_mul : natAbs (x *ℤ y) ≤ s .bound * t .bound
-  within_mul = rw (abs_mul x y) (mul_le (s .within) (t .within))
+  pub within_mul : nat_abs (x *ℤ y) ≤ s.bound * t.bound
+  within_mul = rw (abs_mul x y) (mul_le s.within t.within)
 
   abbrev pub bounded_add : Bounded (x +ℤ y)
   bounded_add = bounded (x +ℤ y) within_add
@@ -58,42 +58,42 @@ module _ {x y : ℤ} (s : Bounded x) (t : Bounded y) where
   abbrev pub bounded_mul : Bounded (x *ℤ y)
   bounded_mul = bounded (x *ℤ y) within_mul
 
-pub within_neg : {x : ℤ} (s : Bounded x) → natAbs (negℤ x) ≤ s .bound
-within_neg {x} s = rw (abs_neg x) (s .within)
+pub within_neg : {x : ℤ} (s : Bounded x) → nat_abs (neg_ℤ x) ≤ s.bound
+within_neg {x} s = rw (abs_neg x) s.within
 
-abbrev pub bounded_neg : {x : ℤ} → Bounded x → Bounded (negℤ x)
-bounded_neg {x} s = bounded (negℤ x) (within_neg s)
+abbrev pub bounded_neg : {x : ℤ} → Bounded x → Bounded (neg_ℤ x)
+bounded_neg {x} s = bounded (neg_ℤ x) (within_neg s)
 
 abbrev pub bounded_pos : (n : ℕ) → Bounded (pos n)
-bounded_pos n = bounded (pos n) (le-refl n)
+bounded_pos n = bounded (pos n) (le_refl n)
 
 abbrev pub bounded_negsuc : (n : ℕ) → Bounded (negsuc n)
-bounded_negsuc n = bounded (negsuc n) (le-refl (suc n))
+bounded_negsuc n = bounded (negsuc n) (le_refl (suc n))
 
-pub within_equal : {x y : ℤ} → x ≡ y → (s : Bounded y) → natAbs x ≤ s .bound
-within_equal e s = rw e (s .within)
+pub within_equal : {x y : ℤ} → x ≡ y → (s : Bounded y) → nat_abs x ≤ s.bound
+within_equal e s = rw e s.within
 
--- a number that equals an expression: `let r = bounded_by (c .f .ensures) (search bounds) in ..`
+-- a number that equals an expression: `let r = bounded_by c.f.ensures (search bounds) in ..`
 abbrev pub bounded_by : {x y : ℤ} → x ≡ y → Bounded y → Bounded x
 bounded_by {x} e s = bounded x (within_equal e s)
 
 -- ---- bits
-pub read : {z : ℤ} → SFits w64 z → toZ w64 (ofZ w64 z) ≡ z
-read {z} f = toZ-ofZ w64 z f
+pub read : {z : ℤ} → SFits w64 z → to_z w64 (of_z w64 z) ≡ z
+read {z} f = to_z-of_z w64 z f
 
 -- what `a == b` on signed numbers tells
-pub bits_equal : {a b : ℤ} → SFits w64 a → SFits w64 b → ofZ w64 a ≡ ofZ w64 b → a ≡ b
-bits_equal f g e = sym (read f) ∙ ap (toZ w64) e ∙ read g
+pub bits_equal : {a b : ℤ} → SFits w64 a → SFits w64 b → of_z w64 a ≡ of_z w64 b → a ≡ b
+bits_equal f g e = sym (read f) ∙ ap (to_z w64) e ∙ read g
 
 -- the same, of an element of a list or a call's result, by what its read or the call tells
-pub read_at : (z : ℤ) → mag z < 2 ^ 63 → toZ w64 (ofZ w64 z) ≡ z
+pub read_at : (z : ℤ) → mag z < 2 ^ 63 → to_z w64 (of_z w64 z) ≡ z
 read_at z h = read (record { sfits = h })
 
 -- a bound of an element of a list is one of what the machine reads of it
-pub read_within : (z : ℤ) {b : ℕ} → mag z < 2 ^ 63 → natAbs z ≤ b → natAbs (toZ w64 (ofZ w64 z)) ≤ b
+pub read_within : (z : ℤ) {b : ℕ} → mag z < 2 ^ 63 → nat_abs z ≤ b → nat_abs (to_z w64 (of_z w64 z)) ≤ b
 read_within z f h = rw (read_at z f) h
 
-abbrev pub bounded_read : {x : ℤ} → SFits w64 x → Bounded x → Bounded (toZ w64 (ofZ w64 x))
+abbrev pub bounded_read : {x : ℤ} → SFits w64 x → Bounded x → Bounded (to_z w64 (of_z w64 x))
 bounded_read f s = bounded_by (read f) s
 
 pub fits_of_mag : (z : ℤ) → mag z < 2 ^ 63 → SFits w64 z
@@ -102,20 +102,20 @@ fits_of_mag z h = record { sfits = h }
 pub ruleset bounds = (bounded_add, bounded_mul, bounded_neg, bounded_pos, bounded_negsuc, bounded_read, fits_of_mag)
 
 -- ---- what a bound shows
-mag_le_abs : (z : ℤ) → mag z ≤ natAbs z
+mag_le_abs : (z : ℤ) → mag z ≤ nat_abs z
 mag_le_abs (pos n) = omega arith
 mag_le_abs (negsuc n) = omega arith
 
-pub abs_fits : {z : ℤ} → natAbs z < 2 ^ 63 → SFits w64 z
+pub abs_fits : {z : ℤ} → nat_abs z < 2 ^ 63 → SFits w64 z
 abs_fits {z} h = record { sfits = omega (arith, mag_le_abs z) }
 
-pub fits_in : {z : ℤ} (s : Bounded z) → T (ltb (s .bound) (2 ^ 63)) → SFits w64 z
-fits_in {z} s t = abs_fits (omega (arith, ltb→lt (s .bound) (2 ^ 63) t))
+pub fits_in : {z : ℤ} (s : Bounded z) → T (ltb s.bound (2 ^ 63)) → SFits w64 z
+fits_in {z} s t = abs_fits (omega (arith, ltb→lt s.bound (2 ^ 63) t))
 
-pub abs_in : {z : ℤ} {m : ℕ} (s : Bounded z) → T (leb (s .bound) m) → natAbs z ≤ m
-abs_in {z} {m} s t = omega (arith, leb→le (s .bound) m t)
+pub abs_in : {z : ℤ} {m : ℕ} (s : Bounded z) → T (leb s.bound m) → nat_abs z ≤ m
+abs_in {z} {m} s t = omega (arith, leb→le s.bound m t)
 
-pub fits_within : (z : ℤ) {m : ℕ} → natAbs z ≤ m → T (ltb m (2 ^ 63)) → SFits w64 z
+pub fits_within : (z : ℤ) {m : ℕ} → nat_abs z ≤ m → T (ltb m (2 ^ 63)) → SFits w64 z
 fits_within z {m} h t = abs_fits (omega (arith, ltb→lt m (2 ^ 63) t))
 
 pub numeral_fits : (n : ℕ) → T (ltb n (2 ^ 63)) → SFits w64 (pos n)

@@ -5,32 +5,32 @@
 --   modulo_only                    and is the only such number that differs from z by whole m
 --   floor_kept, floor_down, modulo_kept, modulo_up
 --                                  by the remainder of the machine's division: for the code of `floor` and `modulo`
-use mathlib.Core.Path.{_≡_, sym, _∙_, ap}
-use mathlib.Core.List.{[], _∷_}
-use mathlib.Core.Logic.{_⊎_, inl, inr}
-use Prim.Native.Nat.{_<_, _≤_}
+use mathlib.Core.Path.{◌≡◌, sym, ◌∙◌, ap}
+use mathlib.Core.List.{[], ◌∷◌}
+use mathlib.Core.Logic.{◌⊎◌, inl, inr}
+use Prim.Native.Nat.{◌<◌, ◌≤◌}
 use native.Mathlib.Nat.{div-add-mod, mod-lt}
 use native.Mathlib.Omega.{arith}
 use lib.Dec.{ltb→lt}
-use lib.IntN.{ℤ, pos, negsuc, natAbs, _+ℤ_, _-ℤ_, _*ℤ_}
-use lib.Signed.{quotZ, remZ, _≤ℤ_, _<ℤ_}
-use Rattle·exact·specs.specs.Circle.{floor, modulo}
-use Rattle·exact·proofs.proofs.Linear.{unknowns, linear, orders, one_sided, eq_by, le_by, lt_by, le_of, lt_of, eq_of}
-use Rattle·exact·proofs.proofs.Order.{lt_or_le, lt_le, le_antisym, mul_le_left, sub_nonneg}
-use Rattle·exact·proofs.proofs.Division.{quot_rem, rem_below}
+use lib.IntN.{ℤ, pos, negsuc, nat_abs, ◌+ℤ◌, ◌-ℤ◌, ◌*ℤ◌}
+use lib.Signed.{quot_z, rem_z, ◌≤ℤ◌, ◌<ℤ◌}
+use Rattle.exact.specs.Circle.{floor, modulo}
+use Rattle.exact.proofs.Linear.{unknowns, linear, orders, one_sided, eq_by, le_by, lt_by, le_of, lt_of, eq_of}
+use Rattle.exact.proofs.Order.{lt_or_le, lt_le, le_antisym, mul_le_left, sub_nonneg}
+use Rattle.exact.proofs.Division.{quot_rem, rem_below}
 
 -- ---- z = d * floor + what is left
 pub floor_low : (z d : ℤ) → pos 0 <ℤ d → (d *ℤ floor z d) ≤ℤ z
 unfolding floor
 floor_low (pos n) (pos d) h = le_by (search linear) (search linear) (omega (arith, div-add-mod n d))
-floor_low (negsuc n) (pos d) h = le_by (search linear) (search linear) (omega (arith, div-add-mod n d, mod-lt n (ltb→lt 0 d (h .lt))))
-floor_low z (negsuc d) h = absurd (h .lt)
+floor_low (negsuc n) (pos d) h = le_by (search linear) (search linear) (omega (arith, div-add-mod n d, mod-lt n (ltb→lt 0 d h.lt)))
+floor_low z (negsuc d) h = absurd h.lt
 
 pub floor_high : (z d : ℤ) → pos 0 <ℤ d → z <ℤ (d *ℤ floor z d +ℤ d)
 unfolding floor
-floor_high (pos n) (pos d) h = lt_by (search linear) (search linear) (omega (arith, div-add-mod n d, mod-lt n (ltb→lt 0 d (h .lt))))
+floor_high (pos n) (pos d) h = lt_by (search linear) (search linear) (omega (arith, div-add-mod n d, mod-lt n (ltb→lt 0 d h.lt)))
 floor_high (negsuc n) (pos d) h = lt_by (search linear) (search linear) (omega (arith, div-add-mod n d))
-floor_high z (negsuc d) h = absurd (h .lt)
+floor_high z (negsuc d) h = absurd h.lt
 
 -- of two quotients that leave less than d and not less than 0, neither is below the other
 not_below : (d k f z : ℤ) → pos 0 <ℤ d → k <ℤ f → (d *ℤ f) ≤ℤ z → z <ℤ (d *ℤ k +ℤ d) → ⊥
@@ -77,16 +77,16 @@ modulo_only z m k r h e a b = ap (λ (f : ℤ). z -ℤ m *ℤ f) (floor_only z m
 -- ---- by the remainder of the machine's division: for the code of `floor` and `modulo`
 module _ (z d : ℤ) (h : pos 0 <ℤ d) where
   abbrev q : ℤ
-  q = quotZ z d
+  q = quot_z z d
 
   abbrev r : ℤ
-  r = remZ z d
+  r = rem_z z d
 
   one_down : (q r : ℤ) → d *ℤ q +ℤ r ≡ z → z ≡ d *ℤ (q -ℤ pos 1) +ℤ (r +ℤ d)
   one_down q r e =
       let v = unknowns (z ∷ d ∷ q ∷ r ∷ []) in eq_by (search linear) (search linear) (omega (arith, eq_of e (search linear) (search linear)))
 
-  small : (r : ℤ) → natAbs r < natAbs d → (r <ℤ d) × (pos 0 ≤ℤ (r +ℤ d))
+  small : (r : ℤ) → nat_abs r < nat_abs d → (r <ℤ d) × (pos 0 ≤ℤ (r +ℤ d))
   small r l =
       let v = unknowns (r ∷ d ∷ []) in
       (lt_by (search linear) (search linear) (omega (arith, orders, one_sided)), le_by (search linear) (search linear) (omega (arith, orders, one_sided)))
@@ -95,19 +95,19 @@ module _ (z d : ℤ) (h : pos 0 <ℤ d) where
   less r k = let v = unknowns (r ∷ d ∷ []) in lt_by (search linear) (search linear) (omega (arith, orders))
 
   pub floor_kept : pos 0 ≤ℤ r → floor z d ≡ q
-  floor_kept k = floor_only z d q r h (sym (quot_rem z d h)) k (small r (rem_below z d h) .0)
+  floor_kept k = floor_only z d q r h (sym (quot_rem z d h)) k (small r (rem_below z d h)).0
 
   pub floor_down : r <ℤ pos 0 → floor z d ≡ q -ℤ pos 1
-  floor_down k = floor_only z d (q -ℤ pos 1) (r +ℤ d) h (one_down q r (quot_rem z d h)) (small r (rem_below z d h) .1) (less r k)
+  floor_down k = floor_only z d (q -ℤ pos 1) (r +ℤ d) h (one_down q r (quot_rem z d h)) (small r (rem_below z d h)).1 (less r k)
 
   pub modulo_kept : pos 0 ≤ℤ r → modulo z d ≡ r
-  modulo_kept k = modulo_only z d q r h (sym (quot_rem z d h)) k (small r (rem_below z d h) .0)
+  modulo_kept k = modulo_only z d q r h (sym (quot_rem z d h)) k (small r (rem_below z d h)).0
 
   pub modulo_up : r <ℤ pos 0 → modulo z d ≡ r +ℤ d
-  modulo_up k = modulo_only z d (q -ℤ pos 1) (r +ℤ d) h (one_down q r (quot_rem z d h)) (small r (rem_below z d h) .1) (less r k)
+  modulo_up k = modulo_only z d (q -ℤ pos 1) (r +ℤ d) h (one_down q r (quot_rem z d h)) (small r (rem_below z d h)).1 (less r k)
 
-pub modulo_size : (z m : ℤ) → pos 0 <ℤ m → natAbs (modulo z m) ≤ natAbs m
+pub modulo_size : (z m : ℤ) → pos 0 <ℤ m → nat_abs (modulo z m) ≤ nat_abs m
 modulo_size z m h = within (modulo z m) (modulo_low z m h) (modulo_high z m h)
   where
-    within : (x : ℤ) → pos 0 ≤ℤ x → x <ℤ m → natAbs x ≤ natAbs m
+    within : (x : ℤ) → pos 0 ≤ℤ x → x <ℤ m → nat_abs x ≤ nat_abs m
     within x a b = let v = unknowns (x ∷ m ∷ []) in omega (arith, orders, one_sided)

@@ -12,22 +12,22 @@
 --   sum_gathered                      a sum over them is the sum, over all, of those terms at which the test holds
 --   Gathered, gathered_none, gathered_taken, gathered_passed      a loop that stores them in the first places of a list: before the first number, and after
 --                                     one more, whose value is stored or not; gathered_as: the same under other names
-use mathlib.Core.Path.{_≡_, refl, sym, _∙_, ap, subst}
+use mathlib.Core.Path.{◌≡◌, refl, sym, ◌∙◌, ap, subst}
 use mathlib.Core.Bool.{Bool, true, false, not, cond}
-use mathlib.Core.List.{List, [], _∷_, _++_, append-nil}
-use Prim.Native.Nat.{ℕ, zero, suc, _+_, _<_, _≤_}
-use native.Mathlib.Decide.{decLt}
-use native.Mathlib.Nat.{le-refl, zero-add}
+use mathlib.Core.List.{List, [], ◌∷◌, ◌++◌, append-nil}
+use Prim.Native.Nat.{ℕ, zero, suc, ◌+◌, ◌<◌, ◌≤◌}
+use native.Mathlib.Decide.{dec_lt}
+use native.Mathlib.Nat.{le_refl, zero-add}
 use native.Mathlib.Numerals.{add-one}
 use native.Mathlib.Omega.{arith}
-use lib.IntN.{ℤ, pos, _+ℤ_, +ℤ-idr}
-use lib.ListN.{length, getD, set, length-append, length-set, List·getD-append}
-use lib.Seq.{sets, getD-append-seam}
-use Rattle·exact·specs.specs.Gather.{gather}
-use Rattle·exact·specs.specs.Sum.{sum}
-use Rattle·exact·specs.specs.Tabulate.{tabulate}
-use Rattle·exact·proofs.proofs.Filling.{tabulate_more, sets_append}
-use Rattle·exact·proofs.proofs.Sum.{sum_none, sum_next, sum_ext}
+use lib.IntN.{ℤ, pos, ◌+ℤ◌, +ℤ_idr}
+use lib.ListN.{length, get_or, set, length-append, length-set, get_or-append}
+use lib.Seq.{sets, get_or-append_seam}
+use Rattle.exact.specs.Gather.{gather}
+use Rattle.exact.specs.Sum.{sum}
+use Rattle.exact.specs.Tabulate.{tabulate}
+use Rattle.exact.proofs.Filling.{tabulate_more, sets_append}
+use Rattle.exact.proofs.Sum.{sum_none, sum_next, sum_ext}
 
 -- ---- one more number
 module _ {A : Type 0} (n : ℕ) (test : ℕ → Bool) (f : ℕ → A) where
@@ -80,11 +80,11 @@ module _ (t : ℕ → Bool) where
   rank_same n e = ap length (next_passed n t (λ i. i) e)
 
   pub rank_grows : (h n : ℕ) → h ≤ n → rank t h ≤ rank t n
-  rank_grows h zero l = subst (λ (k : ℕ). rank t k ≤ rank t 0) (sym (none h l)) (le-refl (rank t 0))
+  rank_grows h zero l = subst (λ (k : ℕ). rank t k ≤ rank t 0) (sym (none h l)) (le_refl (rank t 0))
     where
       none : (h : ℕ) → h ≤ 0 → h ≡ 0
       none h l = omega arith
-  rank_grows h (suc n) l = by_order (decLt n h) (rank_grows h n)
+  rank_grows h (suc n) l = by_order (dec_lt n h) (rank_grows h n)
     where
       here : n < h → h ≡ suc n
       here k = omega arith
@@ -94,7 +94,7 @@ module _ (t : ℕ → Bool) where
       by_test false e r = omega (arith, rank_same n e)
 
       by_order : Dec (n < h) → (h ≤ n → rank t h ≤ rank t n) → rank t h ≤ rank t (suc n)
-      by_order (yes k) r = subst (λ (i : ℕ). rank t i ≤ rank t (suc n)) (sym (here k)) (le-refl (rank t (suc n)))
+      by_order (yes k) r = subst (λ (i : ℕ). rank t i ≤ rank t (suc n)) (sym (here k)) (le_refl (rank t (suc n)))
       by_order (no k) r = by_test (t n) refl (r (omega arith))
 
   -- the values do not count
@@ -127,18 +127,18 @@ gather_most n t f = omega (arith, gather_parts n t f (λ h. h))
 
 -- ---- which number stands at place m
 abbrev pub nth : (ℕ → Bool) → ℕ → ℕ → ℕ
-nth t n m = getD (gather n t (λ i. i)) m 0
+nth t n m = get_or (gather n t (λ i. i)) m 0
 
 module _ {A : Type 0} (t : ℕ → Bool) (f : ℕ → A) (d : A) (n : ℕ) where
-  at_before : (m : ℕ) → m < rank t n → getD (gather (suc n) t f) m d ≡ getD (gather n t f) m d
+  at_before : (m : ℕ) → m < rank t n → get_or (gather (suc n) t f) m d ≡ get_or (gather n t f) m d
   unfolding gather
-  at_before m l = List·getD-append (gather n t f) (cond (t n) (f n ∷ []) []) d m (omega (arith, gather_rank t n f))
+  at_before m l = get_or-append (gather n t f) (cond (t n) (f n ∷ []) []) d m (omega (arith, gather_rank t n f))
 
-  at_last : t n ≡ true → getD (gather (suc n) t f) (rank t n) d ≡ f n
+  at_last : t n ≡ true → get_or (gather (suc n) t f) (rank t n) d ≡ f n
   at_last e =
-      ap (λ (l : List A). getD l (rank t n) d) (next_taken n t f e)
-      ∙ ap (λ (k : ℕ). getD (gather n t f ++ (f n ∷ [])) k d) (sym (gather_rank t n f))
-      ∙ getD-append-seam (gather n t f) (f n) [] d
+      ap (λ (l : List A). get_or l (rank t n) d) (next_taken n t f e)
+      ∙ ap (λ (k : ℕ). get_or (gather n t f ++ (f n ∷ [])) k d) (sym (gather_rank t n f))
+      ∙ get_or-append_seam (gather n t f) (f n) [] d
 
 -- a place below n + 1 things is one of those before, or the last, where the test holds
 data Spot (t : ℕ → Bool) (n m : ℕ) : Type 0 where
@@ -146,7 +146,7 @@ data Spot (t : ℕ → Bool) (n m : ℕ) : Type 0 where
   last : t n ≡ true → rank t n ≡ m → Spot t n m
 
 spot : (t : ℕ → Bool) (n m : ℕ) → m < rank t (suc n) → Spot t n m
-spot t n m l = by_test (t n) refl (decLt m (rank t n))
+spot t n m l = by_test (t n) refl (dec_lt m (rank t n))
   where
     by_test : (b : Bool) → t n ≡ b → Dec (m < rank t n) → Spot t n m
     by_test b e (yes k) = before k
@@ -176,9 +176,9 @@ module _ (t : ℕ → Bool) where
   pub nth_test : (n m : ℕ) → m < rank t n → t (nth t n m) ≡ true
   nth_test = each_place t (λ n m. t (nth t n m) ≡ true) (λ n m l r. ap t (nth_before n m l) ∙ r) (λ n e. ap t (nth_last n e) ∙ e)
 
-  pub gather_at : {A : Type 0} (f : ℕ → A) (d : A) (n m : ℕ) → m < rank t n → getD (gather n t f) m d ≡ f (nth t n m)
+  pub gather_at : {A : Type 0} (f : ℕ → A) (d : A) (n m : ℕ) → m < rank t n → get_or (gather n t f) m d ≡ f (nth t n m)
   gather_at f d =
-      each_place t (λ n m. getD (gather n t f) m d ≡ f (nth t n m))
+      each_place t (λ n m. get_or (gather n t f) m d ≡ f (nth t n m))
       (λ n m l r. at_before t f d n m l ∙ r ∙ ap f (sym (nth_before n m l))) (λ n e. at_last t f d n e ∙ ap f (sym (nth_last n e)))
 
   pub nth_rise : (n k m : ℕ) → k < m → m < rank t n → nth t n k < nth t n m
@@ -195,7 +195,7 @@ module _ (t : ℕ → Bool) where
 
   pub nth_rank : (h n : ℕ) → h < n → t h ≡ true → nth t n (rank t h) ≡ h
   nth_rank h zero l e = absurd (omega arith)
-  nth_rank h (suc n) l e = by_order (decLt h n) (nth_rank h n)
+  nth_rank h (suc n) l e = by_order (dec_lt h n) (nth_rank h n)
     where
       at_end : ¬ (h < n) → h ≡ n
       at_end k = omega arith
@@ -222,7 +222,7 @@ module _ (t : ℕ → Bool) where
           ∙ (λ i. (so_far ∙ r) i +ℤ (ap v (nth_last n e) ∙ (λ j. cond (sym e j) (v n) (pos 0))) i)
       by_test false e r =
           ap (λ (k : ℕ). sum k (λ m. v (nth t (suc n) m))) (rank_same t n e) ∙ so_far ∙ r
-          ∙ sym (+ℤ-idr (sum n (λ h. cond (t h) (v h) (pos 0)))) ∙ (λ i. sum n (λ h. cond (t h) (v h) (pos 0)) +ℤ cond (sym e i) (v n) (pos 0))
+          ∙ sym (+ℤ_idr (sum n (λ h. cond (t h) (v h) (pos 0)))) ∙ (λ i. sum n (λ h. cond (t h) (v h) (pos 0)) +ℤ cond (sym e i) (v n) (pos 0))
 
 -- ---- a loop that stores them, one after another, in the first places of a list: after h numbers xs has become ys, with n of them
 pub record Gathered {A : Type 0} (test : ℕ → Bool) (f : ℕ → A) (h : ℕ) (xs ys : List A) (n : ℕ) : Type 0 where
@@ -240,20 +240,20 @@ module _ {A : Type 0} (test : ℕ → Bool) (f : ℕ → A) (xs : List A) where
     pub gathered_taken : test h ≡ true → (v : A) → v ≡ f h → Gathered test f (h + 1) xs (set ys n v) (n + 1)
     gathered_taken t v e = record {
       stored =
-          (λ i. set (g .stored i) ((g .count ∙ sym (zero-add (length (gather h test f)))) i) (e i)) ∙ sets_append (gather h test f) (f h ∷ []) xs 0 ∙ ap (sets xs 0) (sym (gather_taken h test f t));
-      count = ap (λ (k : ℕ). k + 1) (g .count) ∙ sym (length-append (gather h test f) (f h ∷ [])) ∙ ap length (sym (gather_taken h test f t));
-      few = omega (arith, g .few);
-      long = length-set ys n v ∙ g .long;
+          (λ i. set (g.stored i) ((g.count ∙ sym (zero-add (length (gather h test f)))) i) (e i)) ∙ sets_append (gather h test f) (f h ∷ []) xs 0 ∙ ap (sets xs 0) (sym (gather_taken h test f t));
+      count = ap (λ (k : ℕ). k + 1) g.count ∙ sym (length-append (gather h test f) (f h ∷ [])) ∙ ap length (sym (gather_taken h test f t));
+      few = omega (arith, g.few);
+      long = length-set ys n v ∙ g.long;
     }
 
     pub gathered_passed : test h ≡ false → Gathered test f (h + 1) xs ys n
     gathered_passed t = record {
-      stored = g .stored ∙ ap (sets xs 0) (sym (gather_passed h test f t));
-      count = g .count ∙ ap length (sym (gather_passed h test f t));
-      few = omega (arith, g .few);
-      long = g .long;
+      stored = g.stored ∙ ap (sets xs 0) (sym (gather_passed h test f t));
+      count = g.count ∙ ap length (sym (gather_passed h test f t));
+      few = omega (arith, g.few);
+      long = g.long;
     }
 
 -- the same list and number, under other names
-pub gathered_as : {A : Type 0} {test : ℕ → Bool} {f : ℕ → A} {h n n′ : ℕ} {xs ys ys′ : List A} → ys′ ≡ ys → n′ ≡ n → Gathered test f h xs ys n → Gathered test f h xs ys′ n′
-gathered_as {A} {test} {f} {h} {n} {n′} {xs} {ys} {ys′} p q g = subst (λ (l : List A). Gathered test f h xs l n′) (sym p) (subst (Gathered test f h xs ys) (sym q) g)
+pub gathered_as : {A : Type 0} {test : ℕ → Bool} {f : ℕ → A} {h n n' : ℕ} {xs ys ys' : List A} → ys' ≡ ys → n' ≡ n → Gathered test f h xs ys n → Gathered test f h xs ys' n'
+gathered_as {A} {test} {f} {h} {n} {n'} {xs} {ys} {ys'} p q g = subst (λ (l : List A). Gathered test f h xs l n') (sym p) (subst (Gathered test f h xs ys) (sym q) g)

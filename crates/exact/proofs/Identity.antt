@@ -5,13 +5,13 @@
 --   polynomials             the set for `search`
 --   ring_by                 two expressions with one polynomial are equal:
 --                           `let ρ = a ∷ b ∷ [] in let e = letters ρ in ring_by ρ (search polynomials) (search polynomials) refl`
-use mathlib.Core.Path.{_≡_, refl, sym, _∙_, ap}
-use mathlib.Core.Bool.{Bool, true, false, cond, _&&_}
-use mathlib.Core.List.{List, [], _∷_}
+use mathlib.Core.Path.{◌≡◌, refl, sym, ◌∙◌, ap}
+use mathlib.Core.Bool.{Bool, true, false, cond, ◌&&◌}
+use mathlib.Core.List.{List, [], ◌∷◌}
 use Prim.Native.Nat.{ℕ, zero, suc}
 use lib.Dec.{T, ltb, leb, eqb, eqb→eq}
-use lib.IntN.{ℤ, pos, negsuc, negℤ, _+ℤ_, _*ℤ_, +ℤ-idl, +ℤ-idr, +ℤ-assoc, zero-*ℤ, *ℤ-zero}
-use Rattle·exact·proofs.proofs.Ring.{ring, one_*ℤ, *ℤ_by_one, neg_*ℤ, *ℤ_assoc, *ℤ_left_comm, *ℤ_dist_r, +ℤ_left_comm}
+use lib.IntN.{ℤ, pos, negsuc, neg_ℤ, ◌+ℤ◌, ◌*ℤ◌, +ℤ_idl, +ℤ_idr, +ℤ_assoc, zero-*ℤ, *ℤ-zero}
+use Rattle.exact.proofs.Ring.{ring, one_*ℤ, *ℤ_by_one, neg_*ℤ, *ℤ_assoc, *ℤ_left_comm, *ℤ_dist_r, +ℤ_left_comm}
 
 -- a product of variables, each by its place in ρ
 abbrev pub Monomial : Type 0
@@ -116,12 +116,12 @@ equal_m_equal (i ∷ m) [] t = absurd t
 equal_m_equal (i ∷ m) (j ∷ k) t = λ d. eqb→eq i j (and_left (eqb i j) (equal_m m k) t) d ∷ equal_m_equal m k (and_right (eqb i j) (equal_m m k) t) d
 
 lead_value : (ρ : List ℤ) (c : ℤ) (m : Monomial) (p : Polynomial) → value_p ρ (lead c m p) ≡ c *ℤ value_m ρ m +ℤ value_p ρ p
-lead_value ρ (pos zero) m p = sym (ap (λ (x : ℤ). x +ℤ value_p ρ p) (zero-*ℤ (value_m ρ m)) ∙ +ℤ-idl (value_p ρ p))
+lead_value ρ (pos zero) m p = sym (ap (λ (x : ℤ). x +ℤ value_p ρ p) (zero-*ℤ (value_m ρ m)) ∙ +ℤ_idl (value_p ρ p))
 lead_value ρ (pos (suc n)) m p = refl
 lead_value ρ (negsuc n) m p = refl
 
 joined : (c d m p : ℤ) → (c +ℤ d) *ℤ m +ℤ p ≡ c *ℤ m +ℤ (d *ℤ m +ℤ p)
-joined c d m p = simp (*ℤ_dist_r, +ℤ-assoc)
+joined c d m p = simp (*ℤ_dist_r, +ℤ_assoc)
 
 insert_value : (ρ : List ℤ) (c : ℤ) (m : Monomial) (p : Polynomial) → value_p ρ (insert c m p) ≡ c *ℤ value_m ρ m +ℤ value_p ρ p
 insert_value ρ c m nil = lead_value ρ c m nil
@@ -133,9 +133,9 @@ insert_value ρ c m (term d k p) =
     (ap (λ (x : ℤ). d *ℤ value_m ρ k +ℤ x) (insert_value ρ c m p) ∙ +ℤ_left_comm (d *ℤ value_m ρ k) (c *ℤ value_m ρ m) (value_p ρ p)))
 
 add_value : (ρ : List ℤ) (p q : Polynomial) → value_p ρ (add p q) ≡ value_p ρ p +ℤ value_p ρ q
-add_value ρ nil q = sym (+ℤ-idl (value_p ρ q))
+add_value ρ nil q = sym (+ℤ_idl (value_p ρ q))
 add_value ρ (term c m p) q =
-    insert_value ρ c m (add p q) ∙ ap (λ (x : ℤ). c *ℤ value_m ρ m +ℤ x) (add_value ρ p q) ∙ sym (+ℤ-assoc (c *ℤ value_m ρ m) (value_p ρ p) (value_p ρ q))
+    insert_value ρ c m (add p q) ∙ ap (λ (x : ℤ). c *ℤ value_m ρ m +ℤ x) (add_value ρ p q) ∙ sym (+ℤ_assoc (c *ℤ value_m ρ m) (value_p ρ p) (value_p ρ q))
 
 factored : (c d m k p : ℤ) → (c *ℤ d) *ℤ (m *ℤ k) +ℤ (c *ℤ m) *ℤ p ≡ (c *ℤ m) *ℤ (d *ℤ k +ℤ p)
 factored c d m k p = simp ring
@@ -156,13 +156,13 @@ pub record Written (ρ : List ℤ) (z : ℤ) : Type 0 where
   pub value : z ≡ value_p ρ polynomial
 
 constant_term : (c : ℤ) → c ≡ c *ℤ pos 1 +ℤ pos 0
-constant_term c = sym (+ℤ-idr (c *ℤ pos 1) ∙ *ℤ_by_one c)
+constant_term c = sym (+ℤ_idr (c *ℤ pos 1) ∙ *ℤ_by_one c)
 
 pub written_constant : (ρ : List ℤ) (c : ℤ) → c ≡ value_p ρ (lead c [] nil)
 written_constant ρ c = constant_term c ∙ sym (lead_value ρ c [] nil)
 
 pub written_letter : (ρ : List ℤ) (i : ℕ) → letter ρ i ≡ value_p ρ (term (pos 1) (i ∷ []) nil)
-written_letter ρ i = sym (+ℤ-idr (pos 1 *ℤ (letter ρ i *ℤ pos 1)) ∙ one_*ℤ (letter ρ i *ℤ pos 1) ∙ *ℤ_by_one (letter ρ i))
+written_letter ρ i = sym (+ℤ_idr (pos 1 *ℤ (letter ρ i *ℤ pos 1)) ∙ one_*ℤ (letter ρ i *ℤ pos 1) ∙ *ℤ_by_one (letter ρ i))
 
 pub written_sum : (ρ : List ℤ) {a b : ℤ} (p q : Polynomial) → a ≡ value_p ρ p → b ≡ value_p ρ q → a +ℤ b ≡ value_p ρ (add p q)
 written_sum ρ p q e f = (λ i. e i +ℤ f i) ∙ sym (add_value ρ p q)
@@ -170,25 +170,25 @@ written_sum ρ p q e f = (λ i. e i +ℤ f i) ∙ sym (add_value ρ p q)
 pub written_product : (ρ : List ℤ) {a b : ℤ} (p q : Polynomial) → a ≡ value_p ρ p → b ≡ value_p ρ q → a *ℤ b ≡ value_p ρ (multiply p q)
 written_product ρ p q e f = (λ i. e i *ℤ f i) ∙ sym (multiply_value ρ p q)
 
-minus_one : (x : ℤ) → negℤ x ≡ (negsuc 0 *ℤ pos 1) *ℤ x
-minus_one x = sym (neg_*ℤ (pos 1) x ∙ ap negℤ (one_*ℤ x))
+minus_one : (x : ℤ) → neg_ℤ x ≡ (negsuc 0 *ℤ pos 1) *ℤ x
+minus_one x = sym (neg_*ℤ (pos 1) x ∙ ap neg_ℤ (one_*ℤ x))
 
-pub written_negation : (ρ : List ℤ) {a : ℤ} (p : Polynomial) → a ≡ value_p ρ p → negℤ a ≡ value_p ρ (scale (negsuc 0) [] p)
-written_negation ρ p e = ap negℤ e ∙ minus_one (value_p ρ p) ∙ sym (scale_value ρ (negsuc 0) [] p)
+pub written_negation : (ρ : List ℤ) {a : ℤ} (p : Polynomial) → a ≡ value_p ρ p → neg_ℤ a ≡ value_p ρ (scale (negsuc 0) [] p)
+written_negation ρ p e = ap neg_ℤ e ∙ minus_one (value_p ρ p) ∙ sym (scale_value ρ (negsuc 0) [] p)
 
 module _ {ρ : List ℤ} {a b : ℤ} (s : Written ρ a) (t : Written ρ b) where
   abbrev pub written_add : Written ρ (a +ℤ b)
-  written_add = record { polynomial = add (s .polynomial) (t .polynomial); value = written_sum ρ (s .polynomial) (t .polynomial) (s .value) (t .value) }
+  written_add = record { polynomial = add s.polynomial t.polynomial; value = written_sum ρ s.polynomial t.polynomial s.value t.value }
 
   abbrev pub written_mul : Written ρ (a *ℤ b)
-  written_mul = record { polynomial = multiply (s .polynomial) (t .polynomial); value = written_product ρ (s .polynomial) (t .polynomial) (s .value) (t .value) }
+  written_mul = record { polynomial = multiply s.polynomial t.polynomial; value = written_product ρ s.polynomial t.polynomial s.value t.value }
 
 -- two expressions with one polynomial are equal
-pub ring_by : (ρ : List ℤ) {a b : ℤ} (s : Written ρ a) (t : Written ρ b) → s .polynomial ≡ t .polynomial → a ≡ b
-ring_by ρ s t e = s .value ∙ ap (value_p ρ) e ∙ sym (t .value)
+pub ring_by : (ρ : List ℤ) {a b : ℤ} (s : Written ρ a) (t : Written ρ b) → s.polynomial ≡ t.polynomial → a ≡ b
+ring_by ρ s t e = s.value ∙ ap (value_p ρ) e ∙ sym t.value
 
-abbrev pub written_neg : {ρ : List ℤ} {a : ℤ} → Written ρ a → Written ρ (negℤ a)
-written_neg {ρ} s = record { polynomial = scale (negsuc 0) [] (s .polynomial); value = written_negation ρ (s .polynomial) (s .value) }
+abbrev pub written_neg : {ρ : List ℤ} {a : ℤ} → Written ρ a → Written ρ (neg_ℤ a)
+written_neg {ρ} s = record { polynomial = scale (negsuc 0) [] s.polynomial; value = written_negation ρ s.polynomial s.value }
 
 abbrev pub written_pos : {ρ : List ℤ} (n : ℕ) → Written ρ (pos n)
 written_pos {ρ} n = record { polynomial = lead (pos n) [] nil; value = written_constant ρ (pos n) }

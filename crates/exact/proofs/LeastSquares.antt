@@ -4,23 +4,23 @@
 --   corrections          v, of the correlates K
 --   least                c*c * sum of g*v*v is not above the sum of g*x*x
 --   only                 where the two are equal, each x(i) is c*v(i)
-use mathlib.Core.Path.{_≡_, refl, sym, _∙_, ap}
-use mathlib.Core.List.{[], _∷_}
-use Prim.Native.Nat.{ℕ, _<_}
+use mathlib.Core.Path.{◌≡◌, refl, sym, ◌∙◌, ap}
+use mathlib.Core.List.{[], ◌∷◌}
+use Prim.Native.Nat.{ℕ, ◌<◌}
 use native.Mathlib.Omega.{arith}
-use lib.IntN.{ℤ, pos, negℤ, _+ℤ_, _-ℤ_, _*ℤ_, *ℤ-zero, +ℤ-idl}
-use lib.Signed.{_≤ℤ_, _<ℤ_}
-use Rattle·exact·specs.specs.Sum.{sum}
-use Rattle·exact·proofs.proofs.Linear.{unknowns, linear, orders, eq_by, le_by, eq_of}
-use Rattle·exact·proofs.proofs.Identity.{letters, polynomials, ring_by}
-use Rattle·exact·proofs.proofs.Order.{mul_nonneg, square_nonneg, square_zero, same_by, lt_le}
-use Rattle·exact·proofs.proofs.Sum.{sum_ext, sum_add, sum_mul, sum_swap, sum_zero, sum_nonneg, sum_zeros}
+use lib.IntN.{ℤ, pos, neg_ℤ, ◌+ℤ◌, ◌-ℤ◌, ◌*ℤ◌, *ℤ-zero, +ℤ_idl}
+use lib.Signed.{◌≤ℤ◌, ◌<ℤ◌}
+use Rattle.exact.specs.Sum.{sum}
+use Rattle.exact.proofs.Linear.{unknowns, linear, orders, eq_by, le_by, eq_of}
+use Rattle.exact.proofs.Identity.{letters, polynomials, ring_by}
+use Rattle.exact.proofs.Order.{mul_nonneg, square_nonneg, square_zero, same_by, lt_le}
+use Rattle.exact.proofs.Sum.{sum_ext, sum_add, sum_mul, sum_swap, sum_zero, sum_nonneg, sum_zeros}
 
 -- ---- identities of one term
-spread : (a x c v : ℤ) → a *ℤ (x -ℤ c *ℤ v) ≡ a *ℤ x +ℤ negℤ c *ℤ (a *ℤ v)
+spread : (a x c v : ℤ) → a *ℤ (x -ℤ c *ℤ v) ≡ a *ℤ x +ℤ neg_ℤ c *ℤ (a *ℤ v)
 spread a x c v = let ρ = a ∷ x ∷ c ∷ v ∷ [] in let e = letters ρ in ring_by ρ (search polynomials depth 9) (search polynomials depth 9) refl
 
-cancelled : (c s : ℤ) → c *ℤ s +ℤ negℤ c *ℤ s ≡ pos 0
+cancelled : (c s : ℤ) → c *ℤ s +ℤ neg_ℤ c *ℤ s ≡ pos 0
 cancelled c s = let ρ = c ∷ s ∷ [] in let e = letters ρ in ring_by ρ (search polynomials) (search polynomials) refl
 
 gathered : (g q w d : ℤ) → g *ℤ ((q *ℤ w) *ℤ d) ≡ (g *ℤ q) *ℤ (d *ℤ w)
@@ -58,9 +58,9 @@ module _ (m n : ℕ) (a : ℕ → ℕ → ℤ) (K q g x : ℕ → ℤ) (c G : �
   module _ (gq : (i : ℕ) → i < m → g i *ℤ q i ≡ G) (rows : (j : ℕ) → j < n → sum m (λ i. a j i *ℤ x i) ≡ c *ℤ sum m (λ i. a j i *ℤ v i)) where
     unseen : (j : ℕ) → j < n → sum m (λ i. a j i *ℤ beyond i) ≡ pos 0
     unseen j h =
-        sum_ext m (λ i. a j i *ℤ beyond i) (λ i. a j i *ℤ x i +ℤ negℤ c *ℤ (a j i *ℤ v i)) (λ i k. spread (a j i) (x i) c (v i))
-        ∙ sum_add m (λ i. a j i *ℤ x i) (λ i. negℤ c *ℤ (a j i *ℤ v i))
-        ∙ (λ t. rows j h t +ℤ sum_mul m (negℤ c) (λ i. a j i *ℤ v i) t)
+        sum_ext m (λ i. a j i *ℤ beyond i) (λ i. a j i *ℤ x i +ℤ neg_ℤ c *ℤ (a j i *ℤ v i)) (λ i k. spread (a j i) (x i) c (v i))
+        ∙ sum_add m (λ i. a j i *ℤ x i) (λ i. neg_ℤ c *ℤ (a j i *ℤ v i))
+        ∙ (λ t. rows j h t +ℤ sum_mul m (neg_ℤ c) (λ i. a j i *ℤ v i) t)
         ∙ cancelled c (sum m (λ i. a j i *ℤ v i))
 
     unseen_by : (j : ℕ) → j < n → sum m (λ i. beyond i *ℤ (a j i *ℤ K j)) ≡ pos 0
@@ -89,7 +89,7 @@ module _ (m n : ℕ) (a : ℕ → ℕ → ℤ) (K q g x : ℕ → ℤ) (c G : �
         ∙ (λ t. sum_mul m (c *ℤ c) (λ i. g i *ℤ (v i *ℤ v i)) t +ℤ sum_add m (λ i. pos 2 *ℤ c *ℤ (g i *ℤ (v i *ℤ beyond i))) (λ i. g i *ℤ (beyond i *ℤ beyond i)) t)
         ∙ ap (λ (z : ℤ). c *ℤ c *ℤ sum m (λ i. g i *ℤ (v i *ℤ v i)) +ℤ (z +ℤ sum m (λ i. g i *ℤ (beyond i *ℤ beyond i))))
         (sum_mul m (pos 2 *ℤ c) (λ i. g i *ℤ (v i *ℤ beyond i)) ∙ ap (λ (z : ℤ). pos 2 *ℤ c *ℤ z) orthogonal ∙ *ℤ-zero (pos 2 *ℤ c))
-        ∙ ap (λ (z : ℤ). c *ℤ c *ℤ sum m (λ i. g i *ℤ (v i *ℤ v i)) +ℤ z) (+ℤ-idl (sum m (λ i. g i *ℤ (beyond i *ℤ beyond i))))
+        ∙ ap (λ (z : ℤ). c *ℤ c *ℤ sum m (λ i. g i *ℤ (v i *ℤ v i)) +ℤ z) (+ℤ_idl (sum m (λ i. g i *ℤ (beyond i *ℤ beyond i))))
 
     module _ (g_pos : (i : ℕ) → i < m → pos 0 <ℤ g i) where
       beyond_square : (i : ℕ) → i < m → pos 0 ≤ℤ (g i *ℤ (beyond i *ℤ beyond i))

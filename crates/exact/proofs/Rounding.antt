@@ -6,21 +6,21 @@
 --   nearest_size, nearest_smaller     from the first: a bound of the number bounds what it rounds to
 --   nearest_below, nearest_above, nearest_kept_below, nearest_kept_above
 --                            which neighbour it is, by the remainder of the machine's division: for the code of `nearest` alone
-use mathlib.Core.Path.{_≡_, refl, sym, _∙_, ap}
+use mathlib.Core.Path.{◌≡◌, refl, sym, ◌∙◌, ap}
 use mathlib.Core.Bool.{Bool, true, false, cond}
-use mathlib.Core.List.{[], _∷_}
-use Prim.Native.Nat.{ℕ, zero, suc, _+_, _*_, _/_, _%_, _<_, _≤_}
-use native.Mathlib.Nat.{div-add-mod, mod-lt, mul-div-cancel-left, mul-le-mul-left, mul-le-mul-right, mul-mod-right, zero-div, zero-mod}
+use mathlib.Core.List.{[], ◌∷◌}
+use Prim.Native.Nat.{ℕ, zero, suc, ◌+◌, ◌*◌, ◌/◌, ◌%◌, ◌<◌, ◌≤◌}
+use native.Mathlib.Nat.{div-add-mod, mod-lt, mul-div_cancel_left, mul-le-mul_left, mul-le-mul_right, mul-mod_right, zero-div, zero-mod}
 use native.Mathlib.Omega.{arith}
-use native.Mathlib.Decide.{decLe}
+use native.Mathlib.Decide.{dec_le}
 use borrow.Author.Tests.{le-leb, lt-leb, leb-true, leb-false}
 use lib.Dec.{leb, ltb→lt}
-use lib.IntN.{ℤ, pos, negsuc, negℤ, natAbs, _+ℤ_, _-ℤ_, _*ℤ_, negℤ-negℤ}
-use lib.Signed.{quotZ, remZ, _≤ℤ_, _<ℤ_}
-use Rattle·exact·specs.specs.Nearest.{nearest, nearestℕ}
-use Rattle·exact·proofs.proofs.Linear.{Difference, unknowns, linear, orders, one_sided, eq_by, le_of, lt_of}
-use Rattle·exact·proofs.proofs.Bound.{abs_add, abs_mul}
-use Rattle·exact·proofs.proofs.Order.{from_size}
+use lib.IntN.{ℤ, pos, negsuc, neg_ℤ, nat_abs, ◌+ℤ◌, ◌-ℤ◌, ◌*ℤ◌, neg_ℤ-neg_ℤ}
+use lib.Signed.{quot_z, rem_z, ◌≤ℤ◌, ◌<ℤ◌}
+use Rattle.exact.specs.Nearest.{nearest, nearestℕ}
+use Rattle.exact.proofs.Linear.{Difference, unknowns, linear, orders, one_sided, eq_by, le_of, lt_of}
+use Rattle.exact.proofs.Bound.{abs_add, abs_mul}
+use Rattle.exact.proofs.Order.{from_size}
 
 -- ---- of naturals
 module _ (n d : ℕ) (h : 0 < d) where
@@ -45,98 +45,98 @@ none : (d : ℕ) → 0 < d → nearestℕ 0 d ≡ 0
 none d h = downward 0 d (omega (arith, zero-mod d)) ∙ zero-div d
 
 -- ---- the three laws
-pub nearest_error : (z d : ℤ) → pos 0 <ℤ d → 2 * natAbs (d *ℤ nearest z d -ℤ z) ≤ natAbs d
+pub nearest_error : (z d : ℤ) → pos 0 <ℤ d → 2 * nat_abs (d *ℤ nearest z d -ℤ z) ≤ nat_abs d
 unfolding nearest Near
-nearest_error (pos n) (pos d) h = within (nearestℕ n d) (nearℕ n d (ltb→lt 0 d (h .lt)))
+nearest_error (pos n) (pos d) h = within (nearestℕ n d) (nearℕ n d (ltb→lt 0 d h.lt))
   where
-    within : (k : ℕ) → Near n d (ltb→lt 0 d (h .lt)) k → 2 * natAbs (pos d *ℤ pos k -ℤ pos n) ≤ d
+    within : (k : ℕ) → Near n d (ltb→lt 0 d h.lt) k → 2 * nat_abs (pos d *ℤ pos k -ℤ pos n) ≤ d
     within k a = let s : Difference (pos (d * k) -ℤ pos n) = search linear in omega (arith, one_sided)
-nearest_error (negsuc n) (pos d) h = within (nearestℕ (suc n) d) (nearℕ (suc n) d (ltb→lt 0 d (h .lt)))
+nearest_error (negsuc n) (pos d) h = within (nearestℕ (suc n) d) (nearℕ (suc n) d (ltb→lt 0 d h.lt))
   where
-    within : (k : ℕ) → Near (suc n) d (ltb→lt 0 d (h .lt)) k → 2 * natAbs (pos d *ℤ negℤ (pos k) -ℤ negsuc n) ≤ d
-    within k a = let s : Difference (pos d *ℤ negℤ (pos k) -ℤ negsuc n) = search linear in omega (arith, one_sided)
-nearest_error z (negsuc d) h = absurd (h .lt)
+    within : (k : ℕ) → Near (suc n) d (ltb→lt 0 d h.lt) k → 2 * nat_abs (pos d *ℤ neg_ℤ (pos k) -ℤ negsuc n) ≤ d
+    within k a = let s : Difference (pos d *ℤ neg_ℤ (pos k) -ℤ negsuc n) = search linear in omega (arith, one_sided)
+nearest_error z (negsuc d) h = absurd h.lt
 
-pub nearest_odd : (z d : ℤ) → pos 0 <ℤ d → nearest (negℤ z) d ≡ negℤ (nearest z d)
+pub nearest_odd : (z d : ℤ) → pos 0 <ℤ d → nearest (neg_ℤ z) d ≡ neg_ℤ (nearest z d)
 unfolding nearest
-nearest_odd (pos zero) (pos d) h = ap pos (none d (ltb→lt 0 d (h .lt))) ∙ sym (ap (λ (n : ℕ). negℤ (pos n)) (none d (ltb→lt 0 d (h .lt))))
+nearest_odd (pos zero) (pos d) h = ap pos (none d (ltb→lt 0 d h.lt)) ∙ sym (ap (λ (n : ℕ). neg_ℤ (pos n)) (none d (ltb→lt 0 d h.lt)))
 nearest_odd (pos (suc n)) d h = refl
-nearest_odd (negsuc n) d h = sym (negℤ-negℤ (pos (nearestℕ (suc n) (natAbs d))))
-nearest_odd (pos zero) (negsuc d) h = absurd (h .lt)
+nearest_odd (negsuc n) d h = sym (neg_ℤ-neg_ℤ (pos (nearestℕ (suc n) (nat_abs d))))
+nearest_odd (pos zero) (negsuc d) h = absurd h.lt
 
 multipleℕ : (k d : ℕ) → 0 < d → nearestℕ (d * k) d ≡ k
-multipleℕ k d h = downward (d * k) d (omega (arith, mul-mod-right d k)) ∙ mul-div-cancel-left k h
+multipleℕ k d h = downward (d * k) d (omega (arith, mul-mod_right d k)) ∙ mul-div_cancel_left k h
 
 pub nearest_multiple : (k d : ℤ) → pos 0 <ℤ d → nearest (d *ℤ k) d ≡ k
 unfolding nearest
-nearest_multiple (pos k) (pos d) h = ap pos (multipleℕ k d (ltb→lt 0 d (h .lt)))
+nearest_multiple (pos k) (pos d) h = ap pos (multipleℕ k d (ltb→lt 0 d h.lt))
 nearest_multiple (negsuc k) (pos d) h =
-    nearest_odd (pos (d * suc k)) (pos d) h ∙ ap (λ (n : ℕ). negℤ (pos n)) (multipleℕ (suc k) d (ltb→lt 0 d (h .lt)))
-nearest_multiple k (negsuc d) h = absurd (h .lt)
+    nearest_odd (pos (d * suc k)) (pos d) h ∙ ap (λ (n : ℕ). neg_ℤ (pos n)) (multipleℕ (suc k) d (ltb→lt 0 d h.lt))
+nearest_multiple k (negsuc d) h = absurd h.lt
 
 -- a bound of the number bounds what it rounds to: `nearest_size z d h` goes into omega's list
-pub nearest_size : (z d : ℤ) → pos 0 <ℤ d → 2 * (natAbs d * natAbs (nearest z d)) ≤ 2 * natAbs z + natAbs d
+pub nearest_size : (z d : ℤ) → pos 0 <ℤ d → 2 * (nat_abs d * nat_abs (nearest z d)) ≤ 2 * nat_abs z + nat_abs d
 nearest_size z d h = scaled (nearest z d) (nearest_error z d h)
   where
     regroup : (x y : ℤ) → x ≡ (x -ℤ y) +ℤ y
     regroup x y = let v = unknowns (x ∷ y ∷ []) in eq_by (search linear) (search linear) (omega arith)
 
-    scaled : (k : ℤ) → 2 * natAbs (d *ℤ k -ℤ z) ≤ natAbs d → 2 * (natAbs d * natAbs k) ≤ 2 * natAbs z + natAbs d
-    scaled k e = omega (arith, abs_mul d k, abs_add (d *ℤ k -ℤ z) z, ap natAbs (regroup (d *ℤ k) z))
+    scaled : (k : ℤ) → 2 * nat_abs (d *ℤ k -ℤ z) ≤ nat_abs d → 2 * (nat_abs d * nat_abs k) ≤ 2 * nat_abs z + nat_abs d
+    scaled k e = omega (arith, abs_mul d k, abs_add (d *ℤ k -ℤ z) z, ap nat_abs (regroup (d *ℤ k) z))
 
 -- a rounded quotient is at most one larger than the number
-pub nearest_smaller : (z d : ℤ) → pos 0 <ℤ d → natAbs (nearest z d) ≤ natAbs z + 1
-nearest_smaller z d h = by_order (decLe (natAbs (nearest z d)) (natAbs z + 1))
+pub nearest_smaller : (z d : ℤ) → pos 0 <ℤ d → nat_abs (nearest z d) ≤ nat_abs z + 1
+nearest_smaller z d h = by_order (dec_le (nat_abs (nearest z d)) (nat_abs z + 1))
   where
     -- otherwise d times it would be beyond z by more than half of d
     beyond : (z d k : ℕ) → 1 ≤ d → z + 2 ≤ k → 2 * (d * k) ≤ 2 * z + d → ⊥
-    beyond z d k l m e = omega (arith, mul-le-mul-left d m, mul-le-mul-right z l)
+    beyond z d k l m e = omega (arith, mul-le-mul_left d m, mul-le-mul_right z l)
 
-    by_order : Dec (natAbs (nearest z d) ≤ natAbs z + 1) → natAbs (nearest z d) ≤ natAbs z + 1
+    by_order : Dec (nat_abs (nearest z d) ≤ nat_abs z + 1) → nat_abs (nearest z d) ≤ nat_abs z + 1
     by_order (yes l) = l
-    by_order (no l) = absurd (beyond (natAbs z) (natAbs d) (natAbs (nearest z d)) (from_size d h) (omega arith) (nearest_size z d h))
+    by_order (no l) = absurd (beyond (nat_abs z) (nat_abs d) (nat_abs (nearest z d)) (from_size d h) (omega arith) (nearest_size z d h))
 
 -- ---- which neighbour, by the remainder of the machine's division: for the code of `nearest`
 below_zero : {n : ℕ} → pos n <ℤ pos 0 → ⊥
 below_zero h = omega (arith, orders)
 
 -- the test `d + r <= -r` at a remainder r below 0, and `d - r <= r` at any other
-half_or_more : (d r : ℕ) → (pos d +ℤ negℤ (pos r)) ≤ℤ (pos 0 -ℤ negℤ (pos r)) → d ≤ 2 * r
+half_or_more : (d r : ℕ) → (pos d +ℤ neg_ℤ (pos r)) ≤ℤ (pos 0 -ℤ neg_ℤ (pos r)) → d ≤ 2 * r
 half_or_more d r h = omega (arith, le_of h (search linear) (search linear))
 
-less_than_half : (d r : ℕ) → (pos 0 -ℤ negℤ (pos r)) <ℤ (pos d +ℤ negℤ (pos r)) → 2 * r < d
+less_than_half : (d r : ℕ) → (pos 0 -ℤ neg_ℤ (pos r)) <ℤ (pos d +ℤ neg_ℤ (pos r)) → 2 * r < d
 less_than_half d r h = omega (arith, lt_of h (search linear) (search linear))
 
-pub nearest_below : (z d : ℤ) → pos 0 <ℤ d → remZ z d <ℤ pos 0 → (d +ℤ remZ z d) ≤ℤ (pos 0 -ℤ remZ z d) → nearest z d ≡ quotZ z d -ℤ pos 1
+pub nearest_below : (z d : ℤ) → pos 0 <ℤ d → rem_z z d <ℤ pos 0 → (d +ℤ rem_z z d) ≤ℤ (pos 0 -ℤ rem_z z d) → nearest z d ≡ quot_z z d -ℤ pos 1
 unfolding nearest
 nearest_below (pos n) (pos d) h k t = absurd (below_zero k)
 nearest_below (negsuc n) (pos d) h k t =
-    ap (λ (m : ℕ). negℤ (pos m)) (upward (suc n) d (half_or_more d (suc n % d) t)) ∙ one_less (suc n / d)
+    ap (λ (m : ℕ). neg_ℤ (pos m)) (upward (suc n) d (half_or_more d (suc n % d) t)) ∙ one_less (suc n / d)
   where
-    one_less : (q : ℕ) → negℤ (pos (q + 1)) ≡ negℤ (pos q) -ℤ pos 1
+    one_less : (q : ℕ) → neg_ℤ (pos (q + 1)) ≡ neg_ℤ (pos q) -ℤ pos 1
     one_less q = eq_by (search linear) (search linear) (omega arith)
-nearest_below z (negsuc d) h k t = absurd (h .lt)
+nearest_below z (negsuc d) h k t = absurd h.lt
 
-pub nearest_above : (z d : ℤ) → pos 0 <ℤ d → pos 0 ≤ℤ remZ z d → (d -ℤ remZ z d) ≤ℤ remZ z d → nearest z d ≡ quotZ z d +ℤ pos 1
+pub nearest_above : (z d : ℤ) → pos 0 <ℤ d → pos 0 ≤ℤ rem_z z d → (d -ℤ rem_z z d) ≤ℤ rem_z z d → nearest z d ≡ quot_z z d +ℤ pos 1
 unfolding nearest
 nearest_above (pos n) (pos d) h k t = ap pos (upward n d (omega (arith, le_of t (search linear) (search linear))))
 nearest_above (negsuc n) (pos d) h k t = absurd (no_half (suc n % d) t)
   where
-    no_half : (r : ℕ) → (pos d -ℤ negℤ (pos r)) ≤ℤ negℤ (pos r) → ⊥
-    no_half r t = omega (arith, ltb→lt 0 d (h .lt), le_of t (search linear) (search linear))
-nearest_above z (negsuc d) h k t = absurd (h .lt)
+    no_half : (r : ℕ) → (pos d -ℤ neg_ℤ (pos r)) ≤ℤ neg_ℤ (pos r) → ⊥
+    no_half r t = omega (arith, ltb→lt 0 d h.lt, le_of t (search linear) (search linear))
+nearest_above z (negsuc d) h k t = absurd h.lt
 
-pub nearest_kept_below : (z d : ℤ) → pos 0 <ℤ d → remZ z d <ℤ pos 0 → (pos 0 -ℤ remZ z d) <ℤ (d +ℤ remZ z d) → nearest z d ≡ quotZ z d
+pub nearest_kept_below : (z d : ℤ) → pos 0 <ℤ d → rem_z z d <ℤ pos 0 → (pos 0 -ℤ rem_z z d) <ℤ (d +ℤ rem_z z d) → nearest z d ≡ quot_z z d
 unfolding nearest
 nearest_kept_below (pos n) (pos d) h k t = absurd (below_zero k)
-nearest_kept_below (negsuc n) (pos d) h k t = ap (λ (m : ℕ). negℤ (pos m)) (downward (suc n) d (less_than_half d (suc n % d) t))
-nearest_kept_below z (negsuc d) h k t = absurd (h .lt)
+nearest_kept_below (negsuc n) (pos d) h k t = ap (λ (m : ℕ). neg_ℤ (pos m)) (downward (suc n) d (less_than_half d (suc n % d) t))
+nearest_kept_below z (negsuc d) h k t = absurd h.lt
 
-pub nearest_kept_above : (z d : ℤ) → pos 0 <ℤ d → pos 0 ≤ℤ remZ z d → remZ z d <ℤ (d -ℤ remZ z d) → nearest z d ≡ quotZ z d
+pub nearest_kept_above : (z d : ℤ) → pos 0 <ℤ d → pos 0 ≤ℤ rem_z z d → rem_z z d <ℤ (d -ℤ rem_z z d) → nearest z d ≡ quot_z z d
 unfolding nearest
 nearest_kept_above (pos n) (pos d) h k t = ap pos (downward n d (omega (arith, lt_of t (search linear) (search linear))))
-nearest_kept_above (negsuc n) (pos d) h k t = ap (λ (m : ℕ). negℤ (pos m)) (downward (suc n) d (none_left (suc n % d) k))
+nearest_kept_above (negsuc n) (pos d) h k t = ap (λ (m : ℕ). neg_ℤ (pos m)) (downward (suc n) d (none_left (suc n % d) k))
   where
-    none_left : (r : ℕ) → pos 0 ≤ℤ negℤ (pos r) → 2 * r < d
-    none_left r k = omega (arith, ltb→lt 0 d (h .lt), le_of k (search linear) (search linear))
-nearest_kept_above z (negsuc d) h k t = absurd (h .lt)
+    none_left : (r : ℕ) → pos 0 ≤ℤ neg_ℤ (pos r) → 2 * r < d
+    none_left r k = omega (arith, ltb→lt 0 d h.lt, le_of k (search linear) (search linear))
+nearest_kept_above z (negsuc d) h k t = absurd h.lt

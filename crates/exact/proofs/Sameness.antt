@@ -2,15 +2,15 @@
 --   same_yes, same_no       it passes for equal numbers, and fails for unequal ones; same_true: where it passes, they are equal
 --   bits_same, bits_other   what the machine's `==` on their bits told
 --   bits_test               that `==` is the same test
-use mathlib.Core.Path.{_≡_, refl, sym, ap, subst}
+use mathlib.Core.Path.{◌≡◌, refl, sym, ap, subst}
 use mathlib.Core.Bool.{Bool, true, false}
 use borrow.Author.Tests.{eq-eqb, eqb-true, eqb-false}
 use lib.Dec.{T, eqb}
 use lib.IntN.{ℤ, pos, negsuc}
 use mir.Syntax.{w64}
-use mir.Val.{SFits, ofZ}
-use Rattle·exact·specs.specs.Same.{same}
-use Rattle·exact·proofs.proofs.Bound.{bits_equal}
+use mir.Val.{SFits, of_z}
+use Rattle.exact.specs.Same.{same}
+use Rattle.exact.proofs.Bound.{bits_equal}
 
 same_itself : (z : ℤ) → same z z ≡ true
 unfolding same
@@ -35,15 +35,15 @@ same_no a b n = by_test (same a b) refl
     by_test false e = refl
 
 -- ---- the machine compares bits
-pub bits_same : {a b : ℤ} → SFits w64 a → SFits w64 b → ofZ w64 a ≡ ofZ w64 b → same a b ≡ true
+pub bits_same : {a b : ℤ} → SFits w64 a → SFits w64 b → of_z w64 a ≡ of_z w64 b → same a b ≡ true
 bits_same f g e = same_yes (bits_equal f g e)
 
-pub bits_other : (a b : ℤ) → (ofZ w64 a ≡ ofZ w64 b → ⊥) → same a b ≡ false
-bits_other a b n = same_no a b (λ e. n (ap (ofZ w64) e))
+pub bits_other : (a b : ℤ) → (of_z w64 a ≡ of_z w64 b → ⊥) → same a b ≡ false
+bits_other a b n = same_no a b (λ e. n (ap (of_z w64) e))
 
-pub bits_test : {a b : ℤ} → SFits w64 a → SFits w64 b → eqb (ofZ w64 a) (ofZ w64 b) ≡ same a b
-bits_test {a} {b} f g = by_test (eqb (ofZ w64 a) (ofZ w64 b)) refl
+pub bits_test : {a b : ℤ} → SFits w64 a → SFits w64 b → eqb (of_z w64 a) (of_z w64 b) ≡ same a b
+bits_test {a} {b} f g = by_test (eqb (of_z w64 a) (of_z w64 b)) refl
   where
-    by_test : (t : Bool) → eqb (ofZ w64 a) (ofZ w64 b) ≡ t → t ≡ same a b
-    by_test true e = sym (bits_same f g (eqb-true (ofZ w64 a) (ofZ w64 b) e))
-    by_test false e = sym (bits_other a b (eqb-false (ofZ w64 a) (ofZ w64 b) e))
+    by_test : (t : Bool) → eqb (of_z w64 a) (of_z w64 b) ≡ t → t ≡ same a b
+    by_test true e = sym (bits_same f g (eqb-true (of_z w64 a) (of_z w64 b) e))
+    by_test false e = sym (bits_other a b (eqb-false (of_z w64 a) (of_z w64 b) e))

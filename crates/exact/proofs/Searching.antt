@@ -1,6 +1,6 @@
 -- The laws of `first`, for a loop that goes through the numbers from 0 up and stops where a test holds. Assumes nothing.
 --   first_at            it is the number that passes the test after all before it have failed
---   first_none          n where all fail; some_at, some_none the same of `some-below`
+--   first_none          n where all fail; some_at, some_none the same of `some_below`
 --   first_before        whatever lies before it fails; all_failed: where none passes, all fail
 --   first_least         no number that passes the test is below it
 --   first_ext           of tests that agree below n; first_until: of tests that agree as long as all have failed
@@ -10,19 +10,19 @@
 --   Failed, failed_none, failed_more       the loop's invariant: all below i fail
 --   not_both            a test does not both hold and fail
 --   neither, either     where one test or the other does not hold, neither does; where the second holds, one or the other does
-use mathlib.Core.Path.{_≡_, refl, sym, _∙_, ap, subst}
-use mathlib.Core.Bool.{Bool, true, false, cond, _||_, _&&_}
-use Prim.Native.Nat.{ℕ, zero, suc, _+_, _<_, _≤_}
+use mathlib.Core.Path.{◌≡◌, refl, sym, ◌∙◌, ap, subst}
+use mathlib.Core.Bool.{Bool, true, false, cond, ◌||◌, ◌&&◌}
+use Prim.Native.Nat.{ℕ, zero, suc, ◌+◌, ◌<◌, ◌≤◌}
 use native.Mathlib.Omega.{arith}
-use native.Mathlib.Decide.{decLe, decLt}
+use native.Mathlib.Decide.{dec_le, dec_lt}
 use borrow.Author.Tests.{lt-ltb, le-ltb, le-leb, lt-leb, ltb-false}
-use borrow.Author.Count.{below-more}
+use borrow.Author.Count.{below_more}
 use lib.Dec.{T, leb}
-use Rattle·exact·specs.specs.First.{first, some-below}
+use Rattle.exact.specs.First.{first, some_below}
 
 -- a test does not both hold and fail
 pub not_both : {A : Type 0} → true ≡ false → A
-not_both e = let z : _≡_ {A = ℕ} 0 1 = cc in absurd (omega arith)
+not_both e = let z : ◌≡◌ {A = ℕ} 0 1 = cc in absurd (omega arith)
 
 pub neither : (a b : Bool) → (a || b) ≡ false → (a ≡ false) × (b ≡ false)
 neither true b h = not_both h
@@ -40,7 +40,7 @@ pub failed_none : (p : ℕ → Bool) → Failed p 0
 failed_none p h l = absurd (omega arith)
 
 pub failed_more : (p : ℕ → Bool) (i : ℕ) → Failed p i → p i ≡ false → Failed p (i + 1)
-failed_more p i f e = below-more (λ h. p h ≡ false) i f e
+failed_more p i f e = below_more (λ h. p h ≡ false) i f e
 
 pub first_at : (n : ℕ) (p : ℕ → Bool) (i : ℕ) → i < n → Failed p i → p i ≡ true → first n p ≡ i
 unfolding first
@@ -53,10 +53,10 @@ unfolding first
 first_none zero p f = refl
 first_none (suc n) p f = rw (f 0 (omega arith)) (ap suc (first_none n (λ h. p (suc h)) (λ h k. f (suc h) (omega arith))))
 
-pub some_at : (n : ℕ) (p : ℕ → Bool) (i : ℕ) → i < n → Failed p i → p i ≡ true → some-below n p ≡ true
+pub some_at : (n : ℕ) (p : ℕ → Bool) (i : ℕ) → i < n → Failed p i → p i ≡ true → some_below n p ≡ true
 some_at n p i l f e = lt-ltb (first n p) n (rw (first_at n p i l f e) l)
 
-pub some_none : (n : ℕ) (p : ℕ → Bool) → Failed p n → some-below n p ≡ false
+pub some_none : (n : ℕ) (p : ℕ → Bool) → Failed p n → some_below n p ≡ false
 some_none n p f = le-ltb (first n p) n (omega (arith, first_none n p f))
 
 pub first_before : (n : ℕ) (p : ℕ → Bool) → Failed p (first n p)
@@ -70,14 +70,14 @@ first_before (suc n) p h l = by_test (p 0) refl (first_before n (λ i. p (suc i)
     by_test false e r (suc h) l = r h (omega arith)
 
 pub first_least : (n : ℕ) (p : ℕ → Bool) (i : ℕ) → p i ≡ true → first n p ≤ i
-first_least n p i e = by_order (decLt i (first n p))
+first_least n p i e = by_order (dec_lt i (first n p))
   where
     by_order : Dec (i < first n p) → first n p ≤ i
     by_order (yes l) = absurd (subst T (sym e ∙ first_before n p i l) tt)
     by_order (no l) = omega arith
 
 -- where no number below n passes, all fail
-pub all_failed : (n : ℕ) (p : ℕ → Bool) → some-below n p ≡ false → Failed p n
+pub all_failed : (n : ℕ) (p : ℕ → Bool) → some_below n p ≡ false → Failed p n
 all_failed n p e h l = first_before n p h (omega (arith, ltb-false (first n p) n e))
 
 pub first_ext : (n : ℕ) (p r : ℕ → Bool) → ((i : ℕ) → i < n → p i ≡ r i) → first n p ≡ first n r
@@ -94,7 +94,7 @@ pub from_test : (j k : ℕ) (p : ℕ → Bool) → j ≤ k → (leb j k && p k) 
 from_test j k p l = rw (le-leb j k l)
 
 pub from_ext : (n j : ℕ) (p r : ℕ → Bool) → ((k : ℕ) → j ≤ k → k < n → p k ≡ r k) → first n (λ k. leb j k && p k) ≡ first n (λ k. leb j k && r k)
-from_ext n j p r e = first_ext n (λ k. leb j k && p k) (λ k. leb j k && r k) (λ k l. by_order k l (decLe j k))
+from_ext n j p r e = first_ext n (λ k. leb j k && p k) (λ k. leb j k && r k) (λ k l. by_order k l (dec_le j k))
   where
     under : (k : ℕ) → ¬ (j ≤ k) → k < j
     under k h = omega arith
@@ -104,7 +104,7 @@ from_ext n j p r e = first_ext n (λ k. leb j k && p k) (λ k. leb j k && r k) (
     by_order k l (no h) = from_failed j p k (under k h) ∙ sym (from_failed j r k (under k h))
 
 -- where none passes, none from j on does
-pub from_none : (n j : ℕ) (p : ℕ → Bool) → some-below n (λ k. leb j k && p k) ≡ false → (k : ℕ) → j ≤ k → k < n → p k ≡ false
+pub from_none : (n j : ℕ) (p : ℕ → Bool) → some_below n (λ k. leb j k && p k) ≡ false → (k : ℕ) → j ≤ k → k < n → p k ≡ false
 from_none n j p e k h l = sym (from_test j k p h) ∙ all_failed n (λ k. leb j k && p k) e k l
 
 -- ---- tests that agree as long as all have failed

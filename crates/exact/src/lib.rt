@@ -1,18 +1,16 @@
 // Whole numbers, exactly: the steps on 64-bit numbers that every layer shares. Each says its value in ℤ; none can overflow.
 #![tactic(auto)]
 
-ghost use mathlib.Core.Path.{_≡_};
-ghost use lib.IntN.{ℤ, pos, nat_abs};
-ghost use lib.Signed.{_<ℤ_};
-ghost use Rattle·exact·specs.specs.Nearest.{nearest};
-ghost use Rattle·exact·specs.specs.Circle.{floor, modulo};
-ghost use Rattle·exact·specs.specs.Outside.{outside};
+ghost use Rattle.std.specs.Prelude.{◌≡◌, ℤ, pos, nat_abs, ◌<ℤ◌};
+ghost use Rattle.exact.specs.Nearest.{nearest};
+ghost use Rattle.exact.specs.Circle.{floor, modulo};
+ghost use Rattle.exact.specs.Outside.{outside};
 
 // The nearest whole number to n / d, halves away from zero.
 // The remainder is compared with what it lacks to a whole d, so nothing is doubled and every numerator is taken.
 pub fn nearest(n: i64, d: i64) -> i64
-    requires { ⌜ pos 0 <ℤ d ⌝ }
-    ensures { λ r. ⌜ r ≡ nearest n d ⌝ }
+    requires { pos 0 <ℤ d }
+    ensures { result ≡ nearest n d }
 {
     let q = n / d;
     let r = n % d;
@@ -25,8 +23,8 @@ pub fn nearest(n: i64, d: i64) -> i64
 
 // The largest whole number that is not above n / d.
 pub fn floor(n: i64, d: i64) -> i64
-    requires { ⌜ pos 0 <ℤ d ⌝ }
-    ensures { λ r. ⌜ r ≡ floor n d ⌝ }
+    requires { pos 0 <ℤ d }
+    ensures { result ≡ floor n d }
 {
     let q = n / d;
     if n % d < 0 { q - 1 } else { q }
@@ -34,8 +32,8 @@ pub fn floor(n: i64, d: i64) -> i64
 
 // What is left of z when whole m are taken away: from 0 to m - 1.
 pub fn modulo(z: i64, m: i64) -> i64
-    requires { ⌜ pos 0 <ℤ m ⌝ }
-    ensures { λ r. ⌜ r ≡ modulo z m ⌝ }
+    requires { pos 0 <ℤ m }
+    ensures { result ≡ modulo z m }
 {
     let left = z % m;
     if left < 0 { left + m } else { left }
@@ -43,7 +41,7 @@ pub fn modulo(z: i64, m: i64) -> i64
 
 // The size of z, also of the least 64-bit number, which has no negative of its own.
 pub fn magnitude(z: i64) -> u64
-    ensures { λ r. ⌜ r ≡ nat_abs z ⌝ }
+    ensures { result ≡ nat_abs z }
 {
     if z < 0 {
         let w = -(z + 1);
@@ -55,7 +53,7 @@ pub fn magnitude(z: i64) -> u64
 
 // z is not from low to high.
 pub fn outside(low: i64, high: i64, z: i64) -> bool
-    ensures { λ r. ⌜ r ≡ outside low high z ⌝ }
+    ensures { result ≡ outside low high z }
 {
     if z < low {
         return true;

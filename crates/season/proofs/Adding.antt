@@ -25,7 +25,7 @@ use Rattle.totals.specs.Totals.{largest_at, total, sum_of, report_of}
 use Rattle.totals.specs.Promise.{most_nets}
 use Rattle.totals.specs.Text.{report_text}
 use Rattle.totals.specs.Adding.{sum_text}
-use Rattle.totals.proofs.Totalling.{joined_sum, joined_most, sum_at, report_length, report_at, report_joined}
+use Rattle.totals.proofs.Totalling.{joined_sum, joined_most, sum_at_lem, report_length, report_at, report_joined}
 use Rattle.totals.proofs.ReadingReports.{counts_in, Report, sums_back}
 use Rattle.season.specs.Archive.{STOP, stops, onto, parts_in, parts_of}
 use Rattle.season.specs.Share.{sum_to, share_of, left_share}
@@ -295,5 +295,5 @@ printed_and_added {first} c second l =
     let x = season_report (shares_of first) in let y = season_report (shares_of second) in
     sums_back x y (is_report first) (is_report second)
     (nets_most (get_or x 0 0) (get_or y 0 0) (length (reported first)) (length (reported second)) _ _ (nets_reported first) (nets_reported second) (take_fewer most_nets (shares_of first)) (take_fewer most_nets (shares_of second)) l)
-    (λ i h. omega (arith, sum_at x y i h, joined_most i (get_or x i 0) (get_or y i 0), report_most first i h, report_most second i h))
+    (λ i h. omega (arith, sum_at_lem x y i h, joined_most i (get_or x i 0) (get_or y i 0), report_most first i h, report_most second i h))
     ∙ ap (λ (t : List ℕ). report_text t false) (sym (joined_report c second l).1)

@@ -22,7 +22,7 @@ use Rattle.reply.specs.declared.Refusal.TheVariants.{Nets}
 use Rattle.reply.specs.declared.Reply.TheVariants.{Accepted, Refused}
 use Rattle.totals.specs.Totals.{largest_at, total, sum_of, report_of}
 use Rattle.totals.specs.Promise.{most_nets}
-use Rattle.totals.proofs.Totalling.{joined_sum, joined_most, sum_length, sum_at, sum_none, sum_comm, sum_more, report_at, report_length}
+use Rattle.totals.proofs.Totalling.{joined_sum, joined_most, sum_length, sum_at_lem, sum_none, sum_comm, sum_more, report_at, report_length}
 use Rattle.season.specs.Archive.{parts_of}
 use Rattle.season.specs.Share.{share_of}
 use Rattle.season.specs.Season.{left_shares, shares_in, season_reply, season_report}
@@ -42,7 +42,7 @@ shares_left left = refl
 -- ---- a share at place 0 is one net
 sum_nets : (totals share : List ℕ) → IsShare share → get_or (sum_of totals share) 0 0 ≡ get_or totals 0 0 + 1
 unfolding largest_at
-sum_nets totals share s = sum_at totals share 0 (omega arith) ∙ joined_sum 0 (get_or totals 0 0) (get_or share 0 0) refl ∙ ap (λ (n : ℕ). get_or totals 0 0 + n) s.net
+sum_nets totals share s = sum_at_lem totals share 0 (omega arith) ∙ joined_sum 0 (get_or totals 0 0) (get_or share 0 0) refl ∙ ap (λ (n : ℕ). get_or totals 0 0 + n) s.net
 
 -- ---- totals so far and shares to come
 pub record Leads (shares : List (List ℕ)) (totals : List ℕ) (rest : List (List ℕ)) : Type 0 where
@@ -127,7 +127,7 @@ module _ (before : ℕ) where
       more l = record {
         long = sum_length totals share;
         nets = omega (arith, one);
-        small = λ i h. omega (arith, one, sum_at totals share i h, joined_most i (get_or totals i 0) (get_or share i 0), r.small i h, s.small i);
+        small = λ i h. omega (arith, one, sum_at_lem totals share i h, joined_most i (get_or totals i 0) (get_or share i 0), r.small i h, s.small i);
       }
 
       full : ¬ (get_or totals 0 0 < most_nets) → most_nets ≤ get_or totals 0 0

@@ -55,7 +55,7 @@ use Rattle.totals.specs.Adding.{added_first, joined_at}
 use Rattle.totals.specs.Adding.{faulty, fault_in, well_entered, entered, Stream, cut, after_line, after_lines, none_read, unfinished, answer_of, sum_text}
 use Rattle.totals.specs.declared.adding.Entry.TheVariants.{Numbers}
 use Rattle.totals.specs.declared.adding.Tally.{Tally}
-use Rattle.totals.proofs.Totalling.{joined_sum, joined_none, joined_comm, joined_assoc, sum_length, sum_at, sum_none, sum_comm, sum_more}
+use Rattle.totals.proofs.Totalling.{joined_sum, joined_none, joined_comm, joined_assoc, sum_length, sum_at_lem, sum_none, sum_comm, sum_more}
 use Rattle.totals.proofs.Totalling.{report_at, report_first, report_length, report_joined}
 use Rattle.totals.proofs.Printing.{pair_within}
 use Rattle.totals.proofs.Entering.{other_head, due_head, well_entered_lem}
@@ -235,8 +235,8 @@ due_next d l =
     eqb-true (due_after d) (cond (ltb (suc d) 14) (suc d) 0) (fourteen (λ d. eqb (due_after d) (cond (ltb (suc d) 14) (suc d) 0)) refl d l)
 
 module _ (t : Tally) (x : List ℕ) where
-  abbrev sum_at_lem : ℕ → ℕ
-  sum_at_lem i = joined i (get_or t.sum i 0) (get_or x i 0)
+  abbrev sum_at : ℕ → ℕ
+  sum_at i = joined i (get_or t.sum i 0) (get_or x i 0)
 
   -- what is known once k lines of the report have been read
   record Reading (k : ℕ) (now : Tally) : Type 0 where
@@ -246,7 +246,7 @@ module _ (t : Tally) (x : List ℕ) where
     pub counted : (j : ℕ) → k ≡ suc j → j ≤ 10 → now.counted ≡ counts_in x j
     pub past : now.past ≡ false
     pub fault : now.fault ≡ 0
-    pub sum : Filled 0 sum_at_lem 0 (places_in k) t.sum now.sum
+    pub sum : Filled 0 sum_at 0 (places_in k) t.sum now.sum
 
   module _ (long : length t.sum ≡ 16) (adds : Addable t.sum x) where
     -- the numbers are small
@@ -266,7 +266,7 @@ module _ (t : Tally) (x : List ℕ) where
         rw (
           le-ltb most_total (get_or t.sum i 0) (omega (arith, adds.fits i l, joined_least i (get_or t.sum i 0) (get_or x i 0))),
           le-ltb most_total (get_or x i 0) (here_small i l),
-          le-ltb most_total (sum_at_lem i) (adds.fits i l),
+          le-ltb most_total (sum_at i) (adds.fits i l),
         )
 
     -- one line more
@@ -315,20 +315,20 @@ module _ (t : Tally) (x : List ℕ) where
           by_pair true e = rw (still (place_of k + 1) (omega arith), none_large (place_of k + 1) (pair_within k e))
           by_pair false e = refl
 
-      filled_on : Filled 0 sum_at_lem 0 (places_in (suc k)) t.sum (added now.sum k a b)
+      filled_on : Filled 0 sum_at 0 (places_in (suc k)) t.sum (added now.sum k a b)
       unfolding added
       filled_on = rw (places_next k l) (by_pair (pair_on k) refl)
         where
-          one : Filled 0 sum_at_lem 0 (place_of k + 1) t.sum (added_first now.sum k a)
+          one : Filled 0 sum_at 0 (place_of k + 1) t.sum (added_first now.sum k a)
           one =
-              filled_more 0 sum_at_lem 0 (place_of k) t.sum now.sum (joined_at now.sum (place_of k) a) (omega (arith, place_within k l, long))
+              filled_more 0 sum_at 0 (place_of k) t.sum now.sum (joined_at now.sum (place_of k) a) (omega (arith, place_within k l, long))
               (rw (places_here k l) at r.sum) (ap (λ (n : ℕ). joined (place_of k) n a) (still (place_of k) (omega arith)))
 
           by_pair : (q : Bool) → pair_on k ≡ q
-              → Filled 0 sum_at_lem 0 (cond q (place_of k + 1 + 1) (place_of k + 1)) t.sum
+              → Filled 0 sum_at 0 (cond q (place_of k + 1 + 1) (place_of k + 1)) t.sum
               (cond q (set (added_first now.sum k a) (place_of k + 1) (joined_at now.sum (place_of k + 1) (cond q (get_or x (place_of k + 1) 0) 0))) (added_first now.sum k a))
           by_pair true e =
-              filled_more 0 sum_at_lem 0 (place_of k + 1) t.sum (added_first now.sum k a) (joined_at now.sum (place_of k + 1) (get_or x (place_of k + 1) 0))
+              filled_more 0 sum_at 0 (place_of k + 1) t.sum (added_first now.sum k a) (joined_at now.sum (place_of k + 1) (get_or x (place_of k + 1) 0))
               (omega (arith, pair_within k e, long)) one
               (ap (λ (n : ℕ). joined (place_of k + 1) n (get_or x (place_of k + 1) 0)) (still (place_of k + 1) (omega arith)))
           by_pair false e = one
@@ -380,7 +380,7 @@ module _ (t : Tally) (x : List ℕ) where
         counted = λ j e m. absurd (omega arith);
         past = p;
         fault = f;
-        sum = filled_none 0 sum_at_lem 0 t.sum;
+        sum = filled_none 0 sum_at 0 t.sum;
       }
       reading (suc k) l = reading_next k (omega arith) (lines_read_lem k) (reading k (omega arith))
 
@@ -439,7 +439,7 @@ module _ (t : Tally) (x : List ℕ) (start : AtStart t) (adds : Addable t.sum x)
   unfolding places_in sum_of
   fourteen_added =
       let r = reading t x start.sixteen adds start.due start.past start.fault 14 (omega arith) in
-      let s : fourteen_read.sum ≡ sum_of t.sum x = filled_all 0 (sum_at_lem t x) 16 t.sum fourteen_read.sum start.sixteen r.sum in
+      let s : fourteen_read.sum ≡ sum_of t.sum x = filled_all 0 (sum_at t x) 16 t.sum fourteen_read.sum start.sixteen r.sum in
       record {
         start = record { due = r.due; past = r.past; fault = r.fault; sixteen = ap length s ∙ sum_length t.sum x };
         line = r.line;
@@ -499,8 +499,8 @@ room_first s x xs r m = record {
 room_rest : (s x : List ℕ) (xs : List (List ℕ)) → Room s (x ∷ xs) → Room (sum_of s x) xs
 unfolding total largest_at
 room_rest s x xs m = record {
-  few = omega (arith, m.few, sum_at s x 0 (omega arith), joined_sum 0 (get_or s 0 0) (get_or x 0 0) refl, joined_sum 0 (get_or x 0 0) (total 0 xs) refl);
-  fits = λ i l. rw (sum_at s x i l, joined_assoc i (get_or s i 0) (get_or x i 0) (total i xs)) (m.fits i l);
+  few = omega (arith, m.few, sum_at_lem s x 0 (omega arith), joined_sum 0 (get_or s 0 0) (get_or x 0 0) refl, joined_sum 0 (get_or x 0 0) (total 0 xs) refl);
+  fits = λ i l. rw (sum_at_lem s x i l, joined_assoc i (get_or s i 0) (get_or x i 0) (total i xs)) (m.fits i l);
 }
 
 pub reports_read : (xs : List (List ℕ)) (t : Tally) → AtStart t → Reports xs → Room t.sum xs → Summed t xs (after_lines t (lines_in (text_of xs)))
@@ -569,7 +569,7 @@ pub sums_back : (x y : List ℕ) → Report x → Report y → get_or x 0 0 + ge
 unfolding text_of Reports largest_at
 sums_back x y r q few fits =
     let same : report_of (x ∷ y ∷ []) ≡ sum_of x y = report_first x (y ∷ []) ∙ ap (sum_of x) (report_first y [] ∙ sum_none y q.sixteen) in
-    let nets : get_or (sum_of x y) 0 0 ≤ most_nets = omega (arith, sum_at x y 0 (omega arith), joined_sum 0 (get_or x 0 0) (get_or y 0 0) refl) in
+    let nets : get_or (sum_of x y) 0 0 ≤ most_nets = omega (arith, sum_at_lem x y 0 (omega arith), joined_sum 0 (get_or x 0 0) (get_or y 0 0) refl) in
     ap (λ (text : List ℕ). sum_text (report_text x false ++ text)) (sym (append-nil (report_text y false)))
     ∙ all_sums_back (x ∷ y ∷ []) (omega arith) (r, (q, tt)) (rw same nets) (rw same fits)
     ∙ ap (λ (z : List ℕ). report_text z false) same
@@ -580,7 +580,7 @@ unfolding counts_in largest_at
 counts_sum x y zero l = refl
 counts_sum x y (suc k) l =
     let sums : largest_at (suc k) ≡ false = rw (ne_eqb (suc k) 12 (λ e. omega arith), ne_eqb (suc k) 14 (λ e. omega arith)) in
-    omega (arith, counts_sum x y k (omega arith), sum_at x y (suc k) (omega arith), joined_sum (suc k) (get_or x (suc k) 0) (get_or y (suc k) 0) sums)
+    omega (arith, counts_sum x y k (omega arith), sum_at_lem x y (suc k) (omega arith), joined_sum (suc k) (get_or x (suc k) 0) (get_or y (suc k) 0) sums)
 
 pub sum_report : (x y : List ℕ) → Report x → Report y → Report (sum_of x y)
 unfolding largest_at
@@ -592,7 +592,7 @@ sum_report x y r q = record {
         counts_sum x y 10 (omega arith),
         r.counted,
         q.counted,
-        sum_at x y 0 (omega arith),
+        sum_at_lem x y 0 (omega arith),
         joined_sum 0 (get_or x 0 0) (get_or y 0 0) refl,
       );
 }

@@ -2,7 +2,7 @@
 --   joined_largest, joined_sum                       two numbers of one place: the larger, or their sum
 --   joined_none, joined_comm, joined_assoc           none is 0, and the order of three numbers does not matter
 --   joined_most                                      no more than their sum
---   sum_length, sum_at                               the sum of two reports, place by place
+--   sum_length, sum_at_lem                               the sum of two reports, place by place
 --   sum_none, sum_comm, sum_assoc                    the report of no nets adds nothing, and the order of reports does not matter
 --   report_length, report_at, report_first           a total of the report; the report of a net before others
 --   sum_more                                         a share added to the totals so far, and then the others
@@ -72,9 +72,9 @@ pub sum_length : (x y : List ℕ) → length (sum_of x y) ≡ 16
 unfolding sum_of
 sum_length x y = tabulate_length 16 (λ i. joined i (get_or x i 0) (get_or y i 0))
 
-pub sum_at : (x y : List ℕ) (i : ℕ) → i < 16 → get_or (sum_of x y) i 0 ≡ joined i (get_or x i 0) (get_or y i 0)
+pub sum_at_lem : (x y : List ℕ) (i : ℕ) → i < 16 → get_or (sum_of x y) i 0 ≡ joined i (get_or x i 0) (get_or y i 0)
 unfolding sum_of
-sum_at x y i l = tabulate_at 16 (λ i. joined i (get_or x i 0) (get_or y i 0)) i 0 l
+sum_at_lem x y i l = tabulate_at 16 (λ i. joined i (get_or x i 0) (get_or y i 0)) i 0 l
 
 pub report_at : (shares : List (List ℕ)) (i : ℕ) → i < 16 → get_or (report_of shares) i 0 ≡ total i shares
 unfolding report_of
@@ -94,9 +94,9 @@ pub sum_assoc : (x y z : List ℕ) → sum_of (sum_of x y) z ≡ sum_of x (sum_o
 unfolding sum_of
 sum_assoc x y z =
     tabulate_ext 16 _ _
-    (λ i l. ap (λ (n : ℕ). joined i n (get_or z i 0)) (sum_at x y i l)
+    (λ i l. ap (λ (n : ℕ). joined i n (get_or z i 0)) (sum_at_lem x y i l)
     ∙ joined_assoc i (get_or x i 0) (get_or y i 0) (get_or z i 0)
-    ∙ ap (joined i (get_or x i 0)) (sym (sum_at y z i l)))
+    ∙ ap (joined i (get_or x i 0)) (sym (sum_at_lem y z i l)))
 
 -- ---- the report of shares
 pub report_first : (share : List ℕ) (shares : List (List ℕ)) → report_of (share ∷ shares) ≡ sum_of share (report_of shares)

@@ -1,0 +1,23 @@
+-- `book::lines::put_means` meets its contract. Assumes nothing.
+use mathlib.Core.Path.{ap}
+use native.Mathlib.Omega.{arith}
+use borrow.Author.Rules.{rules}
+use Rattle.text.proofs.Putting.{Come, then, rewrote, come_within}
+use Rattle.page.proofs.Composing.{heading_most}
+use Rattle.book.specs.Listing.{sta_line}
+use Rattle.book.proofs.lines.put_means.Goals as goal
+use Rattle.book.proofs.lines.put_means.Goals.{After-put_heading-next}
+
+-- how far the first line has come
+headed : (c : After-put_heading-next) → Come c.before.before.before.before.args.out.now 0 48 c.put_heading-next.new.0 c.put_heading-next.result
+headed c = come_within 48 (heading_most 83 84 65 _ _) c.put_heading-next.ensures
+
+pub put_objects-requires : goal.put_objects-requires
+put_objects-requires c =
+    let b = c.before.before.before in let s = b.before.before.before.before in
+    (omega (arith, s.requires.0, (headed b).far, (headed b).kept), s.requires.1, s.requires.2)
+
+pub returns : goal.returns
+returns c =
+    let e2 = c.before.before in let e1 = e2.before.before.before.before in let s = e1.before.before.before.before in
+    then (rewrote (ap (sta_line s.args.sightings) e1.before.before.objects_seen-seen.ensures) e1.put_heading-next.ensures) e2.put_objects.ensures

@@ -1,0 +1,39 @@
+-- `book::parts::put` meets its contract. Assumes nothing.
+use mathlib.Core.Path.{sym, ◌∙◌, ap}
+use native.Mathlib.Omega.{arith}
+use borrow.Author.Rules.{rules}
+use Rattle.text.proofs.Putting.{rewrote}
+use Rattle.book.specs.declared.parts.Part.{Part}
+use Rattle.book.specs.Rescue.{room_for, part_of}
+use Rattle.book.proofs.Accepting.{few_lines, line_short}
+use Rattle.book.proofs.Parting.{many_reasons, reasons_small, kept_by_lem, dropped_by_lem}
+use Rattle.book.proofs.parts.put.Goals as goal
+
+pub put_kept-requires : goal.put_kept-requires
+unfolding room_for
+put_kept-requires c =
+    let t = c.before in let s = t.before.before.before.before.before in let file = s.args.file.now in let xs = s.args.reasons.now in let many = many_reasons file xs s.requires.2 in (
+      omega (arith, s.requires.0, ap room_for t.enum_told-1.given.1),
+      omega (arith, many, few_lines file s.requires.1),
+      many,
+      line_short file s.requires.1,
+    )
+
+pub put_dropped-requires : goal.put_dropped-requires
+unfolding room_for
+put_dropped-requires c =
+    let t = c.before in let s = t.before.before.before.before.before in let file = s.args.file.now in let xs = s.args.reasons.now in (
+      omega (arith, s.requires.0, ap room_for t.enum_told-in-Dropped-1.given.1),
+      omega (arith, many_reasons file xs s.requires.2, few_lines file s.requires.1),
+      reasons_small file xs s.requires.2,
+    )
+
+pub returns-in-Kept : goal.returns-in-Kept
+returns-in-Kept c =
+    let p = c.before.before in let t = p.before.before in let s = t.before.before.before.before.before in let file = s.args.file.now in
+    rewrote (kept_by_lem file s.args.reasons.now s.requires.2 ∙ ap (λ (part : Part). part_of part file) (sym t.enum_told-1.given.1)) p.put_kept.ensures
+
+pub returns-in-Dropped : goal.returns-in-Dropped
+returns-in-Dropped c =
+    let p = c.before.before in let t = p.before.before in let s = t.before.before.before.before.before in let file = s.args.file.now in
+    rewrote (dropped_by_lem file s.args.reasons.now s.requires.2 ∙ ap (λ (part : Part). part_of part file) (sym t.enum_told-in-Dropped-1.given.1)) p.put_dropped.ensures

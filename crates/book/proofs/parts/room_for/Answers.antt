@@ -1,0 +1,13 @@
+-- `book::parts::room_for` meets its contract. Assumes nothing.
+use mathlib.Core.Path.{sym, ap}
+use borrow.Author.Rules.{rules}
+use Rattle.book.specs.Rescue.{room_for}
+use Rattle.book.proofs.parts.room_for.Goals as goal
+
+pub returns-in-Kept : goal.returns-in-Kept
+unfolding room_for
+returns-in-Kept c = ap room_for (sym c.enum_told-1.given.1)
+
+pub returns-in-Dropped : goal.returns-in-Dropped
+unfolding room_for
+returns-in-Dropped c = ap room_for (sym c.enum_told-in-Dropped-1.given.1)

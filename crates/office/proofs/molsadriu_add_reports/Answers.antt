@@ -1,0 +1,7 @@
+-- `molsadriu_add_reports` meets its promise. Assumes nothing.
+use Rattle.office.proofs.Telling.{sum_told}
+use borrow.Author.Rules.{rules}
+use Rattle.office.proofs.molsadriu_add_reports.Goals as goal
+
+pub returns : goal.returns
+returns c = sum_told _ _ c.tell.ensures _ _ _ _ c.before.before.before.add_reports-reply.ensures

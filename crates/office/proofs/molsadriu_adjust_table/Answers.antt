@@ -1,0 +1,7 @@
+-- `molsadriu_adjust_table` meets its promise. Assumes nothing.
+use Rattle.office.proofs.Telling.{table_told}
+use borrow.Author.Rules.{rules}
+use Rattle.office.proofs.molsadriu_adjust_table.Goals as goal
+
+pub returns : goal.returns
+returns c = table_told _ _ c.tell.ensures _ _ _ _ _ _ c.before.before.before.before.before.before.before.adjust-reply.ensures

@@ -1,0 +1,7 @@
+-- `molsadriu_dropped_book` meets its promise. Assumes nothing.
+use Rattle.office.proofs.Telling.{part_told}
+use borrow.Author.Rules.{rules}
+use Rattle.office.proofs.molsadriu_dropped_book.Goals as goal
+
+pub returns : goal.returns
+returns c = part_told c.tell_listed.ensures.verdict c.tell_listed.ensures.number _ _ c.before.before.before.before.rescue-listed.ensures

@@ -1,0 +1,14 @@
+-- `molsadriu_line_status` meets its promise: the number of what the library says. Assumes nothing.
+use mathlib.Core.Path.{sym, ◌∙◌, ap}
+use Rattle.office.specs.Statuses.{status_number}
+use borrow.Author.Rules.{rules}
+use Rattle.office.proofs.molsadriu_line_status.Goals as goal
+
+pub returns-in-Whole : goal.returns-in-Whole
+returns-in-Whole c = ap status_number (sym c.enum_told-1.given.1 ∙ c.before.before.line_status-status.ensures)
+
+pub returns-in-NoneLeft : goal.returns-in-NoneLeft
+returns-in-NoneLeft c = ap status_number (sym c.enum_told-in-NoneLeft-1.given.1 ∙ c.before.before.line_status-status.ensures)
+
+pub returns-in-LfMissing : goal.returns-in-LfMissing
+returns-in-LfMissing c = ap status_number (sym c.enum_told-in-LfMissing-1.given.1 ∙ c.before.before.line_status-status.ensures)

@@ -1,0 +1,7 @@
+-- `molsadriu_probable_error` meets its promise. Assumes nothing.
+use Rattle.office.proofs.Telling.{errors_told}
+use borrow.Author.Rules.{rules}
+use Rattle.office.proofs.molsadriu_probable_error.Goals as goal
+
+pub returns : goal.returns
+returns c = errors_told _ _ c.tell.ensures _ _ _ _ _ c.before.probable_error-reply.ensures

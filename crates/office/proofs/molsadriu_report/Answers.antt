@@ -1,0 +1,7 @@
+-- `molsadriu_report` meets its promise. Assumes nothing.
+use Rattle.office.proofs.Telling.{report_told}
+use borrow.Author.Rules.{rules}
+use Rattle.office.proofs.molsadriu_report.Goals as goal
+
+pub returns : goal.returns
+returns c = report_told _ _ c.tell.ensures _ _ _ c.before.before.before.report-reply.ensures

@@ -1,0 +1,7 @@
+-- `molsadriu_season_begin` meets its promise. Assumes nothing.
+use Rattle.office.proofs.Telling.{begun_told}
+use borrow.Author.Rules.{rules}
+use Rattle.office.proofs.molsadriu_season_begin.Goals as goal
+
+pub returns : goal.returns
+returns c = begun_told _ _ c.tell.ensures _ _ _ _ _ c.before.before.before.before.before.begin-reply.ensures

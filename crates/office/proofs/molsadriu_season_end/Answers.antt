@@ -1,0 +1,7 @@
+-- `molsadriu_season_end` meets its promise. Assumes nothing.
+use Rattle.office.proofs.Telling.{ended_told}
+use borrow.Author.Rules.{rules}
+use Rattle.office.proofs.molsadriu_season_end.Goals as goal
+
+pub returns : goal.returns
+returns c = ended_told _ _ c.tell.ensures _ _ _ _ _ c.before.before.before.before.before.end-reply.ensures

@@ -1,0 +1,7 @@
+-- `molsadriu_season_next` meets its promise. Assumes nothing.
+use Rattle.office.proofs.Telling.{next_told}
+use borrow.Author.Rules.{rules}
+use Rattle.office.proofs.molsadriu_season_next.Goals as goal
+
+pub returns : goal.returns
+returns c = next_told _ _ c.tell.ensures _ _ _ _ _ _ _ c.before.before.before.before.before.before.before.next-reply.ensures

@@ -1,0 +1,7 @@
+-- `molsadriu_station_means` meets its promise. Assumes nothing.
+use Rattle.office.proofs.Telling.{means_told}
+use borrow.Author.Rules.{rules}
+use Rattle.office.proofs.molsadriu_station_means.Goals as goal
+
+pub returns : goal.returns
+returns c = means_told _ _ c.tell.ensures _ _ _ _ _ c.before.before.before.means-reply.ensures

@@ -1,0 +1,15 @@
+-- `precision::root::root` meets its contract: e is right in the bits above `bit`, which falls by one a turn. Assumes nothing.
+use mathlib.Core.Path.{◌≡◌, sym, ◌∙◌, ap, subst}
+use Prim.Native.Nat.{ℕ, zero, suc, ◌+◌, ◌-◌, ◌*◌, ◌≤◌, ◌<◌, ◌^◌, ◌%◌}
+use native.Mathlib.Nat.{one-mul}
+use native.Mathlib.Omega.{arith}
+use lib.Pow.{shl_exact}
+use Rattle.exact.proofs.Bound.{mul_le}
+use Rattle.precision.proofs.Rooting.{root_only}
+use Rattle.precision.proofs.root.root.Given as goal
+
+abbrev pub invariant-loop-bit : goal.invariant-loop-bit
+invariant-loop-bit l = (l.bit ≤ 19) × (l.e * l.e * l.c ≤ l.s) × (l.s < (l.e + 2 ^ l.bit) * (l.e + 2 ^ l.bit) * l.c) × (l.e + 2 ^ l.bit ≤ 524288)
+
+abbrev pub decreases-loop-bit : goal.decreases-loop-bit
+decreases-loop-bit l = l.bit

@@ -1,0 +1,8 @@
+-- `season::net::left` meets its contract. Assumes nothing.
+use borrow.Author.Rules.{rules}
+use Rattle.season.specs.Share.{left_share}
+use Rattle.season.proofs.net.left.Goals as goal
+
+pub returns : goal.returns
+unfolding left_share
+returns c = c.under.ensures

@@ -1,0 +1,16 @@
+-- `season::net::most_of` meets its contract. Assumes nothing.
+use mathlib.Core.Path.{◌≡◌, sym, ◌∙◌, ap}
+use mathlib.Core.Logic.{⊎_elim}
+use Prim.Native.Nat.{ℕ, ◌-◌, ◌≤◌}
+use native.Mathlib.Omega.{arith}
+use borrow.Author.Rules.{rules}
+use lib.ListN.{length}
+use Rattle.season.specs.Share.{most_to, size_at}
+use Rattle.season.proofs.Sharing.{most_none, most_larger, most_not}
+use Rattle.season.proofs.net.most_of.Given as goal
+
+abbrev pub invariant-loop-j : goal.invariant-loop-j
+invariant-loop-j l = (l.j ≤ length l.w) × (l.most ≡ most_to l.j (size_at l.letter l.letters l.w))
+
+abbrev pub decreases-loop-j : goal.decreases-loop-j
+decreases-loop-j l = length l.w - l.j

@@ -1,0 +1,7 @@
+-- `season::net::under` meets its contract. Assumes nothing.
+use borrow.Author.Rules.{rules}
+use Rattle.season.proofs.Sharing.{under_is}
+use Rattle.season.proofs.net.under.Goals as goal
+
+pub returns : goal.returns
+returns c = under_is c.args.number c.requires

@@ -1,0 +1,14 @@
+-- `season::stream::keep` meets its contract. Assumes nothing.
+use native.Mathlib.Omega.{arith}
+use borrow.Author.Tests.{lt-ltb, le-ltb}
+use borrow.Author.Rules.{rules}
+use Rattle.season.specs.Stream.{kept_in}
+use Rattle.season.proofs.stream.keep.Goals as goal
+
+pub returns-then-bytes : goal.returns-then-bytes
+unfolding kept_in
+returns-then-bytes c = rw (lt-ltb c.before.args.bytes 65536 (omega arith))
+
+pub returns-else-bytes : goal.returns-else-bytes
+unfolding kept_in
+returns-else-bytes c = rw (le-ltb c.before.args.bytes 65536 (omega arith))

@@ -1,0 +1,20 @@
+-- `season::stream::open_share` meets its contract. Assumes nothing.
+use mathlib.Core.Path.{sym}
+use Prim.Native.Nat.{◌-◌}
+use native.Mathlib.Omega.{arith}
+use borrow.Author.Tests.{lt-ltb, le-ltb}
+use borrow.Author.Rules.{rules}
+use lib.Seq.{length-take-le}
+use Rattle.season.specs.Stream.{open_share}
+use Rattle.season.proofs.stream.open_share.Goals as goal
+
+pub returns-then-bytes : goal.returns-then-bytes
+unfolding open_share
+returns-then-bytes c = rw (lt-ltb 65536 c.before.before.before.args.bytes (omega arith)) c.long.ensures
+
+pub slice_bounds-share-end : goal.slice_bounds-share-end
+slice_bounds-share-end c = let s = c.before.before.before in sym (length-take-le (s.args.bytes - 1) s.args.held.now (omega (arith, s.requires.0)))
+
+pub returns : goal.returns
+unfolding open_share
+returns c = rw (le-ltb 65536 c.before.before.before.before.args.bytes (omega arith)) c.share.ensures

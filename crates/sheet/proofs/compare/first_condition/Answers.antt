@@ -1,0 +1,65 @@
+-- `compare::first_condition` meets its contract. Assumes nothing.
+use mathlib.Core.Path.{◌≡◌, refl, ◌∙◌, ap}
+use mathlib.Core.List.{List}
+use Prim.Native.Nat.{ℕ, ◌≤◌}
+use native.Mathlib.Omega.{arith}
+use borrow.Author.Rules.{rules}
+use lib.IntN.{ℤ, pos}
+use lib.ListN.{length}
+use Rattle.exact.proofs.Filling.{tabulate_at}
+use Rattle.exact.proofs.Searching.{first_found}
+use Rattle.doolittle.specs.Table.{Table, at, table_of}
+use Rattle.adjustment.proofs.Solving.{closing_is, first_open, missed_is}
+use Rattle.sheet.specs.Form.{own_k}
+use Rattle.sheet.proofs.Comparing.{k_differs}
+use Rattle.sheet.proofs.compare.first_condition.Goals as goal
+use Rattle.sheet.proofs.compare.first_condition.Goals.{After-print_remainders, After-remainders-close, Start}
+
+-- what has been formed of the table
+module _ (c : After-print_remainders) where
+  abbrev left : After-remainders-close
+  left = c.before.before.before
+
+  abbrev start : Start
+  start = left.before.before
+
+  abbrev t : Table
+  t = table_of start.args.q.now start.args.a.now start.args.w.now
+
+  abbrev v : List ℤ
+  v = start.args.v.now
+
+  abbrev u : List ℤ
+  u = start.args.u.now
+
+  abbrev close : ℕ
+  close = left.remainders-close.result
+
+  abbrev r : List ℤ
+  r = left.remainders-close.last.1.1.1.1.0
+
+  abbrev misses : List ℤ
+  misses = c.print_remainders.new.1.1.1.1.0
+
+  few : close ≤ t.n
+  few = first_found _ left.remainders-close.ensures.value
+
+  r_long : length r ≡ length start.args.r.now
+  r_long = left.remainders-close.kept.1.1.1.1.0
+
+  misses_long : length misses ≡ length start.args.misses.now
+  misses_long = c.print_remainders.auto.1.1.1.1.0
+
+pub first_unlike-requires : goal.first_unlike-requires
+first_unlike-requires c =
+    let p = c.before.before.before in let s = start p in let l = s.requires.x_len in
+    (l.0, omega (arith, few p, s.requires.sound.m_most, s.requires.sound.n_most), omega (arith, few p, r_long p, l.1.1.1.0), omega (arith, few p, misses_long p, l.1.1.1.1))
+
+pub returns : goal.returns
+returns c = λ listing f k.
+    let p = c.before.before.before.before in
+    k_differs f (t p) refl refl (r p) (misses p) (close p) c.first_unlike.result
+    (first_open (t p) (own_k listing) (v p) k.v_is (close p) (left p).remainders-close.ensures.value) (few p)
+    (λ j l. (left p).remainders-close.ensures.by_index j l ∙ closing_is (t p) (own_k listing) (v p) k.v_is j)
+    (λ j l. ap (λ (xs : List ℤ). at xs j) p.print_remainders.ensures ∙ tabulate_at (t p).n _ j (pos 0) (omega (arith, l, few p)) ∙ missed_is (t p) (own_k listing) (u p) k.u_is j)
+    c.first_unlike.ensures

@@ -1,0 +1,122 @@
+-- `compare::first_direction` meets its contract. Assumes nothing.
+use mathlib.Core.Path.{◌≡◌, refl, sym, ◌∙◌, ap}
+use mathlib.Core.List.{List, ◌++◌}
+use Prim.Native.Nat.{ℕ, ◌≤◌, ◌<◌}
+use native.Mathlib.Omega.{arith}
+use borrow.Author.Rules.{rules}
+use borrow.Author.Tests.{ltb-false}
+use lib.IntN.{ℤ, pos, nat_abs}
+use lib.ListN.{length, drop, length-append, get_or-append}
+use lib.Seq.{length-take-le}
+use Rattle.exact.specs.First.{first}
+use Rattle.exact.proofs.Filling.{tabulate_at}
+use Rattle.exact.proofs.Searching.{first_before, first_found}
+use Rattle.doolittle.specs.Table.{Table, at, table_of}
+use Rattle.adjustment.specs.Corrections.{V_of, u_of}
+use Rattle.adjustment.proofs.Solving.{beyond, V_ext, rounding_is, first_past, turned_is}
+use Rattle.sheet.specs.Form.{own_k}
+use Rattle.sheet.proofs.Comparing.{v_differs}
+use Rattle.sheet.proofs.compare.first_direction.Goals as goal
+use Rattle.sheet.proofs.compare.first_direction.Goals.{After-adjust_directions, After-corrections, After-print_corrections-within, Start}
+
+pub corrections-requires : goal.corrections-requires
+corrections-requires c = let s = c.before in let p = s.requires in record {
+      sound = p.0;
+      w_in_bounds = p.1.1.1;
+      q_in_bounds = omega (arith, p.0.m_most, p.1.1.0.1);
+    }
+
+-- what has been formed of the table
+module _ (c : After-print_corrections-within) where
+  abbrev corrected : After-corrections
+  corrected = c.before.before.before.before
+
+  abbrev start : Start
+  start = corrected.before.before
+
+  abbrev t : Table
+  t = table_of start.args.q.now start.args.a.now start.args.w.now
+
+  abbrev v : List ℤ
+  v = corrected.corrections.last.1.1.1.1.0
+
+  abbrev u : List ℤ
+  u = c.print_corrections-within.new.1.1.0
+
+  abbrev within : ℕ
+  within = c.print_corrections-within.result
+
+  few : within ≤ t.m
+  few = first_found _ c.print_corrections-within.ensures.value
+
+  u_long : length u ≡ length start.args.u.now
+  u_long = c.print_corrections-within.auto.1.1.0
+
+  adjusted_room : within ≤ length start.args.adjusted.now
+  adjusted_room = omega (arith, few, start.requires.sound.m_most, start.requires.directions_len.1.0.3)
+
+  -- of the correlates k of the list, and of any that agree with them
+  module _ (k : ℕ → ℤ) (same : (j : ℕ) → j < t.n → at start.args.k.now j ≡ k j) where
+    v_is : (i : ℕ) → i < t.m → at v i ≡ V_of t k i
+    v_is i l = corrected.corrections.ensures i l ∙ V_ext t (at start.args.k.now) k same i
+
+    past : within ≡ first t.m (beyond 60000 (u_of t k))
+    past = first_past t k v v_is within c.print_corrections-within.ensures.value
+
+    u_is : (i : ℕ) → i < within → at u i ≡ u_of t k i
+    u_is i l = c.print_corrections-within.ensures.by_index i l ∙ rounding_is t k v v_is i (omega (arith, few))
+
+    u_most : (i : ℕ) → i < within → nat_abs (u_of t k i) ≤ 60000
+    u_most i l = ltb-false 60000 (nat_abs (u_of t k i)) (first_before t.m (beyond 60000 (u_of t k)) i (omega (arith, past)))
+
+  u_small : (i : ℕ) → i < within → nat_abs (at u i) ≤ 60000
+  u_small i l = let k = at start.args.k.now in rw (u_is k (λ j h. refl) i l) (u_most k (λ j h. refl) i l)
+
+pub slice_bounds-adjust_directions-end : goal.slice_bounds-adjust_directions-end
+slice_bounds-adjust_directions-end c = adjusted_room c.before.before
+
+pub slice_bounds-adjust_directions-end-2 : goal.slice_bounds-adjust_directions-end-2
+slice_bounds-adjust_directions-end-2 c = sym (length-take-le _ _ (adjusted_room c.before.before.before))
+
+pub adjust_directions-requires : goal.adjust_directions-requires
+adjust_directions-requires c =
+    let p = c.before.before.before in let s = start p in let e = length-take-le (within p) s.args.adjusted.now (adjusted_room p) in record {
+      adjusted_in_bounds = (omega (arith, e, few p, s.requires.directions_len.0.0), omega (arith, e, few p, u_long p, s.requires.sound.m_most, s.requires.directions_len.1.0.2));
+      small = ((λ i l. s.requires.directions_len.0.1 i (omega (arith, e, few p))), λ i l. u_small p i (omega (arith, e)));
+    }
+
+-- the adjusted directions, and what stands behind them
+module _ (c : After-adjust_directions) where
+  abbrev printed : After-print_corrections-within
+  printed = c.before.before.before.before
+
+  abbrev turned : List ℤ
+  turned = c.adjust_directions.new.1.1.0
+
+  abbrev rest : List ℤ
+  rest = drop (within printed) (start printed).args.adjusted.now
+
+  turned_long : length turned ≡ within printed
+  turned_long = c.adjust_directions.auto.1.1.0 ∙ length-take-le (within printed) (start printed).args.adjusted.now (adjusted_room printed)
+
+  room : within printed ≤ length (turned ++ rest)
+  room = omega (arith, length-append turned rest, turned_long)
+
+pub first_unlike-requires : goal.first_unlike-requires
+first_unlike-requires c =
+    let a = c.before.before.before in let p = printed a in let s = start p in
+    (s.requires.directions_len.1.0.0, omega (arith, few p, s.requires.sound.m_most), omega (arith, few p, u_long p, s.requires.sound.m_most, s.requires.directions_len.1.0.2), room a)
+
+pub returns : goal.returns
+returns c =
+    let a = c.before.before.before.before in let p = printed a in let s = start p in let direction = at s.args.directions.now in record {
+      line = (λ listing f same. v_differs f (t p) refl refl direction (u p) (turned a ++ rest a) (within p) c.first_unlike.result (past p (own_k listing) same) (few p)
+          (u_is p (own_k listing) same)
+          (λ i l. get_or-append (turned a) (rest a) (pos 0) i (omega (arith, l, turned_long a))
+          ∙ ap (λ (xs : List ℤ). at xs i) a.adjust_directions.ensures
+          ∙ tabulate_at _ _ i (pos 0) (omega (arith, l, length-take-le (within p) s.args.adjusted.now (adjusted_room p)))
+          ∙ turned_is (t p) (own_k listing) direction (u p) i (u_is p (own_k listing) same i l))
+          c.first_unlike.ensures);
+      corrected = λ l. let all : (t p).m ≤ within p = omega (arith, l, first_found _ c.first_unlike.ensures) in let k = at s.args.k.now in
+          record { v_is = v_is p k (λ j h. refl); u_is = λ i h. u_is p k (λ j h. refl) i (omega (arith, h, all)); u_most = λ i h. u_most p k (λ j h. refl) i (omega (arith, h, all)) };
+    }

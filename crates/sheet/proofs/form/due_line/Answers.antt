@@ -1,0 +1,15 @@
+-- `form::due_line` meets its contract. Assumes nothing.
+use native.Mathlib.Omega.{arith}
+use borrow.Author.Rules.{rules}
+use Rattle.sheet.proofs.Forming.{due_v, due_k}
+use Rattle.sheet.proofs.form.due_line.Goals as goal
+
+pub returns-then-i-m : goal.returns-then-i-m
+returns-then-i-m c =
+    let r = c.before in let a = r.before.before.before.before.args in let d = due_v a.listing.now a.start a.m a.i (omega arith) in
+    rw (d.0, d.1) r.numbered_line.ensures
+
+pub returns : goal.returns
+returns c =
+    let r = c.before in let a = r.before.before.before.before.args in let d = due_k a.listing.now a.start a.m a.i (omega arith) in
+    rw (d.0, d.1) r.numbered_line-2.ensures

@@ -1,0 +1,48 @@
+-- `touched::shares_before` meets its contract: no word before k has three ones in common with word j. Assumes nothing.
+use mathlib.Core.Path.{◌≡◌, sym, subst}
+use mathlib.Core.Bool.{Bool}
+use mathlib.Core.List.{List}
+use Prim.Native.Nat.{ℕ, ◌-◌, ◌≤◌}
+use native.Mathlib.Omega.{arith}
+use borrow.Author.Rules.{rules}
+use borrow.Author.Tests.{le-leb, lt-leb}
+use lib.Dec.{leb}
+use lib.ListN.{get_or}
+use Rattle.exact.proofs.Searching.{Failed, failed_none, failed_more, some_at, some_none}
+use Rattle.touched.specs.Inner.{shared_ones}
+use Rattle.touched.proofs.shares_before.Goals as goal
+use Rattle.touched.proofs.shares_before.Goals.{After-shared, At-loop-k}
+
+-- words j and k have three or more ones in common
+abbrev three : List ℕ → ℕ → ℕ → Bool
+three words j k = leb 3 (shared_ones (get_or words j 0) (get_or words k 0))
+
+pub loop-k-init : goal.loop-k-init
+loop-k-init c = let s = c.before in (omega arith, failed_none (three s.args.words.now s.args.j))
+
+-- in a turn
+module _ (c : After-shared) where
+  abbrev loop : At-loop-k
+  loop = c.before.before.before
+
+  abbrev j : ℕ
+  j = loop.before.before.args.j
+
+  abbrev test : ℕ → Bool
+  test = three loop.before.before.args.words.now j
+
+pub returns-then-shared-ge3 : goal.returns-then-shared-ge3
+returns-then-shared-ge3 c =
+    let b = c.before in let l = loop b in
+    sym (some_at (j b) (test b) l.loop-k.k (omega arith) l.loop-k.invariant.1 (le-leb 3 _ (rw b.shared.ensures at c.if-shared-ge3.true)))
+
+pub loop-k-preserved : goal.loop-k-preserved
+loop-k-preserved c =
+    let b = c.before in let l = loop b in
+    (omega arith, failed_more (test b) l.loop-k.k l.loop-k.invariant.1 (lt-leb 3 _ (rw b.shared.ensures at c.if-shared-ge3.false)))
+
+pub returns : goal.returns
+returns c =
+    let l = c.before in let s = l.before.before in let e : l.loop-k.k ≡ s.args.j = omega arith in
+    let test = three s.args.words.now s.args.j in
+    sym (some_none s.args.j test (subst (Failed test) e l.loop-k.invariant.1))
