@@ -1,9 +1,0 @@
--- What a read answers fits the room that it had.
-use mathlib.Core.Path.{◌≡◌, subst}
-use Prim.Native.Nat.{ℕ, ◌≤◌}
-use Rattle.lister.specs.declared.Input.{Input}
-use Rattle.lister.specs.declared.Input.TheVariants.{Bytes}
-use Rattle.lister.specs.Input.{Within}
-
-pub within : {came : Input} {n room : ℕ} → came ≡ Bytes n → Within came room → n ≤ room
-within {room = room} e w = subst (λ (x : Input). Within x room) e w
