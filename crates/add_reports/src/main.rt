@@ -1,12 +1,12 @@
 // The program that adds up season reports: those that come on standard input, one after another.
 #![tactic(auto)]
 
-use libc::STDIN_FILENO;
-
-fn main() {
+fn main(rt: HostRuntime) {
+    let mut input = rt.stdin();
     lister::report(
+        &rt,
         b"add_reports",
-        lister::sums::add_open(STDIN_FILENO),
+        lister::sums::add_open(&rt, &mut input),
         b"standard input",
     );
 }

@@ -2,17 +2,18 @@
 // listings follow each other.
 #![tactic(auto)]
 
-use libc::STDIN_FILENO;
 use lister::Files;
 
-fn main() {
-    if os::arg_count() < 2 {
+fn main(rt: HostRuntime) {
+    if lister::arg_count(&rt) < 2 {
+        let mut input = rt.stdin();
         lister::report(
+            &rt,
             b"adjust",
-            lister::list_open(STDIN_FILENO, Files::Networks),
+            lister::list_open(&rt, &mut input, Files::Networks),
             b"standard input",
         );
     } else {
-        lister::list_arguments(b"adjust", false, Files::Networks);
+        lister::list_arguments(&rt, b"adjust", false, Files::Networks);
     }
 }

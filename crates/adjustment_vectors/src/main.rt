@@ -9,13 +9,14 @@ const LEAST: i64 = -9_223_372_036_854_775_808;
 
 const MOST: i64 = 9_223_372_036_854_775_807;
 
-fn numbers(xs: &[i64]) {
-    vectors::text(b";");
-    vectors::list(xs);
+fn numbers(rt: &impl Print, xs: &[i64]) {
+    vectors::text(rt, b";");
+    vectors::list(rt, xs);
 }
 
 // The reply, and what the lent lists hold.
 fn show(
+    rt: &impl Print,
     directions: &[i64],
     q: &[i64],
     a: &[i64],
@@ -39,23 +40,26 @@ fn show(
         remainders,
         misses,
     );
-    vectors::text(b": ");
-    vectors::told(reply);
-    numbers(corrections);
-    numbers(printed);
-    numbers(adjusted);
-    numbers(correlates);
-    numbers(remainders);
-    numbers(misses);
-    vectors::text(b";\n");
+    vectors::text(rt, b": ");
+    vectors::told(rt, reply);
+    numbers(rt, corrections);
+    numbers(rt, printed);
+    numbers(rt, adjusted);
+    numbers(rt, correlates);
+    numbers(rt, remainders);
+    numbers(rt, misses);
+    vectors::text(rt, b";\n");
 }
 
 // Lists of these lengths, v of the answer lists by direction and k of those by condition: every number is in range.
-fn lengths(m: usize, q: usize, a: usize, w: usize, v: usize, k: usize)
+fn lengths(rt: &impl Print, m: usize, q: usize, a: usize, w: usize, v: usize, k: usize)
     requires { (m ≤ 65) × ((q ≤ 65) × ((a ≤ 625) × ((w ≤ 25) × ((v ≤ 65) × (k ≤ 25))))) }
 {
-    vectors::text(b"lengths");
-    vectors::list(&[m as i64, q as i64, a as i64, w as i64, v as i64, k as i64]);
+    vectors::text(rt, b"lengths");
+    vectors::list(
+        rt,
+        &[m as i64, q as i64, a as i64, w as i64, v as i64, k as i64],
+    );
     let directions = [0i64; 65];
     let weights = [1i64; 65];
     let coefficients = [100i64; 625];
@@ -67,6 +71,7 @@ fn lengths(m: usize, q: usize, a: usize, w: usize, v: usize, k: usize)
     let mut remainders = [7i64; 25];
     let mut misses = [7i64; 25];
     show(
+        rt,
         &directions[..m],
         &weights[..q],
         &coefficients[..a],
@@ -81,9 +86,21 @@ fn lengths(m: usize, q: usize, a: usize, w: usize, v: usize, k: usize)
 }
 
 // Two conditions in two directions: the directions, their q, the coefficients a and b of the conditions, their misclosures.
-fn two(d: i64, e: i64, p: i64, q: i64, a1: i64, a2: i64, b1: i64, b2: i64, w: i64, x: i64) {
-    vectors::text(b"two");
-    vectors::list(&[d, e, p, q, a1, a2, b1, b2, w, x]);
+fn two(
+    rt: &impl Print,
+    d: i64,
+    e: i64,
+    p: i64,
+    q: i64,
+    a1: i64,
+    a2: i64,
+    b1: i64,
+    b2: i64,
+    w: i64,
+    x: i64,
+) {
+    vectors::text(rt, b"two");
+    vectors::list(rt, &[d, e, p, q, a1, a2, b1, b2, w, x]);
     let mut corrections = [7i64; 2];
     let mut printed = [7i64; 2];
     let mut adjusted = [7i64; 2];
@@ -91,6 +108,7 @@ fn two(d: i64, e: i64, p: i64, q: i64, a1: i64, a2: i64, b1: i64, b2: i64, w: i6
     let mut remainders = [7i64; 2];
     let mut misses = [7i64; 2];
     show(
+        rt,
         &[d, e],
         &[p, q],
         &[a1, a2, b1, b2],
@@ -105,86 +123,86 @@ fn two(d: i64, e: i64, p: i64, q: i64, a1: i64, a2: i64, b1: i64, b2: i64, w: i6
 }
 
 // Two directions with their q, in conditions that are in range.
-fn directions(d: i64, p: i64, e: i64, q: i64) {
-    two(d, e, p, q, 100, 0, 0, 100, 0, 0);
+fn directions(rt: &impl Print, d: i64, p: i64, e: i64, q: i64) {
+    two(rt, d, e, p, q, 100, 0, 0, 100, 0, 0);
 }
 
 // Two conditions of one direction each, by coefficient and misclosure.
-fn conditions(a: i64, w: i64, b: i64, x: i64) {
-    two(0, 0, 1, 1, a, 0, 0, b, w, x);
+fn conditions(rt: &impl Print, a: i64, w: i64, b: i64, x: i64) {
+    two(rt, 0, 0, 1, 1, a, 0, 0, b, w, x);
 }
 
 // 2: m from 1 to 64, n from 1 to 24 and not above m.
-fn of_counts() {
-    lengths(0, 0, 0, 1, 0, 1);
-    lengths(1, 1, 0, 0, 1, 0);
-    lengths(1, 1, 2, 2, 1, 2);
-    lengths(65, 65, 65, 1, 65, 1);
-    lengths(25, 25, 625, 25, 25, 25);
+fn of_counts(rt: &impl Print) {
+    lengths(rt, 0, 0, 0, 1, 0, 1);
+    lengths(rt, 1, 1, 0, 0, 1, 0);
+    lengths(rt, 1, 1, 2, 2, 1, 2);
+    lengths(rt, 65, 65, 65, 1, 65, 1);
+    lengths(rt, 25, 25, 625, 25, 25, 25);
 }
 
 // 2: each length that disagrees, after lengths that agree.
-fn of_lengths() {
-    lengths(2, 2, 2, 1, 2, 1);
-    lengths(2, 1, 2, 1, 2, 1);
-    lengths(2, 3, 2, 1, 2, 1);
-    lengths(2, 2, 1, 1, 2, 1);
-    lengths(2, 2, 3, 1, 2, 1);
-    lengths(2, 2, 2, 1, 1, 1);
-    lengths(2, 2, 2, 1, 2, 2);
+fn of_lengths(rt: &impl Print) {
+    lengths(rt, 2, 2, 2, 1, 2, 1);
+    lengths(rt, 2, 1, 2, 1, 2, 1);
+    lengths(rt, 2, 3, 2, 1, 2, 1);
+    lengths(rt, 2, 2, 1, 1, 2, 1);
+    lengths(rt, 2, 2, 3, 1, 2, 1);
+    lengths(rt, 2, 2, 2, 1, 1, 1);
+    lengths(rt, 2, 2, 2, 1, 2, 2);
 }
 
 // 3 by direction number, before 4.
-fn of_directions() {
-    directions(-1, 1, 0, 1);
-    directions(0, 1, 1296000000, 1);
-    directions(0, 0, 0, 1);
-    directions(0, 1, 0, 11);
-    directions(0, LEAST, 0, 1);
-    directions(0, 1, MOST, 1);
-    two(0, -1, 1, 1, 2001, 0, 0, 100, 0, 0);
+fn of_directions(rt: &impl Print) {
+    directions(rt, -1, 1, 0, 1);
+    directions(rt, 0, 1, 1296000000, 1);
+    directions(rt, 0, 0, 0, 1);
+    directions(rt, 0, 1, 0, 11);
+    directions(rt, 0, LEAST, 0, 1);
+    directions(rt, 0, 1, MOST, 1);
+    two(rt, 0, -1, 1, 1, 2001, 0, 0, 100, 0, 0);
 }
 
 // 4 and 5 by condition, 4 before 5 in one condition.
-fn of_conditions() {
-    conditions(2001, 0, 100, 0);
-    conditions(100, 0, -2001, 0);
-    conditions(LEAST, 0, 100, 0);
-    conditions(100, 1000001, 100, 0);
-    conditions(100, 0, 100, -1000001);
-    conditions(100, LEAST, 100, 0);
-    conditions(100, -1000001, 2001, 0);
-    conditions(2001, 1000001, 100, 0);
+fn of_conditions(rt: &impl Print) {
+    conditions(rt, 2001, 0, 100, 0);
+    conditions(rt, 100, 0, -2001, 0);
+    conditions(rt, LEAST, 0, 100, 0);
+    conditions(rt, 100, 1000001, 100, 0);
+    conditions(rt, 100, 0, 100, -1000001);
+    conditions(rt, 100, LEAST, 100, 0);
+    conditions(rt, 100, -1000001, 2001, 0);
+    conditions(rt, 2001, 1000001, 100, 0);
 }
 
 // 6 to 9 leave the lists as they were. The second 6 has a pivot of 1 under an entry of 1,025, the second 7 has pivots of 1. The 8 is one only as each
 // product is rounded by itself. The 9s have odd coefficients with odd misclosures, which no file has together: u is -60,001, then 60,001 beside a
 // -60,000, which passes.
-fn of_solutions() {
-    two(0, 0, 1, 1, 100, 100, 100, 100, 500, 500);
-    two(0, 0, 1, 1, 1, 0, 32, 1, 0, 0);
-    conditions(10, 1001, 10, 1000);
-    conditions(1, 11, 1, 0);
-    two(0, 0, 10, 10, 2000, 2000, 2000, 0, 4, 0);
-    conditions(199, 119401, 100, 0);
-    conditions(201, 120601, 199, -119401);
+fn of_solutions(rt: &impl Print) {
+    two(rt, 0, 0, 1, 1, 100, 100, 100, 100, 500, 500);
+    two(rt, 0, 0, 1, 1, 1, 0, 32, 1, 0, 0);
+    conditions(rt, 10, 1001, 10, 1000);
+    conditions(rt, 1, 11, 1, 0);
+    two(rt, 0, 0, 10, 10, 2000, 2000, 2000, 0, 4, 0);
+    conditions(rt, 199, 119401, 100, 0);
+    conditions(rt, 201, 120601, 199, -119401);
 }
 
 // Accepted: correlates and corrections at their limits, the second time over pivots of 1, halves of both signs, coefficients and misclosures that no
 // file has together.
-fn of_answers() {
-    conditions(10, 1000, 10, -1000);
-    conditions(1, 10, 1, -10);
-    conditions(201, 120601, 201, -120601);
-    conditions(100, 5, 200, -5);
-    two(10, 20, 3, 10, 100, -37, 55, 250, 1234, -777);
+fn of_answers(rt: &impl Print) {
+    conditions(rt, 10, 1000, 10, -1000);
+    conditions(rt, 1, 10, 1, -10);
+    conditions(rt, 201, 120601, 201, -120601);
+    conditions(rt, 100, 5, 200, -5);
+    two(rt, 10, 20, 3, 10, 100, -37, 55, 250, 1234, -777);
 }
 
-fn main() {
-    of_counts();
-    of_lengths();
-    of_directions();
-    of_conditions();
-    of_solutions();
-    of_answers();
+fn main(rt: HostRuntime) {
+    of_counts(&rt);
+    of_lengths(&rt);
+    of_directions(&rt);
+    of_conditions(&rt);
+    of_solutions(&rt);
+    of_answers(&rt);
 }

@@ -4,6 +4,6 @@
 
 use lister::Files;
 
-fn main() {
-    lister::list_arguments(b"books", true, Files::Books);
+fn main(rt: HostRuntime) {
+    lister::list_arguments(&rt, b"books", true, Files::Books);
 }

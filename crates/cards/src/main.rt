@@ -4,6 +4,6 @@
 
 use lister::Files;
 
-fn main() {
-    lister::list_arguments(b"cards", true, Files::NetworksWithErrors);
+fn main(rt: HostRuntime) {
+    lister::list_arguments(&rt, b"cards", true, Files::NetworksWithErrors);
 }

@@ -2,14 +2,11 @@
 // the toolchain has a library of that one.)
 #![tactic(auto)]
 
-use libc::STDERR_FILENO;
-
-fn main() {
-    if os::arg_count() == 3 {
-        lister::sheets::check_pair(b"check", false, 1, 2);
+fn main(rt: HostRuntime) {
+    if lister::arg_count(&rt) == 3 {
+        lister::sheets::check_pair(&rt, b"check", false, 1, 2);
     } else {
-        io::write_all(
-            STDERR_FILENO,
+        let _ = rt.stderr().write_all(
             b"check: too few names or too many; it is: check NET LISTING\n",
         );
     }

@@ -20,29 +20,30 @@ const L: i64 = 76;
 
 const R: i64 = 82;
 
-fn print_kind(kind: Kind) {
+fn print_kind(rt: &impl Print, kind: Kind) {
     match kind {
         Kind::Angle => {
-            vectors::text(b" A");
+            vectors::text(rt, b" A");
         }
         Kind::Side => {
-            vectors::text(b" S");
+            vectors::text(rt, b" S");
         }
     }
 }
 
-fn tell_misclosure(w: Figure) {
+fn tell_misclosure(rt: &impl Print, w: Figure) {
     match w {
-        Figure::Value(v) => vectors::signed(v),
+        Figure::Value(v) => vectors::signed(rt, v),
         Figure::Refused(why) => {
-            vectors::text(b" ");
-            vectors::refusal(why);
+            vectors::text(rt, b" ");
+            vectors::refusal(rt, why);
         }
     }
 }
 
 // The rest of a line: what the two operations answer, and what the first leaves in a.
 fn show(
+    rt: &impl Print,
     directions: &[i64],
     q: &[i64],
     kind: Kind,
@@ -54,31 +55,50 @@ fn show(
     k: &[i64],
     a: &mut [i64],
 ) {
-    vectors::text(b": ");
-    vectors::told(condition::coefficients(directions, q, kind, target, kinds, values, d, i, k, a));
-    vectors::text(b":");
-    vectors::list(a);
-    vectors::text(b"; w");
-    tell_misclosure(condition::misclosure(directions, q, kind, target, kinds, values, d, i, k));
-    vectors::text(b"\n");
+    vectors::text(rt, b": ");
+    vectors::told(
+        rt,
+        condition::coefficients(directions, q, kind, target, kinds, values, d, i, k, a),
+    );
+    vectors::text(rt, b":");
+    vectors::list(rt, a);
+    vectors::text(rt, b"; w");
+    tell_misclosure(
+        rt,
+        condition::misclosure(directions, q, kind, target, kinds, values, d, i, k),
+    );
+    vectors::text(rt, b"\n");
 }
 
 // Lists of these lengths, of fixed angles of 0: every number is in range.
-fn counts(m: usize, q: usize, n: usize, values: usize, d: usize, i: usize, k: usize, room: usize)
+fn counts(
+    rt: &impl Print,
+    m: usize,
+    q: usize,
+    n: usize,
+    values: usize,
+    d: usize,
+    i: usize,
+    k: usize,
+    room: usize,
+)
     requires m_bound { (m ≤ 65) × ((q ≤ 65) × (room ≤ 65)) }
     requires n_bound { (n ≤ 13) × ((values ≤ 13) × ((d ≤ 13) × ((i ≤ 13) × (k ≤ 13)))) }
 {
-    vectors::text(b"counts");
-    vectors::list(&[
-        m as i64,
-        q as i64,
-        n as i64,
-        values as i64,
-        d as i64,
-        i as i64,
-        k as i64,
-        room as i64,
-    ]);
+    vectors::text(rt, b"counts");
+    vectors::list(
+        rt,
+        &[
+            m as i64,
+            q as i64,
+            n as i64,
+            values as i64,
+            d as i64,
+            i as i64,
+            k as i64,
+            room as i64,
+        ],
+    );
     let directions = [0i64; 65];
     let weights = [1i64; 65];
     let kinds = [F; 13];
@@ -88,6 +108,7 @@ fn counts(m: usize, q: usize, n: usize, values: usize, d: usize, i: usize, k: us
     let k_list = [0i64; 13];
     let mut a = [7i64; 65];
     show(
+        rt,
         &directions[..m],
         &weights[..q],
         Kind::Angle,
@@ -102,11 +123,12 @@ fn counts(m: usize, q: usize, n: usize, values: usize, d: usize, i: usize, k: us
 }
 
 // The angle P 0 2 where there are two directions, given with their q.
-fn directions(first: i64, first_q: i64, last: i64, last_q: i64) {
-    vectors::text(b"directions");
-    vectors::list(&[first, first_q, last, last_q]);
+fn directions(rt: &impl Print, first: i64, first_q: i64, last: i64, last_q: i64) {
+    vectors::text(rt, b"directions");
+    vectors::list(rt, &[first, first_q, last, last_q]);
     let mut a = [7i64; 2];
     show(
+        rt,
         &[first, last],
         &[first_q, last_q],
         Kind::Angle,
@@ -121,15 +143,16 @@ fn directions(first: i64, first_q: i64, last: i64, last_q: i64) {
 }
 
 // A condition of one term among the three directions of the rules' figure 3.
-fn one(kind: Kind, target: i64, code: i64, value: i64, d: i64, i: i64, k: i64) {
-    vectors::text(b"one");
-    print_kind(kind);
+fn one(rt: &impl Print, kind: Kind, target: i64, code: i64, value: i64, d: i64, i: i64, k: i64) {
+    vectors::text(rt, b"one");
+    print_kind(rt, kind);
     let given = [target, code, value, d, i, k];
-    vectors::list(&given);
+    vectors::list(rt, &given);
     let directions = [216_000_000, 216_003_000, 215_997_000];
     let q = [1, 10, 5];
     let mut a = [7i64; 3];
     show(
+        rt,
         &directions,
         &q,
         kind,
@@ -145,6 +168,7 @@ fn one(kind: Kind, target: i64, code: i64, value: i64, d: i64, i: i64, k: i64) {
 
 // A condition of two terms among three directions, each term by its kind, value, d, i and k.
 fn two(
+    rt: &impl Print,
     kind: Kind,
     first: i64,
     v: i64,
@@ -157,11 +181,15 @@ fn two(
     last_i: i64,
     last_k: i64,
 ) {
-    vectors::text(b"two");
-    print_kind(kind);
-    vectors::list(&[first, v, d, i, k, last, last_v, last_d, last_i, last_k]);
+    vectors::text(rt, b"two");
+    print_kind(rt, kind);
+    vectors::list(
+        rt,
+        &[first, v, d, i, k, last, last_v, last_d, last_i, last_k],
+    );
     let mut a = [7i64; 3];
     show(
+        rt,
         &[5, 5, 5],
         &[1, 1, 1],
         kind,
@@ -176,118 +204,118 @@ fn two(
 }
 
 // 2, place 0: m from 1 to 64, n from 1 to 12.
-fn of_counts() {
-    counts(0, 0, 1, 1, 1, 1, 1, 0);
-    counts(65, 65, 1, 1, 1, 1, 1, 65);
-    counts(2, 2, 0, 0, 0, 0, 0, 2);
-    counts(2, 2, 13, 13, 13, 13, 13, 2);
+fn of_counts(rt: &impl Print) {
+    counts(rt, 0, 0, 1, 1, 1, 1, 1, 0);
+    counts(rt, 65, 65, 1, 1, 1, 1, 1, 65);
+    counts(rt, 2, 2, 0, 0, 0, 0, 0, 2);
+    counts(rt, 2, 2, 13, 13, 13, 13, 13, 2);
 }
 
 // 2, place 0: each length that disagrees.
-fn of_lengths() {
-    counts(2, 1, 3, 3, 3, 3, 3, 2);
-    counts(2, 3, 3, 3, 3, 3, 3, 2);
-    counts(2, 2, 3, 2, 3, 3, 3, 2);
-    counts(2, 2, 3, 4, 3, 3, 3, 2);
-    counts(2, 2, 3, 3, 2, 3, 3, 2);
-    counts(2, 2, 3, 3, 4, 3, 3, 2);
-    counts(2, 2, 3, 3, 3, 2, 3, 2);
-    counts(2, 2, 3, 3, 3, 4, 3, 2);
-    counts(2, 2, 3, 3, 3, 3, 2, 2);
-    counts(2, 2, 3, 3, 3, 3, 4, 2);
-    counts(2, 2, 3, 3, 3, 3, 3, 1);
-    counts(2, 2, 3, 3, 3, 3, 3, 3);
-    counts(2, 2, 3, 3, 3, 3, 3, 0);
+fn of_lengths(rt: &impl Print) {
+    counts(rt, 2, 1, 3, 3, 3, 3, 3, 2);
+    counts(rt, 2, 3, 3, 3, 3, 3, 3, 2);
+    counts(rt, 2, 2, 3, 2, 3, 3, 3, 2);
+    counts(rt, 2, 2, 3, 4, 3, 3, 3, 2);
+    counts(rt, 2, 2, 3, 3, 2, 3, 3, 2);
+    counts(rt, 2, 2, 3, 3, 4, 3, 3, 2);
+    counts(rt, 2, 2, 3, 3, 3, 2, 3, 2);
+    counts(rt, 2, 2, 3, 3, 3, 4, 3, 2);
+    counts(rt, 2, 2, 3, 3, 3, 3, 2, 2);
+    counts(rt, 2, 2, 3, 3, 3, 3, 4, 2);
+    counts(rt, 2, 2, 3, 3, 3, 3, 3, 1);
+    counts(rt, 2, 2, 3, 3, 3, 3, 3, 3);
+    counts(rt, 2, 2, 3, 3, 3, 3, 3, 0);
 }
 
 // 3 by direction number.
-fn of_directions() {
-    directions(-1, 1, 5, 1);
-    directions(1296000000, 1, 5, 1);
-    directions(5, 0, 5, 1);
-    directions(5, 11, 5, 1);
-    directions(5, 1, -1, 1);
-    directions(5, 1, 1296000000, 1);
-    directions(5, 1, 5, 0);
-    directions(5, 1, 5, 11);
-    directions(5, 1, LEAST, 1);
-    directions(5, LEAST, 5, 1);
-    directions(MOST, 1, 5, MOST);
-    directions(5, 11, -1, 1);
+fn of_directions(rt: &impl Print) {
+    directions(rt, -1, 1, 5, 1);
+    directions(rt, 1296000000, 1, 5, 1);
+    directions(rt, 5, 0, 5, 1);
+    directions(rt, 5, 11, 5, 1);
+    directions(rt, 5, 1, -1, 1);
+    directions(rt, 5, 1, 1296000000, 1);
+    directions(rt, 5, 1, 5, 0);
+    directions(rt, 5, 1, 5, 11);
+    directions(rt, 5, 1, LEAST, 1);
+    directions(rt, 5, LEAST, 5, 1);
+    directions(rt, MOST, 1, 5, MOST);
+    directions(rt, 5, 11, -1, 1);
 }
 
 // 3, place 0: an angle condition's target; a side condition's is not read.
-fn of_targets() {
-    one(Kind::Angle, -1, F, 0, 0, 0, 0);
-    one(Kind::Angle, 15552000001, F, 0, 0, 0, 0);
-    one(Kind::Angle, LEAST, P, 0, 0, 0, 0);
-    one(Kind::Side, LEAST, L, 0, 5, 0, 1);
-    one(Kind::Side, -1, R, 0, 5, 0, 1);
-    one(Kind::Side, MOST, L, 0, 0, 0, 0);
+fn of_targets(rt: &impl Print) {
+    one(rt, Kind::Angle, -1, F, 0, 0, 0, 0);
+    one(rt, Kind::Angle, 15552000001, F, 0, 0, 0, 0);
+    one(rt, Kind::Angle, LEAST, P, 0, 0, 0, 0);
+    one(rt, Kind::Side, LEAST, L, 0, 5, 0, 1);
+    one(rt, Kind::Side, -1, R, 0, 5, 0, 1);
+    one(rt, Kind::Side, MOST, L, 0, 0, 0, 0);
 }
 
 // 1: a kind that does not fit, before the same term's 3.
-fn of_kinds() {
-    one(Kind::Side, 0, P, 0, 0, 0, 1);
-    one(Kind::Side, 0, F, 0, 0, 0, 1);
-    one(Kind::Angle, 0, L, 0, 0, 0, 1);
-    one(Kind::Angle, 0, R, 0, 0, 0, 1);
-    one(Kind::Side, 0, P, -1, 5000, 9, 9);
-    one(Kind::Angle, 0, R, -1, 5000, 9, 9);
+fn of_kinds(rt: &impl Print) {
+    one(rt, Kind::Side, 0, P, 0, 0, 0, 1);
+    one(rt, Kind::Side, 0, F, 0, 0, 0, 1);
+    one(rt, Kind::Angle, 0, L, 0, 0, 0, 1);
+    one(rt, Kind::Angle, 0, R, 0, 0, 0, 1);
+    one(rt, Kind::Side, 0, P, -1, 5000, 9, 9);
+    one(rt, Kind::Angle, 0, R, -1, 5000, 9, 9);
 }
 
 // 1: a code that is no letter of a term.
-fn of_codes() {
-    one(Kind::Angle, 0, 0, 0, 0, 0, 1);
-    one(Kind::Angle, 0, -80, 0, 0, 0, 1);
-    one(Kind::Angle, 0, 79, 0, 0, 0, 1);
-    one(Kind::Angle, 0, 81, 0, 0, 0, 1);
-    one(Kind::Angle, 0, 112, 0, 0, 0, 1);
-    one(Kind::Angle, 0, 4294967376, 0, 0, 0, 1);
-    one(Kind::Angle, 0, LEAST, 0, 0, 0, 1);
-    one(Kind::Angle, 0, MOST, 0, 0, 0, 1);
+fn of_codes(rt: &impl Print) {
+    one(rt, Kind::Angle, 0, 0, 0, 0, 0, 1);
+    one(rt, Kind::Angle, 0, -80, 0, 0, 0, 1);
+    one(rt, Kind::Angle, 0, 79, 0, 0, 0, 1);
+    one(rt, Kind::Angle, 0, 81, 0, 0, 0, 1);
+    one(rt, Kind::Angle, 0, 112, 0, 0, 0, 1);
+    one(rt, Kind::Angle, 0, 4294967376, 0, 0, 0, 1);
+    one(rt, Kind::Angle, 0, LEAST, 0, 0, 0, 1);
+    one(rt, Kind::Angle, 0, MOST, 0, 0, 0, 1);
 }
 
 // 3 in a term of each kind, by the least and the greatest number; and the fields that a kind does not use are not read.
-fn of_terms() {
-    one(Kind::Angle, 0, P, 0, 0, LEAST, 1);
-    one(Kind::Angle, 0, P, 0, 0, 1, LEAST);
-    one(Kind::Angle, 0, P, 0, 0, MOST, MOST);
-    one(Kind::Angle, 3000, P, LEAST, MOST, 1, 2);
-    one(Kind::Angle, 0, F, 0, LEAST, MOST, MOST);
-    one(Kind::Angle, 0, F, LEAST, 0, 0, 0);
-    one(Kind::Angle, 0, F, MOST, 0, 0, 0);
-    one(Kind::Side, 0, L, LEAST, 0, 0, 0);
-    one(Kind::Side, 0, L, 0, LEAST, 0, 1);
-    one(Kind::Side, 0, L, 0, LEAST, LEAST, LEAST);
+fn of_terms(rt: &impl Print) {
+    one(rt, Kind::Angle, 0, P, 0, 0, LEAST, 1);
+    one(rt, Kind::Angle, 0, P, 0, 0, 1, LEAST);
+    one(rt, Kind::Angle, 0, P, 0, 0, MOST, MOST);
+    one(rt, Kind::Angle, 3000, P, LEAST, MOST, 1, 2);
+    one(rt, Kind::Angle, 0, F, 0, LEAST, MOST, MOST);
+    one(rt, Kind::Angle, 0, F, LEAST, 0, 0, 0);
+    one(rt, Kind::Angle, 0, F, MOST, 0, 0, 0);
+    one(rt, Kind::Side, 0, L, LEAST, 0, 0, 0);
+    one(rt, Kind::Side, 0, L, 0, LEAST, 0, 1);
+    one(rt, Kind::Side, 0, L, 0, LEAST, LEAST, LEAST);
 }
 
 // 1 and 3 by term; the earlier term speaks first.
-fn of_places() {
-    two(Kind::Angle, L, 0, 0, 0, 1, F, 5, 0, 0, 0);
-    two(Kind::Angle, F, 5, 0, 0, 0, L, 0, 0, 0, 1);
-    two(Kind::Angle, P, 0, 0, 1, 1, F, 5, 0, 0, 0);
-    two(Kind::Angle, F, 5, 0, 0, 0, P, 0, 0, 1, 1);
-    two(Kind::Angle, F, -1, 0, 0, 0, 77, 0, 0, 0, 0);
-    two(Kind::Angle, 77, 0, 0, 0, 0, F, -1, 0, 0, 0);
-    two(Kind::Side, L, 0, 0, 0, 0, F, 0, 0, 0, 1);
-    two(Kind::Side, L, 0, 0, 0, 0, R, 0, 2001, 0, 1);
+fn of_places(rt: &impl Print) {
+    two(rt, Kind::Angle, L, 0, 0, 0, 1, F, 5, 0, 0, 0);
+    two(rt, Kind::Angle, F, 5, 0, 0, 0, L, 0, 0, 0, 1);
+    two(rt, Kind::Angle, P, 0, 0, 1, 1, F, 5, 0, 0, 0);
+    two(rt, Kind::Angle, F, 5, 0, 0, 0, P, 0, 0, 1, 1);
+    two(rt, Kind::Angle, F, -1, 0, 0, 0, 77, 0, 0, 0, 0);
+    two(rt, Kind::Angle, 77, 0, 0, 0, 0, F, -1, 0, 0, 0);
+    two(rt, Kind::Side, L, 0, 0, 0, 0, F, 0, 0, 0, 1);
+    two(rt, Kind::Side, L, 0, 0, 0, 0, R, 0, 2001, 0, 1);
 }
 
 // 4 is refused by the coefficients alone, and 5 by the misclosure alone.
-fn of_either() {
-    two(Kind::Side, L, 0, 2000, 0, 3, L, 0, 1, 0, 3);
-    one(Kind::Angle, 0, P, 0, 0, 0, 1);
+fn of_either(rt: &impl Print) {
+    two(rt, Kind::Side, L, 0, 2000, 0, 3, L, 0, 1, 0, 3);
+    one(rt, Kind::Angle, 0, P, 0, 0, 0, 1);
 }
 
-fn main() {
-    of_counts();
-    of_lengths();
-    of_directions();
-    of_targets();
-    of_kinds();
-    of_codes();
-    of_terms();
-    of_places();
-    of_either();
+fn main(rt: HostRuntime) {
+    of_counts(&rt);
+    of_lengths(&rt);
+    of_directions(&rt);
+    of_targets(&rt);
+    of_kinds(&rt);
+    of_codes(&rt);
+    of_terms(&rt);
+    of_places(&rt);
+    of_either(&rt);
 }

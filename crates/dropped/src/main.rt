@@ -2,17 +2,18 @@
 // names a file, and the lists follow each other.
 #![tactic(auto)]
 
-use libc::STDIN_FILENO;
 use lister::Files;
 
-fn main() {
-    if os::arg_count() < 2 {
+fn main(rt: HostRuntime) {
+    if lister::arg_count(&rt) < 2 {
+        let mut input = rt.stdin();
         lister::report(
+            &rt,
             b"dropped",
-            lister::list_open(STDIN_FILENO, Files::Dropped),
+            lister::list_open(&rt, &mut input, Files::Dropped),
             b"standard input",
         );
     } else {
-        lister::list_arguments(b"dropped", false, Files::Dropped);
+        lister::list_arguments(&rt, b"dropped", false, Files::Dropped);
     }
 }

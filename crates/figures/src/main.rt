@@ -4,6 +4,6 @@
 
 use lister::Files;
 
-fn main() {
-    lister::list_arguments(b"figures", true, Files::Networks);
+fn main(rt: HostRuntime) {
+    lister::list_arguments(&rt, b"figures", true, Files::Networks);
 }

@@ -1,6 +1,5 @@
 -- What a read answers fits the room that it had.
-use mathlib.Core.Path.{◌≡◌, subst}
-use Prim.Native.Nat.{ℕ, ◌≤◌}
+use Rattle.std.proofs.Common.{◌≡◌, ℕ, ◌≤◌, subst}
 use Rattle.lister.specs.declared.Input.{Input}
 use Rattle.lister.specs.declared.Input.TheVariants.{Bytes}
 use Rattle.lister.specs.Input.{Within}

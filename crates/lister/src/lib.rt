@@ -18,11 +18,18 @@ ghost use Rattle.lister.specs.Listings.{listing_for};
 
 use book::parts;
 use book::parts::Part;
-use libc::{STDERR_FILENO, STDOUT_FILENO};
 use listing::Sheet;
+use std::env::{Env, FillError};
+use std::fs::File;
+use std::io::Read;
 
 // One byte more than the longest file has, so that a longer one is seen by its length, however long it is.
 const ROOM: usize = 65536;
+
+// Room for any file's name, and for the parts in which a long input is read.
+const NAME: usize = 4096;
+
+const PART: usize = 65536;
 
 // More reads than any input takes: a loop that reads to the end of an input has to end.
 const MOST_READS: u64 = 18_446_744_073_709_551_615;
@@ -61,32 +68,31 @@ pub enum Outcome {
 }
 
 // One read.
-fn read_some(fd: i32, buf: &mut [u8]) -> Input
+fn read_some(file: &mut impl Read, buf: &mut [u8]) -> Input
     ensures { Within result (length buf.old) }
 {
-    let got = libc::read(fd, buf);
-    if got < 0 {
-        return Input::Failed;
+    match file.read(buf) {
+        Ok(n) => Input::Bytes(n),
+        Err(_) => Input::Failed,
     }
-    Input::Bytes(io::count(got, buf))
 }
 
 // One read behind the bytes that have come, which stay as they were.
-fn read_after(fd: i32, buf: &mut [u8], done: usize) -> Input
+fn read_after(file: &mut impl Read, buf: &mut [u8], done: usize) -> Input
     requires { done ≤ length buf.old }
     ensures room { Within result (length buf.old - done) }
     ensures kept { take done buf.new ≡ take done buf.old }
 {
-    read_some(fd, &mut buf[done..])
+    read_some(file, &mut buf[done..])
 }
 
 // Reads until the buffer is full or the input ends. A pipe hands over what it has, so one read is not enough.
-fn read_whole(fd: i32, buf: &mut [u8]) -> Input
+fn read_whole(file: &mut impl Read, buf: &mut [u8]) -> Input
     ensures { Within result (length buf.new) }
 {
     let mut done: usize = 0;
     while done < buf.len() {
-        let Input::Bytes(n) = read_after(fd, buf, done) else {
+        let Input::Bytes(n) = read_after(file, buf, done) else {
             return Input::Failed;
         };
         if n == 0 {
@@ -112,115 +118,132 @@ fn list(files: Files, file: &[u8], out: &mut [u8]) -> usize
 }
 
 // Writes the listing of a file. Answers whether all of it was written. The buffer is for the longest listing of all, the kept lines of a spoiled book.
-fn write_listing(files: Files, file: &[u8]) -> bool {
+fn write_listing(rt: &impl Print, files: Files, file: &[u8]) -> bool {
     let mut out = [0u8; parts::KEPT];
     let n = list(files, file, &mut out);
-    io::write_all(STDOUT_FILENO, &out[..n])
+    rt.write_all(&out[..n]).is_ok()
 }
 
 // A file that is open. One that was read in part has no listing.
-pub fn list_open(fd: i32, files: Files) -> Outcome {
+pub fn list_open(rt: &impl Print, input: &mut impl Read, files: Files) -> Outcome {
     let mut file = [0u8; ROOM];
-    let Input::Bytes(n) = read_whole(fd, &mut file) else {
+    let Input::Bytes(n) = read_whole(input, &mut file) else {
         return Outcome::Unread;
     };
-    if write_listing(files, &file[..n]) {
+    if write_listing(rt, files, &file[..n]) {
         Outcome::Listed
     } else {
         Outcome::Unwritten
     }
 }
 
-fn say(program: &[u8], what: &[u8], name: &[u8]) {
-    io::write_all(STDERR_FILENO, program);
-    io::write_all(STDERR_FILENO, b": cannot ");
-    io::write_all(STDERR_FILENO, what);
-    io::write_all(STDERR_FILENO, name);
-    io::write_all(STDERR_FILENO, b"\n");
+// A line on standard error. Where that cannot be written, nothing is left to say it on.
+fn say(rt: &HostRuntime, program: &[u8], what: &[u8], name: &[u8]) {
+    let errors = rt.stderr();
+    let _ = errors.write_all(program);
+    let _ = errors.write_all(b": cannot ");
+    let _ = errors.write_all(what);
+    let _ = errors.write_all(name);
+    let _ = errors.write_all(b"\n");
 }
 
 // Says what went wrong. Answers whether to go on: where one listing could not be written, the next could not be either.
-pub fn report(program: &[u8], outcome: Outcome, name: &[u8]) -> bool {
+pub fn report(rt: &HostRuntime, program: &[u8], outcome: Outcome, name: &[u8]) -> bool {
     match outcome {
         Outcome::Listed => true,
         Outcome::Unread => {
-            say(program, b"read ", name);
+            say(rt, program, b"read ", name);
             true
         }
         Outcome::Unwritten => {
-            say(program, b"write the listing of ", name);
+            say(rt, program, b"write the listing of ", name);
             false
         }
     }
 }
 
 // The line with a file's name.
-fn write_heading(name: &[u8]) {
-    io::write_all(STDOUT_FILENO, name);
-    io::write_all(STDOUT_FILENO, b"\n");
+fn write_heading(rt: &impl Print, name: &[u8]) {
+    let _ = rt.write_all(name);
+    let _ = rt.write_all(b"\n");
 }
 
 // A file that is open, of any kind.
-fn print_open(fd: i32, kind: Kind) -> Outcome {
+fn print_open(rt: &impl Print, input: &mut impl Read, kind: Kind) -> Outcome {
     match kind {
-        Kind::Whole(files) => list_open(fd, files),
-        Kind::Archives => archive::report_open(fd),
-        Kind::Reports => sums::add_open(fd),
+        Kind::Whole(files) => list_open(rt, input, files),
+        Kind::Archives => archive::report_open(rt, input),
+        Kind::Reports => sums::add_open(rt, input),
     }
 }
 
-// Opens the file of that name, or says that it cannot be opened and answers a negative number.
-fn open_named(program: &[u8], name: &[u8]) -> i32 {
-    let fd = os::open_read(name);
-    if fd < 0 {
-        say(program, b"open ", name);
+// Opens the file of that name. One whose name is not UTF-8 cannot be opened: std takes no other name.
+fn open(rt: &HostRuntime, name: &[u8]) -> Option<File> {
+    let path = str::from_utf8(name).ok()?;
+    File::open(rt, path).ok()
+}
+
+// Opens the file of that name, or says that it cannot be opened.
+fn open_named(rt: &HostRuntime, program: &[u8], name: &[u8]) -> Option<File> {
+    let file = open(rt, name);
+    if file.is_none() {
+        say(rt, program, b"open ", name);
     }
-    fd
+    file
 }
 
 // The file of that name, under a line with the name where it is headed. Answers whether to go on.
-fn print_named(program: &[u8], headed: bool, kind: Kind, name: &[u8]) -> bool {
+fn print_named(rt: &HostRuntime, program: &[u8], headed: bool, kind: Kind, name: &[u8]) -> bool {
     if headed {
-        write_heading(name);
+        write_heading(rt, name);
     }
-    let fd = open_named(program, name);
-    if fd < 0 {
+    let Some(mut file) = open_named(rt, program, name) else {
         return true;
+    };
+    let outcome = print_open(rt, &mut file, kind);
+    report(rt, program, outcome, name)
+}
+
+// How many arguments there are, the program's own name among them.
+pub fn arg_count(rt: &impl Env) -> usize {
+    let mut first = [0u8; 1];
+    for i in 0..usize::MAX {
+        if let Err(FillError::NotPresent) = rt.arg(i, &mut first) {
+            return i;
+        }
     }
-    let outcome = print_open(fd, kind);
-    libc::close(fd);
-    report(program, outcome, name)
+    usize::MAX
 }
 
 // The name that is argument i, from the start of a lent buffer; how many bytes it has. A name that the buffer cannot hold is longer than any
 // file's: its first bytes fill the buffer, and they do not open either.
-fn name_of(i: usize, name: &mut [u8]) -> usize
+fn name_of(rt: &impl Env, i: usize, name: &mut [u8]) -> usize
     ensures { result ≤ length name.new }
 {
-    let n = os::arg(i, name);
-    if os::errno() == libc::ENAMETOOLONG {
-        return name.len();
+    match rt.arg(i, name) {
+        Ok(n) => n,
+        Err(FillError::TooLong) => name.len(),
+        Err(FillError::NotPresent) => 0,
     }
-    n
 }
 
 // The file that argument i names.
-fn print_argument(program: &[u8], headed: bool, kind: Kind, i: usize) -> bool {
-    let mut name = io::buffer();
-    let n = name_of(i, &mut name);
-    print_named(program, headed, kind, &name[..n])
+fn print_argument(rt: &HostRuntime, program: &[u8], headed: bool, kind: Kind, i: usize) -> bool {
+    let mut name = [0u8; NAME];
+    let n = name_of(rt, i, &mut name);
+    print_named(rt, program, headed, kind, &name[..n])
 }
 
 // The files that the arguments name, in turn. Argument 0 is the program's own name.
-pub fn print_arguments(program: &[u8], headed: bool, kind: Kind) {
-    let count = os::arg_count();
-    let mut i: usize = 1;
-    while i < count && print_argument(program, headed, kind, i) {
-        i += 1;
+pub fn print_arguments(rt: &HostRuntime, program: &[u8], headed: bool, kind: Kind) {
+    for i in 1..arg_count(rt) {
+        if !print_argument(rt, program, headed, kind, i) {
+            break;
+        }
     }
 }
 
 // The same of files that are read whole.
-pub fn list_arguments(program: &[u8], headed: bool, files: Files) {
-    print_arguments(program, headed, Kind::Whole(files));
+pub fn list_arguments(rt: &HostRuntime, program: &[u8], headed: bool, files: Files) {
+    print_arguments(rt, program, headed, Kind::Whole(files));
 }

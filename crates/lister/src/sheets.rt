@@ -4,21 +4,18 @@ ghost use Rattle.text.specs.Written.{Wrote};
 ghost use Rattle.sheet.specs.Answer.{answer_in};
 ghost use Rattle.lister.specs.Input.{Within};
 
-use crate::{Input, ROOM};
-use libc::STDOUT_FILENO;
+use crate::{Input, NAME, ROOM};
 
 // The file of that name, as much of it as the buffer holds. What cannot be opened or read is said.
-fn read_named(program: &[u8], name: &[u8], file: &mut [u8]) -> Input
+fn read_named(rt: &HostRuntime, program: &[u8], name: &[u8], file: &mut [u8]) -> Input
     ensures { Within result (length file.new) }
 {
-    let fd = crate::open_named(program, name);
-    if fd < 0 {
+    let Some(mut input) = crate::open_named(rt, program, name) else {
         return Input::Failed;
-    }
-    let came = crate::read_whole(fd, file);
-    libc::close(fd);
+    };
+    let came = crate::read_whole(&mut input, file);
     if let Input::Failed = came {
-        crate::say(program, b"read ", name);
+        crate::say(rt, program, b"read ", name);
     }
     came
 }
@@ -34,47 +31,53 @@ fn print(net: &[u8], listing: &[u8], out: &mut [u8]) -> usize
 }
 
 // Writes the answer. Answers whether all of it was written.
-fn write_answer(net: &[u8], listing: &[u8]) -> bool {
+fn write_answer(rt: &impl Print, net: &[u8], listing: &[u8]) -> bool {
     let mut out = [0u8; sheet::ANSWER];
     let n = print(net, listing, &mut out);
-    io::write_all(STDOUT_FILENO, &out[..n])
+    rt.write_all(&out[..n]).is_ok()
 }
 
 // The net and the sheet of these names. Where one of them cannot be read there is no answer. Answers whether to go on: where one answer could not be
 // written, the next could not be either.
-fn check_named(program: &[u8], net: &[u8], sheet: &[u8]) -> bool {
+fn check_named(rt: &HostRuntime, program: &[u8], net: &[u8], sheet: &[u8]) -> bool {
     let mut file = [0u8; ROOM];
     let mut listing = [0u8; ROOM];
-    let Input::Bytes(n) = read_named(program, net, &mut file) else {
+    let Input::Bytes(n) = read_named(rt, program, net, &mut file) else {
         return true;
     };
-    let Input::Bytes(m) = read_named(program, sheet, &mut listing) else {
+    let Input::Bytes(m) = read_named(rt, program, sheet, &mut listing) else {
         return true;
     };
-    let written = write_answer(&file[..n], &listing[..m]);
+    let written = write_answer(rt, &file[..n], &listing[..m]);
     if !written {
-        crate::say(program, b"write the answer to ", sheet);
+        crate::say(rt, program, b"write the answer to ", sheet);
     }
     written
 }
 
 // The net and the sheet that two arguments name, under a line with the sheet's name where it is headed.
-pub fn check_pair(program: &[u8], headed: bool, net: usize, sheet: usize) -> bool {
-    let mut net_name = io::buffer();
-    let mut sheet_name = io::buffer();
-    let n = crate::name_of(net, &mut net_name);
-    let m = crate::name_of(sheet, &mut sheet_name);
+pub fn check_pair(
+    rt: &HostRuntime,
+    program: &[u8],
+    headed: bool,
+    net: usize,
+    sheet: usize,
+) -> bool {
+    let mut net_name = [0u8; NAME];
+    let mut sheet_name = [0u8; NAME];
+    let n = crate::name_of(rt, net, &mut net_name);
+    let m = crate::name_of(rt, sheet, &mut sheet_name);
     if headed {
-        crate::write_heading(&sheet_name[..m]);
+        crate::write_heading(rt, &sheet_name[..m]);
     }
-    check_named(program, &net_name[..n], &sheet_name[..m])
+    check_named(rt, program, &net_name[..n], &sheet_name[..m])
 }
 
 // The nets and sheets that the arguments name by turns, each pair under the sheet's name. A net at the end, with no sheet behind it, is left out.
-pub fn check_arguments(program: &[u8]) {
-    let mut left = os::arg_count();
+pub fn check_arguments(rt: &HostRuntime, program: &[u8]) {
+    let mut left = crate::arg_count(rt);
     let mut i: usize = 1;
-    while 2 < left && check_pair(program, true, i, i + 1) {
+    while 2 < left && check_pair(rt, program, true, i, i + 1) {
         i += 2;
         left -= 2;
     }

@@ -2,17 +2,18 @@
 // listings follow each other.
 #![tactic(auto)]
 
-use libc::STDIN_FILENO;
 use lister::Files;
 
-fn main() {
-    if os::arg_count() < 2 {
+fn main(rt: HostRuntime) {
+    if lister::arg_count(&rt) < 2 {
+        let mut input = rt.stdin();
         lister::report(
+            &rt,
             b"means",
-            lister::list_open(STDIN_FILENO, Files::Books),
+            lister::list_open(&rt, &mut input, Files::Books),
             b"standard input",
         );
     } else {
-        lister::list_arguments(b"means", false, Files::Books);
+        lister::list_arguments(&rt, b"means", false, Files::Books);
     }
 }

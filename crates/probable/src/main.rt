@@ -2,17 +2,18 @@
 // and the listings follow each other, each with its E line.
 #![tactic(auto)]
 
-use libc::STDIN_FILENO;
 use lister::Files;
 
-fn main() {
-    if os::arg_count() < 2 {
+fn main(rt: HostRuntime) {
+    if lister::arg_count(&rt) < 2 {
+        let mut input = rt.stdin();
         lister::report(
+            &rt,
             b"probable",
-            lister::list_open(STDIN_FILENO, Files::NetworksWithErrors),
+            lister::list_open(&rt, &mut input, Files::NetworksWithErrors),
             b"standard input",
         );
     } else {
-        lister::list_arguments(b"probable", false, Files::NetworksWithErrors);
+        lister::list_arguments(&rt, b"probable", false, Files::NetworksWithErrors);
     }
 }

@@ -2,17 +2,18 @@
 // joined byte by byte.
 #![tactic(auto)]
 
-use libc::STDIN_FILENO;
 use lister::archive;
 
-fn main() {
-    if os::arg_count() < 2 {
+fn main(rt: HostRuntime) {
+    if lister::arg_count(&rt) < 2 {
+        let mut input = rt.stdin();
         lister::report(
+            &rt,
             b"report",
-            archive::report_open(STDIN_FILENO),
+            archive::report_open(&rt, &mut input),
             b"standard input",
         );
     } else {
-        archive::report_arguments(b"report");
+        archive::report_arguments(&rt, b"report");
     }
 }

@@ -2,17 +2,18 @@
 // lines that are kept of each follow each other.
 #![tactic(auto)]
 
-use libc::STDIN_FILENO;
 use lister::Files;
 
-fn main() {
-    if os::arg_count() < 2 {
+fn main(rt: HostRuntime) {
+    if lister::arg_count(&rt) < 2 {
+        let mut input = rt.stdin();
         lister::report(
+            &rt,
             b"rescue",
-            lister::list_open(STDIN_FILENO, Files::Rescued),
+            lister::list_open(&rt, &mut input, Files::Rescued),
             b"standard input",
         );
     } else {
-        lister::list_arguments(b"rescue", false, Files::Rescued);
+        lister::list_arguments(&rt, b"rescue", false, Files::Rescued);
     }
 }

@@ -4,7 +4,7 @@
 
 use lister::Files;
 
-fn main() {
-    lister::list_arguments(b"rescues", true, Files::Rescued);
-    lister::list_arguments(b"rescues", true, Files::Dropped);
+fn main(rt: HostRuntime) {
+    lister::list_arguments(&rt, b"rescues", true, Files::Rescued);
+    lister::list_arguments(&rt, b"rescues", true, Files::Dropped);
 }

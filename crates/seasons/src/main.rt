@@ -4,6 +4,6 @@
 
 use lister::Kind;
 
-fn main() {
-    lister::print_arguments(b"seasons", true, Kind::Archives);
+fn main(rt: HostRuntime) {
+    lister::print_arguments(&rt, b"seasons", true, Kind::Archives);
 }

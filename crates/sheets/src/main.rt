@@ -2,6 +2,6 @@
 // what that must be, worked out by the independent program (see `answers`).
 #![tactic(auto)]
 
-fn main() {
-    lister::sheets::check_arguments(b"sheets");
+fn main(rt: HostRuntime) {
+    lister::sheets::check_arguments(&rt, b"sheets");
 }

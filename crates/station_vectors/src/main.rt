@@ -10,13 +10,14 @@ const LEAST: i64 = -9_223_372_036_854_775_808;
 const MOST: i64 = 9_223_372_036_854_775_807;
 
 // An answer list, with the places behind what was lent of it.
-fn numbers(xs: &[i64; 17]) {
-    vectors::text(b";");
-    vectors::list(xs);
+fn numbers(rt: &impl Print, xs: &[i64; 17]) {
+    vectors::text(rt, b";");
+    vectors::list(rt, xs);
 }
 
 // Two sightings, the left face of the first object in position 1 at 0 and one that is given, in lists of these lengths.
 fn lend(
+    rt: &impl Print,
     first: i64,
     position: i64,
     object: i64,
@@ -45,40 +46,40 @@ fn lend(
         &mut direction[..directions],
         &mut pairs[..counts],
     );
-    vectors::told(reply);
-    numbers(&direction);
-    numbers(&pairs);
-    vectors::text(b"\n");
+    vectors::told(rt, reply);
+    numbers(rt, &direction);
+    numbers(rt, &pairs);
+    vectors::text(rt, b"\n");
 }
 
-fn main() {
+fn main(rt: HostRuntime) {
     // Accepted, in lists of one length; then 21, lists of unequal length.
-    lend(1, 1, 1, 1, 648000000, 2, 2, 2, 2, 16, 16);
-    lend(1, 1, 1, 1, 648000000, 1, 2, 2, 2, 16, 16);
-    lend(1, 1, 1, 1, 648000000, 2, 1, 2, 2, 16, 16);
-    lend(1, 1, 1, 1, 648000000, 2, 2, 1, 2, 16, 16);
-    lend(1, 1, 1, 1, 648000000, 2, 2, 2, 1, 16, 16);
-    lend(1, 1, 1, 1, 648000000, 2, 1, 1, 1, 16, 16);
-    lend(1, 1, 1, 1, 648000000, 1, 1, 1, 2, 16, 16);
-    lend(1, 1, 1, 1, 648000000, 0, 2, 2, 2, 16, 16);
+    lend(&rt, 1, 1, 1, 1, 648000000, 2, 2, 2, 2, 16, 16);
+    lend(&rt, 1, 1, 1, 1, 648000000, 1, 2, 2, 2, 16, 16);
+    lend(&rt, 1, 1, 1, 1, 648000000, 2, 1, 2, 2, 16, 16);
+    lend(&rt, 1, 1, 1, 1, 648000000, 2, 2, 1, 2, 16, 16);
+    lend(&rt, 1, 1, 1, 1, 648000000, 2, 2, 2, 1, 16, 16);
+    lend(&rt, 1, 1, 1, 1, 648000000, 2, 1, 1, 1, 16, 16);
+    lend(&rt, 1, 1, 1, 1, 648000000, 1, 1, 1, 2, 16, 16);
+    lend(&rt, 1, 1, 1, 1, 648000000, 0, 2, 2, 2, 16, 16);
     // 21: answer lists of other lengths than 16.
-    lend(1, 1, 1, 1, 648000000, 2, 2, 2, 2, 15, 16);
-    lend(1, 1, 1, 1, 648000000, 2, 2, 2, 2, 17, 16);
-    lend(1, 1, 1, 1, 648000000, 2, 2, 2, 2, 16, 15);
-    lend(1, 1, 1, 1, 648000000, 2, 2, 2, 2, 16, 17);
-    lend(1, 1, 1, 1, 648000000, 2, 2, 2, 2, 17, 17);
-    lend(1, 1, 1, 1, 648000000, 2, 2, 2, 2, 0, 0);
+    lend(&rt, 1, 1, 1, 1, 648000000, 2, 2, 2, 2, 15, 16);
+    lend(&rt, 1, 1, 1, 1, 648000000, 2, 2, 2, 2, 17, 16);
+    lend(&rt, 1, 1, 1, 1, 648000000, 2, 2, 2, 2, 16, 15);
+    lend(&rt, 1, 1, 1, 1, 648000000, 2, 2, 2, 2, 16, 17);
+    lend(&rt, 1, 1, 1, 1, 648000000, 2, 2, 2, 2, 17, 17);
+    lend(&rt, 1, 1, 1, 1, 648000000, 2, 2, 2, 2, 0, 0);
     // 22: the least and the greatest number, in each field.
-    lend(1, LEAST, 1, 1, 648000000, 2, 2, 2, 2, 16, 16);
-    lend(1, MOST, 1, 1, 648000000, 2, 2, 2, 2, 16, 16);
-    lend(LEAST, 1, 1, 1, 648000000, 2, 2, 2, 2, 16, 16);
-    lend(1, 1, MOST, 1, 648000000, 2, 2, 2, 2, 16, 16);
-    lend(1, 1, 1, LEAST, 648000000, 2, 2, 2, 2, 16, 16);
-    lend(1, 1, 1, MOST, 648000000, 2, 2, 2, 2, 16, 16);
-    lend(1, 1, 1, 1, LEAST, 2, 2, 2, 2, 16, 16);
-    lend(1, 1, 1, 1, MOST, 2, 2, 2, 2, 16, 16);
+    lend(&rt, 1, LEAST, 1, 1, 648000000, 2, 2, 2, 2, 16, 16);
+    lend(&rt, 1, MOST, 1, 1, 648000000, 2, 2, 2, 2, 16, 16);
+    lend(&rt, LEAST, 1, 1, 1, 648000000, 2, 2, 2, 2, 16, 16);
+    lend(&rt, 1, 1, MOST, 1, 648000000, 2, 2, 2, 2, 16, 16);
+    lend(&rt, 1, 1, 1, LEAST, 648000000, 2, 2, 2, 2, 16, 16);
+    lend(&rt, 1, 1, 1, MOST, 648000000, 2, 2, 2, 2, 16, 16);
+    lend(&rt, 1, 1, 1, 1, LEAST, 2, 2, 2, 2, 16, 16);
+    lend(&rt, 1, 1, 1, 1, MOST, 2, 2, 2, 2, 16, 16);
     // 23, 24 and 25 leave the answer lists alone too.
-    lend(1, 1, 1, 0, 648000000, 2, 2, 2, 2, 16, 16);
-    lend(2, 1, 2, 1, 648000000, 2, 2, 2, 2, 16, 16);
-    lend(1, 1, 1, 1, 648060001, 2, 2, 2, 2, 16, 16);
+    lend(&rt, 1, 1, 1, 0, 648000000, 2, 2, 2, 2, 16, 16);
+    lend(&rt, 2, 1, 2, 1, 648000000, 2, 2, 2, 2, 16, 16);
+    lend(&rt, 1, 1, 1, 1, 648060001, 2, 2, 2, 2, 16, 16);
 }

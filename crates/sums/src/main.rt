@@ -4,6 +4,6 @@
 
 use lister::Kind;
 
-fn main() {
-    lister::print_arguments(b"sums", true, Kind::Reports);
+fn main(rt: HostRuntime) {
+    lister::print_arguments(&rt, b"sums", true, Kind::Reports);
 }
