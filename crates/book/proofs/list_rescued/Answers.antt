@@ -1,6 +1,5 @@
 -- `book::list_rescued` meets its contract. Assumes nothing.
 use native.Mathlib.Omega.{arith}
-use borrow.Author.Rules.{rules}
 use Rattle.book.proofs.Judging.{no_rescue, rescue_printed}
 use Rattle.book.proofs.list_rescued.Goals as goal
 
@@ -15,4 +14,5 @@ returns-then-out-room_for c =
 pub returns : goal.returns
 returns c =
     let a = c.args in
-    rescue_printed a.part a.file.now a.out.now (omega (arith, c.if-out-room_for.false, c.room_for.ensures)) c.rescue-listed.ensures c.print.ensures
+    let p = rescue_printed a.part a.file.now a.out.now (omega (arith, c.if-out-room_for.false, c.room_for.ensures)) c.rescue-listed.ensures c.print.ensures in
+    record { listing = p.0; within = p.1 }

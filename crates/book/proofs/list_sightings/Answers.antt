@@ -1,6 +1,5 @@
 -- `book::list_sightings` meets its contract. Assumes nothing.
 use mathlib.Core.Path.{sym, ◌∙◌}
-use borrow.Author.Rules.{rules}
 use Rattle.text.proofs.Putting.{rewrote}
 use Rattle.page.proofs.Printing.{listed_refused, listed_accepted}
 use Rattle.book.proofs.Filing.{station_listed}

@@ -1,16 +1,11 @@
 -- `book::means` meets its contract: each return is one step of the fixed order of checks. Assumes nothing.
-use mathlib.Core.Path.{sym, subst}
-use mathlib.Core.List.{List}
-use Prim.Native.Nat.{ℕ, ◌≤◌}
+use mathlib.Core.Path.{subst}
 use native.Mathlib.Omega.{arith}
-use borrow.Author.Rules.{rules}
-use lib.ListN.{length}
-use lib.Seq.{length-take-le}
 use Rattle.book.specs.Inner.{Entered, EnteredAs}
 use Rattle.book.specs.declared.entries.Entries.{Entries}
 use Rattle.book.proofs.Filing.{too_short, too_long, broken, too_many, listed_as}
 use Rattle.book.proofs.means.Goals as goal
-use Rattle.book.proofs.means.Goals.{After-read-read, Else-n-gt-MOST, In-Sightings, Start}
+use Rattle.book.proofs.means.Goals.{In-Sightings}
 
 pub returns-then-out-lt-LISTING : goal.returns-then-out-lt-LISTING
 returns-then-out-lt-LISTING c = let a = c.args in too_short a.file.now a.out.now (omega (arith, c.if-out-lt-LISTING.true))
@@ -20,84 +15,22 @@ returns-then-file-gt-MOST_BYTES c =
     let a = c.args in
     too_long a.file.now a.out.now (omega (arith, c.if-out-lt-LISTING.false)) (omega (arith, c.if-file-gt-MOST_BYTES.true))
 
--- ---- what the lines say, in a buffer that has room
-module _ (r : After-read-read) where
-  abbrev start : Start
-  start = r.before.before.before.before.before.before.before.before.before.before
-
-  abbrev file : List ℕ
-  file = start.args.file.now
-
-  roomy : 1136 ≤ length start.args.out.now
-  roomy = omega arith
-
-  short : length file ≤ 65535
-  short = omega arith
-
 -- ---- a book whose lines are sightings
-module _ (c : In-Sightings) where
-  abbrev read : After-read-read
-  read = (record { before = c.before.before.before.before.before.before; type_inv = record { out = c.slice_known-1.given; file = c.shared_slice_known-1.given } })
-
-  abbrev n : ℕ
-  n = c.in-Sightings.n
-
-  entered : let lists = read.read-read.new.1 in Entered (file read) n lists.0 lists.1.0 lists.1.1.0 lists.1.1.1.0
-  entered =
-      let lists = read.read-read.new.1 in
-      subst (λ (e : Entries). EnteredAs (file read) e lists.0 lists.1.0 lists.1.1.0 lists.1.1.1.0) c.in-Sightings.is read.read-read.ensures
+entered : (c : In-Sightings) → let lists = c.read-read.new in Entered c.args.file.now c.in-Sightings.n lists.position lists.object lists.face lists.reading
+entered c =
+    let lists = c.read-read.new in
+    subst (λ (e : Entries). EnteredAs c.args.file.now e lists.position lists.object lists.face lists.reading) c.in-Sightings.is c.read-read.ensures
 
 pub returns-then-n-gt-MOST : goal.returns-then-n-gt-MOST
-returns-then-n-gt-MOST c = let r = read (record { before = c.before.before; type_inv = record { out = c.slice_known-1.given; file = c.shared_slice_known-1.given } }) in too_many (file r) (start r).args.out.now (roomy r) (short r) (entered (record { before = c.before.before; type_inv = record { out = c.slice_known-1.given; file = c.shared_slice_known-1.given } })) (omega (arith, c.if-n-gt-MOST.true))
-
--- and fit the lists
-module _ (c : Else-n-gt-MOST) where
-  few : n (record { before = c.before.before; type_inv = record { out = c.slice_known-1.given; file = c.shared_slice_known-1.given } }) ≤ 512
-  few = omega (arith, c.if-n-gt-MOST.false)
-
-  position_room : n (record { before = c.before.before; type_inv = record { out = c.slice_known-1.given; file = c.shared_slice_known-1.given } }) ≤ length (read (record { before = c.before.before; type_inv = record { out = c.slice_known-1.given; file = c.shared_slice_known-1.given } })).read-read.new.position
-  position_room = omega (arith, few, (read (record { before = c.before.before; type_inv = record { out = c.slice_known-1.given; file = c.shared_slice_known-1.given } })).read-read.auto.position)
-
-  object_room : n (record { before = c.before.before; type_inv = record { out = c.slice_known-1.given; file = c.shared_slice_known-1.given } }) ≤ length (read (record { before = c.before.before; type_inv = record { out = c.slice_known-1.given; file = c.shared_slice_known-1.given } })).read-read.new.object
-  object_room = omega (arith, few, (read (record { before = c.before.before; type_inv = record { out = c.slice_known-1.given; file = c.shared_slice_known-1.given } })).read-read.auto.object)
-
-  face_room : n (record { before = c.before.before; type_inv = record { out = c.slice_known-1.given; file = c.shared_slice_known-1.given } }) ≤ length (read (record { before = c.before.before; type_inv = record { out = c.slice_known-1.given; file = c.shared_slice_known-1.given } })).read-read.new.face
-  face_room = omega (arith, few, (read (record { before = c.before.before; type_inv = record { out = c.slice_known-1.given; file = c.shared_slice_known-1.given } })).read-read.auto.face)
-
-  reading_room : n (record { before = c.before.before; type_inv = record { out = c.slice_known-1.given; file = c.shared_slice_known-1.given } }) ≤ length (read (record { before = c.before.before; type_inv = record { out = c.slice_known-1.given; file = c.shared_slice_known-1.given } })).read-read.new.reading
-  reading_room = omega (arith, few, (read (record { before = c.before.before; type_inv = record { out = c.slice_known-1.given; file = c.shared_slice_known-1.given } })).read-read.auto.reading)
-
-pub slice_bounds-position-end : goal.slice_bounds-position-end
-slice_bounds-position-end c = position_room c
-
-pub slice_bounds-list_sightings-end : goal.slice_bounds-list_sightings-end
-slice_bounds-list_sightings-end c = sym (length-take-le _ _ (position_room (record { before = c.before.before; type_inv = record { out = c.slice_known-1.given; file = c.shared_slice_known-1.given } })))
-
-pub slice_bounds-object-end : goal.slice_bounds-object-end
-slice_bounds-object-end c = object_room (record { before = c.before.before; type_inv = record { out = c.slice_known-1.given; file = c.shared_slice_known-1.given } })
-
-pub slice_bounds-list_sightings-end-in-Sightings : goal.slice_bounds-list_sightings-end-in-Sightings
-slice_bounds-list_sightings-end-in-Sightings c = sym (length-take-le _ _ (object_room (record { before = c.before.before.before; type_inv = record { out = c.slice_known-1.given; file = c.shared_slice_known-1.given } })))
-
-pub slice_bounds-face-end : goal.slice_bounds-face-end
-slice_bounds-face-end c = face_room (record { before = c.before.before.before; type_inv = record { out = c.slice_known-1.given; file = c.shared_slice_known-1.given } })
-
-pub slice_bounds-list_sightings-end-in-Sightings-2 : goal.slice_bounds-list_sightings-end-in-Sightings-2
-slice_bounds-list_sightings-end-in-Sightings-2 c = sym (length-take-le _ _ (face_room (record { before = c.before.before.before.before; type_inv = record { out = c.slice_known-1.given; file = c.shared_slice_known-1.given } })))
-
-pub slice_bounds-reading-end : goal.slice_bounds-reading-end
-slice_bounds-reading-end c = reading_room (record { before = c.before.before.before.before; type_inv = record { out = c.slice_known-1.given; file = c.shared_slice_known-1.given } })
-
-pub slice_bounds-list_sightings-end-in-Sightings-3 : goal.slice_bounds-list_sightings-end-in-Sightings-3
-slice_bounds-list_sightings-end-in-Sightings-3 c = sym (length-take-le _ _ (reading_room (record { before = c.before.before.before.before.before; type_inv = record { out = c.slice_known-1.given; file = c.shared_slice_known-1.given } })))
+returns-then-n-gt-MOST c =
+    too_many c.args.file.now c.args.out.now (omega arith) (omega arith) (entered (goal.at.returns-then-n-gt-MOST c).In-Sightings) (omega (arith, c.if-n-gt-MOST.true))
 
 pub returns-in-Broken : goal.returns-in-Broken
 returns-in-Broken c =
-    let r : After-read-read = record { before = c.before.before.before.before.before.before; type_inv = record { out = c.slice_known-1.given; file = c.shared_slice_known-1.given } } in let lists = r.read-read.new.1 in
-    broken (file r) (start r).args.out.now (roomy r) (short r) c.in-Broken.line
-    (subst (λ (e : Entries). EnteredAs (file r) e lists.0 lists.1.0 lists.1.1.0 lists.1.1.1.0) c.in-Broken.is r.read-read.ensures)
+    let file = c.args.file.now in let lists = c.read-read.new in
+    broken file c.args.out.now (omega arith) (omega arith) c.in-Broken.line
+    (subst (λ (e : Entries). EnteredAs file e lists.position lists.object lists.face lists.reading) c.in-Broken.is c.read-read.ensures)
 
 pub returns-else-n-gt-MOST : goal.returns-else-n-gt-MOST
 returns-else-n-gt-MOST c =
-    let e : Else-n-gt-MOST = record { before = c.before.before.before.before.before.before.before.before.before; type_inv = record { out = c.slice_known-1.given; file = c.shared_slice_known-1.given } } in let r = read (record { before = e.before.before; type_inv = record { out = e.slice_known-1.given; file = e.shared_slice_known-1.given } }) in
-    listed_as (file r) (start r).args.out.now (roomy r) (short r) (entered (record { before = e.before.before; type_inv = record { out = e.slice_known-1.given; file = e.shared_slice_known-1.given } })) (few e) c.list_sightings.ensures
+    listed_as c.args.file.now c.args.out.now (omega arith) (omega arith) (entered (goal.at.returns-else-n-gt-MOST c).In-Sightings) (omega (arith, c.if-n-gt-MOST.false)) c.list_sightings.ensures

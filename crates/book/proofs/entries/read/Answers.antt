@@ -2,11 +2,10 @@
 use mathlib.Core.Path.{◌≡◌, refl, sym, ◌∙◌, subst}
 use mathlib.Core.List.{List}
 use mathlib.Core.Option.{some}
-use Prim.Native.Nat.{ℕ, ◌+◌, ◌-◌, ◌<◌}
+use Prim.Native.Nat.{ℕ, ◌+◌, ◌<◌}
 use native.Mathlib.Omega.{arith}
-use borrow.Author.Rules.{rules}
 use lib.IntN.{ℤ, pos}
-use lib.ListN.{length, get_or, set, take}
+use lib.ListN.{get_or, set, take}
 use Rattle.text.specs.Parts.{place_from}
 use Rattle.text.specs.Lines.{LF, line_no}
 use Rattle.text.specs.Rows.{behind_at}
@@ -15,7 +14,7 @@ use Rattle.text.proofs.Lettering.{behind_told, no_behind_told}
 use Rattle.book.specs.Lines.{letter_S, sighting_of}
 use Rattle.book.proofs.Entering.{Begun, begun_none, no_sighting, sighting, all_begun, Column, column_none, column_more, column_all}
 use Rattle.book.proofs.entries.read.Goals as goal
-use Rattle.book.proofs.entries.read.Goals.{After-read_behind-end, After-reading-1, At-loop-start, In_default}
+use Rattle.book.proofs.entries.read.Goals.{In-Next}
 
 pub loop-start-init : goal.loop-start-init
 loop-start-init c =
@@ -26,77 +25,69 @@ pub read_behind-end-requires : goal.read_behind-end-requires
 read_behind-end-requires c = let v = c.loop-start.invariant in (omega arith, v.1.0.reached.within, omega arith, omega arith, omega (arith, v.0))
 
 -- ---- a line that is no sighting
-module _ (c : In_default) where
-  abbrev broken : At-loop-start
-  broken = (record { before = c.before.before.before.before.before.before; type_inv = record { file = c.shared_slice_known-1.given } })
-
 pub overflow_add-result : goal.overflow_add-result
-overflow_add-result c = let b = (broken c).loop-start.invariant.1.0.reached in omega (arith, b.few, b.within)
+overflow_add-result c = let b = c.loop-start.invariant.1.0.reached in omega (arith, b.few, b.within)
 
 pub shape_of-position-in_default : goal.shape_of-position-in_default
-shape_of-position-in_default c = let l = broken c in l.loop-start.invariant.1.1.0.room ∙ sym l.requires.1
+shape_of-position-in_default c = c.loop-start.invariant.1.1.0.room ∙ sym c.requires.1
 
 pub shape_of-object-in_default : goal.shape_of-object-in_default
-shape_of-object-in_default c = let l = broken c in l.loop-start.invariant.1.1.1.0.room ∙ sym l.requires.2
+shape_of-object-in_default c = c.loop-start.invariant.1.1.1.0.room ∙ sym c.requires.2
 
 pub shape_of-face-in_default : goal.shape_of-face-in_default
-shape_of-face-in_default c = let l = broken c in l.loop-start.invariant.1.1.1.1.0.room ∙ sym l.requires.3
+shape_of-face-in_default c = c.loop-start.invariant.1.1.1.1.0.room ∙ sym c.requires.3
 
 pub shape_of-reading-in_default : goal.shape_of-reading-in_default
-shape_of-reading-in_default c = let l = broken c in l.loop-start.invariant.1.1.1.1.1.room ∙ sym l.requires.4
+shape_of-reading-in_default c = c.loop-start.invariant.1.1.1.1.1.room ∙ sym c.requires.4
 
 pub returns-in_default : goal.returns-in_default
 returns-in_default c =
-    let l = broken c in
-    no_sighting l.args.file.now l.loop-start.invariant.1.0 (omega arith) (no_behind_told 11 _ _ _ _ (sym c.read_behind-end.ensures.end ∙ c.in_default.is))
+    no_sighting c.args.file.now c.loop-start.invariant.1.0 (omega arith) (no_behind_told 11 _ _ _ _ (sym c.read_behind-end.ensures.end ∙ c.in_default.is))
 
 pub enter-requires : goal.enter-requires
 enter-requires c =
     let v = c.loop-start.invariant in
     (v.1.1.0.room, v.1.1.1.0.room, v.1.1.1.1.0.room, v.1.1.1.1.1.room, c.read_behind-end.ensures.long ∙ v.0)
 
-module _ (c : After-reading-1) where
-  abbrev answered : After-read_behind-end
-  answered = (record { before = c.before.before.before.before.before.before.before.before.before.before.before.before.before; type_inv = record { file = c.shared_slice_known-1.given } })
-
-  abbrev turn : At-loop-start
-  turn = (record { before = answered.before.before.before.before; type_inv = record { file = answered.shared_slice_known-1.given } })
-
+-- ---- a sighting
+module _ (c : In-Next) where
   abbrev file : List ℕ
-  file = turn.args.file.now
+  file = c.args.file.now
 
   abbrev fields : List ℤ
-  fields = answered.read_behind-end.new.x
+  fields = c.read_behind-end.new.x
 
   abbrev next : ℕ
   next = c.in-Next.next
 
-  told : (behind_at file turn.loop-start.start letter_S 4 ≡ some (take 4 fields)) × (next ≡ place_from LF file turn.loop-start.start + 1)
+  told : (behind_at file c.loop-start.start letter_S 4 ≡ some (take 4 fields)) × (next ≡ place_from LF file c.loop-start.start + 1)
   told =
-      behind_told 11 file turn.loop-start.start letter_S 4 next (take 4 fields)
-      (sym answered.read_behind-end.ensures.end ∙ c.in-Next.is) answered.read_behind-end.ensures.values
+      behind_told 11 file c.loop-start.start letter_S 4 next (take 4 fields)
+      (sym c.read_behind-end.ensures.end ∙ c.in-Next.is) c.read_behind-end.ensures.values
 
-  on : (sighting_of (line_no file turn.loop-start.n) ≡ some (take 4 fields)) × Begun file (place_from LF file turn.loop-start.start + 1) (turn.loop-start.n + 1)
-  on = sighting file turn.loop-start.invariant.1.0 (take 4 fields) told.0
+  on : (sighting_of (line_no file c.loop-start.n) ≡ some (take 4 fields)) × Begun file (place_from LF file c.loop-start.start + 1) (c.loop-start.n + 1)
+  on = sighting file c.loop-start.invariant.1.0 (take 4 fields) told.0
 
-  entered : {k : ℕ} {xs ys : List ℤ} → Column file k turn.loop-start.n xs → ys ≡ set xs turn.loop-start.n (get_or fields k (pos 0)) → k < 4 → Column file k (turn.loop-start.n + 1) ys
-  entered {k} col e l = subst (Column file k (turn.loop-start.n + 1)) (sym e) (column_more file k col fields (take 4 fields) on.0 refl l)
+  entered : {k : ℕ} {xs ys : List ℤ} → Column file k c.loop-start.n xs → ys ≡ set xs c.loop-start.n (get_or fields k (pos 0)) → k < 4 → Column file k (c.loop-start.n + 1) ys
+  entered {k} col e l = subst (Column file k (c.loop-start.n + 1)) (sym e) (column_more file k col fields (take 4 fields) on.0 refl l)
 
 pub overflow_add-n : goal.overflow_add-n
-overflow_add-n c = let b = (turn c).loop-start.invariant.1.0.reached in omega (arith, b.few, b.within)
+overflow_add-n c = let b = c.loop-start.invariant.1.0.reached in omega (arith, b.few, b.within)
 
 pub loop-start-smaller : goal.loop-start-smaller
-loop-start-smaller c = omega (arith, (told c).1, (on c).1.reached.within, place_after LF (file c) (turn c).loop-start.start)
+loop-start-smaller c =
+    let turn = (goal.at.loop-start-smaller c).In-Next in
+    omega (arith, (told turn).1, (on turn).1.reached.within, place_after LF (file turn) c.loop-start.start)
 
 pub loop-start-preserved : goal.loop-start-preserved
 loop-start-preserved c =
-    let v = (turn c).loop-start.invariant in let e = c.enter.ensures in (
-      (answered c).read_behind-end.ensures.long ∙ v.0,
+    let turn = (goal.at.loop-start-preserved c).In-Next in let v = c.loop-start.invariant in let e = c.enter.ensures in (
+      c.read_behind-end.ensures.long ∙ v.0,
       (
-        subst (λ (p : ℕ). Begun (file c) p ((turn c).loop-start.n + 1)) (sym (told c).1) (on c).1,
+        subst (λ (p : ℕ). Begun (file turn) p (c.loop-start.n + 1)) (sym (told turn).1) (on turn).1,
         (
-          entered c v.1.1.0 e.0 (omega arith),
-          (entered c v.1.1.1.0 e.1.0 (omega arith), (entered c v.1.1.1.1.0 e.1.1.0 (omega arith), entered c v.1.1.1.1.1 e.1.1.1 (omega arith))),
+          entered turn v.1.1.0 e.position (omega arith),
+          (entered turn v.1.1.1.0 e.object (omega arith), (entered turn v.1.1.1.1.0 e.face (omega arith), entered turn v.1.1.1.1.1 e.reading (omega arith))),
         ),
       ),
     )

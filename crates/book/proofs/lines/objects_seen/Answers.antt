@@ -1,18 +1,20 @@
 -- `book::lines::objects_seen` meets its contract: n counts the objects seen before j. Assumes nothing.
 use mathlib.Core.Path.{◌≡◌, sym, ◌∙◌, ap}
 use mathlib.Core.Bool.{true, false}
-use mathlib.Core.Logic.{⊎_elim}
-use Prim.Native.Nat.{ℕ, ◌+◌, ◌-◌, ◌≤◌}
+use Prim.Native.Nat.{ℕ, ◌+◌}
 use native.Mathlib.Nat.{add-zero}
 use native.Mathlib.Omega.{arith}
 use borrow.Author.Rules.{rules}
 use lib.IntN.{pos}
 use lib.ListN.{get_or}
 use lib.Signed.{lt_z}
-use Rattle.exact.proofs.Bound.{read_at}
+use mir.Syntax.{w64}
+use mir.Val.{SFits}
+use Rattle.exact.proofs.Bound.{read}
 use Rattle.book.specs.Listing.{objects_seen}
 use Rattle.book.proofs.Composing.{seen_none, seen_more, seen_few}
 use Rattle.book.proofs.lines.objects_seen.Goals as goal
+use Rattle.book.proofs.lines.objects_seen.Goals.{then-pairs-j-gt0, else-pairs-j-gt0}
 
 pub loop-j-init : goal.loop-j-init
 loop-j-init c = (omega arith, sym (seen_none c.args.pairs.now))
@@ -23,12 +25,13 @@ overflow_add-n c = omega (arith, c.loop-j.invariant.1, c.loop-j.invariant.0, see
 pub loop-j-preserved : goal.loop-j-preserved
 loop-j-preserved c =
     let pairs = c.args.pairs.now in let j = c.loop-j.j in
-    let test = ap (lt_z (pos 0)) (sym (read_at (get_or pairs j (pos 0)) c.t7-1.given)) in (
+    let fit : SFits w64 (get_or pairs j (pos 0)) = search rules in
+    let test = ap (lt_z (pos 0)) (sym (read fit)) in (
       omega arith,
-      ⊎_elim
-          (λ w. w.1 ∙ ap (λ (n : ℕ). n + 1) c.loop-j.invariant.1 ∙ sym (seen_more pairs j true (test ∙ w.0.taken)))
-          (λ w. w.1 ∙ c.loop-j.invariant.1 ∙ sym (seen_more pairs j false (test ∙ w.0.left) ∙ add-zero (objects_seen pairs j)))
-          c.if-pairs-j-gt0.branch,
+      elim c.if-pairs-j-gt0.branch [
+        | then-pairs-j-gt0 w ↦ w.n-is ∙ ap (λ (n : ℕ). n + 1) c.loop-j.invariant.1 ∙ sym (seen_more pairs j true (test ∙ w.if-pairs-j-gt0.true))
+        | else-pairs-j-gt0 w ↦ w.n-is ∙ c.loop-j.invariant.1 ∙ sym (seen_more pairs j false (test ∙ w.if-pairs-j-gt0.false) ∙ add-zero (objects_seen pairs j))
+      ],
     )
 
 pub returns : goal.returns

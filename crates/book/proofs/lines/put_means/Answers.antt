@@ -1,7 +1,6 @@
 -- `book::lines::put_means` meets its contract. Assumes nothing.
 use mathlib.Core.Path.{ap}
 use native.Mathlib.Omega.{arith}
-use borrow.Author.Rules.{rules}
 use Rattle.text.proofs.Putting.{Come, then, rewrote, come_within}
 use Rattle.page.proofs.Composing.{heading_most}
 use Rattle.book.specs.Listing.{sta_line}

@@ -1,8 +1,7 @@
 -- `book::lines::put_objects` meets its contract. Assumes nothing.
 use mathlib.Core.Path.{subst}
-use Prim.Native.Nat.{ℕ, ◌-◌, ◌≤◌}
+use Prim.Native.Nat.{ℕ}
 use native.Mathlib.Omega.{arith}
-use borrow.Author.Rules.{rules}
 use Rattle.text.specs.Written.{in_order, Wrote}
 use Rattle.text.proofs.Putting.{wrote_length, lines_none, lines_on_lem, lines_room}
 use Rattle.book.specs.Listing.{object_line}

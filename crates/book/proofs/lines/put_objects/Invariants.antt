@@ -1,12 +1,7 @@
 -- `book::lines::put_objects` meets its contract. Assumes nothing.
-use mathlib.Core.Path.{subst}
-use Prim.Native.Nat.{ℕ, ◌-◌, ◌≤◌}
-use native.Mathlib.Omega.{arith}
-use borrow.Author.Rules.{rules}
+use Prim.Native.Nat.{◌-◌, ◌≤◌}
 use Rattle.text.specs.Written.{in_order, Wrote}
-use Rattle.text.proofs.Putting.{wrote_length, lines_none, lines_on_lem, lines_room}
 use Rattle.book.specs.Listing.{object_line}
-use Rattle.book.proofs.Composing.{object_most}
 use Rattle.book.proofs.lines.put_objects.Given as goal
 
 abbrev pub invariant-loop-j : goal.invariant-loop-j

@@ -1,7 +1,6 @@
 -- `book::parts::put` meets its contract. Assumes nothing.
 use mathlib.Core.Path.{sym, ◌∙◌, ap}
 use native.Mathlib.Omega.{arith}
-use borrow.Author.Rules.{rules}
 use Rattle.text.proofs.Putting.{rewrote}
 use Rattle.book.specs.declared.parts.Part.{Part}
 use Rattle.book.specs.Rescue.{room_for, part_of}

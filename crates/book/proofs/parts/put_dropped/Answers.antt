@@ -1,16 +1,15 @@
 -- `book::parts::put_dropped` meets its contract: the lines of the sightings before h have been written. Assumes nothing.
 use mathlib.Core.Path.{sym, subst}
 use mathlib.Core.List.{[]}
-use mathlib.Core.Logic.{⊎_elim}
-use Prim.Native.Nat.{ℕ, ◌+◌, ◌-◌, ◌≤◌}
+use Prim.Native.Nat.{ℕ, ◌+◌}
 use native.Mathlib.Omega.{arith}
-use borrow.Author.Rules.{rules}
 use lib.ListN.{length, get_or}
 use Rattle.text.specs.Written.{in_order, Wrote}
 use Rattle.text.proofs.Putting.{wrote_length, rewrote, word_none, lines_none, lines_on_lem, room_within}
 use Rattle.book.specs.Rescue.{dropped_by}
 use Rattle.book.proofs.Parting.{x_most, dropped_line_lem, dropped_none, dropped_most}
 use Rattle.book.proofs.parts.put_dropped.Goals as goal
+use Rattle.book.proofs.parts.put_dropped.Goals.{then-why-ne0, else-why-ne0}
 
 pub loop-h-init : goal.loop-h-init
 loop-h-init c = (omega arith, lines_none c.args.out.now 0 _)
@@ -31,10 +30,10 @@ pub loop-h-preserved : goal.loop-h-preserved
 loop-h-preserved c =
     let xs = c.args.reason.now in let h = c.loop-h.h in (
       omega (arith, c.loop-h-test.true),
-      ⊎_elim
-          (λ w. rw (w.5, w.6) (lines_on_lem h (dropped_by xs) c.loop-h.invariant.1 (rewrote (sym (dropped_line_lem xs h w.0.taken)) w.2.ensures)))
-          (λ w. rw (w.1, w.2) (lines_on_lem h (dropped_by xs) c.loop-h.invariant.1 (rewrote (sym (dropped_none xs h w.0.left)) (word_none _ [] _))))
-          c.if-why-ne0.branch,
+      elim c.if-why-ne0.branch [
+        | then-why-ne0 w ↦ rw (w.out-is, w.next-is) (lines_on_lem h (dropped_by xs) c.loop-h.invariant.1 (rewrote (sym (dropped_line_lem xs h w.if-why-ne0.true)) w.put_line-next.ensures))
+        | else-why-ne0 w ↦ rw (w.out-is, w.next-is) (lines_on_lem h (dropped_by xs) c.loop-h.invariant.1 (rewrote (sym (dropped_none xs h w.if-why-ne0.false)) (word_none _ [] _)))
+      ],
     )
 
 pub shape_of-out : goal.shape_of-out

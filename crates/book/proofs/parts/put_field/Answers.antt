@@ -1,5 +1,4 @@
 -- `book::parts::put_field` meets its contract. Assumes nothing.
-use borrow.Author.Rules.{rules}
 use Rattle.text.proofs.Putting.{then}
 use Rattle.book.proofs.parts.put_field.Goals as goal
 

@@ -1,10 +1,8 @@
 -- `book::parts::put_kept` meets its contract: the kept ones of the lines before h have been written, and line h begins at `start`. Assumes nothing.
 use mathlib.Core.Path.{◌≡◌, sym, ◌∙◌, ap, subst}
 use mathlib.Core.List.{List, [], ◌++◌}
-use mathlib.Core.Logic.{⊎_elim}
-use Prim.Native.Nat.{ℕ, ◌+◌, ◌-◌, ◌<◌, ◌≤◌}
+use Prim.Native.Nat.{ℕ, ◌+◌, ◌-◌, ◌<◌}
 use native.Mathlib.Omega.{arith}
-use borrow.Author.Rules.{rules}
 use lib.ListN.{length, take, drop, length-append}
 use Rattle.text.specs.Parts.{place_from}
 use Rattle.text.specs.Lines.{LF, line_no}
@@ -15,71 +13,63 @@ use Rattle.text.proofs.Stepping.{Reached, reached_none, line_cut, line_here, end
 use Rattle.book.specs.Rescue.{kept_by}
 use Rattle.book.proofs.Parting.{kept_line_lem, kept_none, kept_most}
 use Rattle.book.proofs.parts.put_kept.Goals as goal
-use Rattle.book.proofs.parts.put_kept.Goals.{After-place_from-end, At-loop-h, Start}
+use Rattle.book.proofs.parts.put_kept.Goals.{After-place_from-end, then-reason-h-eq0, else-reason-h-eq0}
 
 pub loop-h-init : goal.loop-h-init
 loop-h-init c = let a = c.args in (omega arith, (reached_none a.file.now, lines_none a.out.now 0 _))
 
 -- ---- the line at the start
 module _ (c : After-place_from-end) where
-  abbrev turn : At-loop-h
-  turn = (record { before = c.before.before.before; type_inv = record { reason = c.shared_slice_known-2-1.given; file = c.shared_slice_known-1.given } })
-
-  abbrev begin : Start
-  begin = turn.before.before.before.before.before
-
   abbrev file : List ℕ
-  file = begin.args.file.now
+  file = c.args.file.now
 
-  abbrev reasons : List ℕ
-  reasons = begin.args.reason.now
+  ends : place_from LF file c.loop-h.start < length file
+  ends = end_within file c.loop-h.invariant.1.0 (omega (arith, c.loop-h-test.true, c.requires.2))
 
-  ends : place_from LF file turn.loop-h.start < length file
-  ends = end_within file turn.loop-h.invariant.1.0 (omega (arith, c.loop-h-test.true, begin.requires.2))
-
-  cut : take (c.place_from-end.result + 1 - turn.loop-h.start) (drop turn.loop-h.start file) ≡ line_no file turn.loop-h.h ++ line_end
+  cut : take (c.place_from-end.result + 1 - c.loop-h.start) (drop c.loop-h.start file) ≡ line_no file c.loop-h.h ++ line_end
   cut =
-      ap (λ (e : ℕ). take (e + 1 - turn.loop-h.start) (drop turn.loop-h.start file)) c.place_from-end.ensures
-      ∙ line_cut file turn.loop-h.start ends
-      ∙ ap (λ (line : List ℕ). line ++ line_end) (sym (line_here file turn.loop-h.invariant.1.0 ends))
+      ap (λ (e : ℕ). take (e + 1 - c.loop-h.start) (drop c.loop-h.start file)) c.place_from-end.ensures
+      ∙ line_cut file c.loop-h.start ends
+      ∙ ap (λ (line : List ℕ). line ++ line_end) (sym (line_here file c.loop-h.invariant.1.0 ends))
 
-  on : Reached file (c.place_from-end.result + 1) (turn.loop-h.h + 1)
-  on = subst (λ (e : ℕ). Reached file (e + 1) (turn.loop-h.h + 1)) (sym c.place_from-end.ensures) (reached_more file turn.loop-h.invariant.1.0 ends)
+  on : Reached file (c.place_from-end.result + 1) (c.loop-h.h + 1)
+  on = subst (λ (e : ℕ). Reached file (e + 1) (c.loop-h.h + 1)) (sym c.place_from-end.ensures) (reached_more file c.loop-h.invariant.1.0 ends)
 
 pub overflow_add-end : goal.overflow_add-end
 overflow_add-end c = omega (arith, ends c, c.place_from-end.ensures)
 
 pub slice_bounds-put_word-count : goal.slice_bounds-put_word-count
-slice_bounds-put_word-count c = let p : After-place_from-end = record { before = c.before.before.before.before; type_inv = record { reason = c.shared_slice_known-2-1.given; file = c.shared_slice_known-1.given } } in omega (arith, p.place_from-end.ensures, place_after LF (file p) (turn p).loop-h.start)
+slice_bounds-put_word-count c = omega (arith, c.place_from-end.ensures, place_after LF c.args.file.now c.loop-h.start)
 
 pub slice_bounds-put_word-start : goal.slice_bounds-put_word-start
-slice_bounds-put_word-start c = let p : After-place_from-end = record { before = c.before.before.before.before; type_inv = record { reason = c.shared_slice_known-2-1.given; file = c.shared_slice_known-1.given } } in omega (arith, p.place_from-end.ensures, place_after LF (file p) (turn p).loop-h.start)
+slice_bounds-put_word-start c = omega (arith, c.place_from-end.ensures, place_after LF c.args.file.now c.loop-h.start)
 
 pub slice_bounds-put_word-end : goal.slice_bounds-put_word-end
-slice_bounds-put_word-end c = let p : After-place_from-end = record { before = c.before.before.before.before; type_inv = record { reason = c.shared_slice_known-2-1.given; file = c.shared_slice_known-1.given } } in omega (arith, p.place_from-end.ensures, ends p)
+slice_bounds-put_word-end c = omega (arith, c.place_from-end.ensures, ends (goal.at.slice_bounds-put_word-end c).After-place_from-end)
 
 pub put_word-next-requires : goal.put_word-next-requires
 put_word-next-requires c =
-    let p : After-place_from-end = record { before = c.before.before.before.before.before; type_inv = record { reason = c.shared_slice_known-2-1.given; file = c.shared_slice_known-1.given } } in let l = turn p in let s = begin p in let n = length (reasons p) in let line = line_no (file p) l.loop-h.h in
-    let taken = p.loop-h-test.true in
-    rw (cut p)
+    let file = c.args.file.now in let reasons = c.args.reason.now in let line = line_no file c.loop-h.h in
+    let taken = c.loop-h-test.true in
+    rw (cut (goal.at.put_word-next-requires c).After-place_from-end)
     (omega (
       arith,
       length-append line line_end,
-      s.requires.3 l.loop-h.h (omega (arith, taken, s.requires.2)),
-      room_within n l.loop-h.h 21 (kept_by (file p) (reasons p)) (λ j m. kept_most (file p) (reasons p) j (s.requires.3 j (omega (arith, m, s.requires.2)))) (omega (arith, s.requires.0, s.requires.1)) taken l.loop-h.invariant.1.1,
+      c.requires.3 c.loop-h.h (omega (arith, taken, c.requires.2)),
+      room_within (length reasons) c.loop-h.h 21 (kept_by file reasons) (λ j m. kept_most file reasons j (c.requires.3 j (omega (arith, m, c.requires.2)))) (omega (arith, c.requires.0, c.requires.1)) taken c.loop-h.invariant.1.1,
     ))
 
 pub loop-h-preserved : goal.loop-h-preserved
 loop-h-preserved c =
-    let p : After-place_from-end = record { before = c.before.before.before; type_inv = record { reason = c.shared_slice_known-2-1.given; file = c.shared_slice_known-1.given } } in let l = turn p in let h = l.loop-h.h in let lines = kept_by (file p) (reasons p) in (
-      omega (arith, p.loop-h-test.true),
+    let line = (goal.at.loop-h-preserved c).After-place_from-end in
+    let file = c.args.file.now in let reasons = c.args.reason.now in let h = c.loop-h.h in let lines = kept_by file reasons in (
+      omega (arith, c.loop-h-test.true),
       (
-        on p,
-        ⊎_elim
-            (λ w. rw (w.6, w.7) (lines_on_lem h lines l.loop-h.invariant.1.1 (rewrote (cut p ∙ sym (kept_line_lem (file p) (reasons p) h w.0.taken)) w.3.ensures)))
-            (λ w. rw (w.1, w.2) (lines_on_lem h lines l.loop-h.invariant.1.1 (rewrote (sym (kept_none (file p) (reasons p) h w.0.left)) (word_none _ [] _))))
-            c.if-reason-h-eq0.branch,
+        on line,
+        elim c.if-reason-h-eq0.branch [
+          | then-reason-h-eq0 w ↦ rw (w.out-is, w.next-is) (lines_on_lem h lines c.loop-h.invariant.1.1 (rewrote (cut line ∙ sym (kept_line_lem file reasons h w.if-reason-h-eq0.true)) w.put_word-next.ensures))
+          | else-reason-h-eq0 w ↦ rw (w.out-is, w.next-is) (lines_on_lem h lines c.loop-h.invariant.1.1 (rewrote (sym (kept_none file reasons h w.if-reason-h-eq0.false)) (word_none _ [] _)))
+        ],
       ),
     )
 

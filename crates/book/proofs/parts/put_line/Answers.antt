@@ -1,6 +1,5 @@
 -- `book::parts::put_line` meets its contract. Assumes nothing.
 use native.Mathlib.Omega.{arith}
-use borrow.Author.Rules.{rules}
 use Rattle.text.proofs.Putting.{then, wrote_length}
 use Rattle.book.proofs.Parting.{x_long}
 use Rattle.book.proofs.parts.put_line.Goals as goal

@@ -1,6 +1,5 @@
 -- `book::parts::room_for` meets its contract. Assumes nothing.
 use mathlib.Core.Path.{sym, ap}
-use borrow.Author.Rules.{rules}
 use Rattle.book.specs.Rescue.{room_for}
 use Rattle.book.proofs.parts.room_for.Goals as goal
 

@@ -1,107 +1,37 @@
 -- `book::spoiled::judge` meets its contract: each return is one step of the fixed order of checks. Assumes nothing.
 use mathlib.Core.Path.{sym, subst}
-use mathlib.Core.List.{List}
-use Prim.Native.Nat.{ℕ, ◌≤◌}
 use native.Mathlib.Omega.{arith}
-use borrow.Author.Rules.{rules}
-use lib.ListN.{length}
-use lib.Seq.{length-take-le}
 use Rattle.book.specs.Inner.{Entered, EnteredAs}
 use Rattle.book.specs.Rescue.{JudgedAs}
 use Rattle.book.specs.declared.entries.Entries.{Entries}
 use Rattle.book.specs.declared.spoiled.Judged.{Judged}
 use Rattle.book.proofs.Judging.{judged_long, judged_broken, judged_many, judged_as}
 use Rattle.book.proofs.spoiled.judge.Goals as goal
-use Rattle.book.proofs.spoiled.judge.Goals.{After-read-read, Else-n-gt-MOST, In-Sightings, Start}
+use Rattle.book.proofs.spoiled.judge.Goals.{In-Sightings}
 
 pub returns-then-file-gt-MOST_BYTES : goal.returns-then-file-gt-MOST_BYTES
 returns-then-file-gt-MOST_BYTES c =
     subst (λ (j : Judged). JudgedAs c.args.file.now j c.args.reason.now) (sym c.refused.ensures) (judged_long c.args.file.now c.requires (omega (arith, c.if-file-gt-MOST_BYTES.true)))
 
--- ---- what the lines say
-module _ (r : After-read-read) where
-  abbrev start : Start
-  start = r.before.before.before.before.before.before.before.before.before
-
-  abbrev file : List ℕ
-  file = start.args.file.now
-
-  short : length file ≤ 65535
-  short = omega arith
-
 -- ---- a book whose lines are sightings
-module _ (c : In-Sightings) where
-  abbrev read : After-read-read
-  read = (record { before = c.before.before.before.before.before.before; type_inv = record { reason = c.slice_known-1.given; file = c.shared_slice_known-1.given } })
-
-  abbrev n : ℕ
-  n = c.in-Sightings.n
-
-  entered : let lists = read.read-read.new.1 in Entered (file read) n lists.0 lists.1.0 lists.1.1.0 lists.1.1.1.0
-  entered =
-      let lists = read.read-read.new.1 in
-      subst (λ (e : Entries). EnteredAs (file read) e lists.0 lists.1.0 lists.1.1.0 lists.1.1.1.0) c.in-Sightings.is read.read-read.ensures
+entered : (c : In-Sightings) → let lists = c.read-read.new in Entered c.args.file.now c.in-Sightings.n lists.position lists.object lists.face lists.reading
+entered c =
+    let lists = c.read-read.new in
+    subst (λ (e : Entries). EnteredAs c.args.file.now e lists.position lists.object lists.face lists.reading) c.in-Sightings.is c.read-read.ensures
 
 pub returns-then-n-gt-MOST : goal.returns-then-n-gt-MOST
 returns-then-n-gt-MOST c =
-    let k : In-Sightings = record { before = c.before.before.before; type_inv = record { reason = c.slice_known-1.given; file = c.shared_slice_known-1.given } } in let r = read k in
-    subst (λ (j : Judged). JudgedAs (file r) j (start r).args.reason.now) (sym c.refused-then-n-gt-MOST.ensures) (judged_many (file r) (short r) (entered k) (start r).requires (omega (arith, c.if-n-gt-MOST.true)))
-
--- and fit the lists
-module _ (c : Else-n-gt-MOST) where
-  few : n (record { before = c.before.before; type_inv = record { reason = c.slice_known-1.given; file = c.shared_slice_known-1.given } }) ≤ 512
-  few = omega (arith, c.if-n-gt-MOST.false)
-
-  position_room : n (record { before = c.before.before; type_inv = record { reason = c.slice_known-1.given; file = c.shared_slice_known-1.given } }) ≤ length (read (record { before = c.before.before; type_inv = record { reason = c.slice_known-1.given; file = c.shared_slice_known-1.given } })).read-read.new.position
-  position_room = omega (arith, few, (read (record { before = c.before.before; type_inv = record { reason = c.slice_known-1.given; file = c.shared_slice_known-1.given } })).read-read.auto.position)
-
-  object_room : n (record { before = c.before.before; type_inv = record { reason = c.slice_known-1.given; file = c.shared_slice_known-1.given } }) ≤ length (read (record { before = c.before.before; type_inv = record { reason = c.slice_known-1.given; file = c.shared_slice_known-1.given } })).read-read.new.object
-  object_room = omega (arith, few, (read (record { before = c.before.before; type_inv = record { reason = c.slice_known-1.given; file = c.shared_slice_known-1.given } })).read-read.auto.object)
-
-  face_room : n (record { before = c.before.before; type_inv = record { reason = c.slice_known-1.given; file = c.shared_slice_known-1.given } }) ≤ length (read (record { before = c.before.before; type_inv = record { reason = c.slice_known-1.given; file = c.shared_slice_known-1.given } })).read-read.new.face
-  face_room = omega (arith, few, (read (record { before = c.before.before; type_inv = record { reason = c.slice_known-1.given; file = c.shared_slice_known-1.given } })).read-read.auto.face)
-
-  reading_room : n (record { before = c.before.before; type_inv = record { reason = c.slice_known-1.given; file = c.shared_slice_known-1.given } }) ≤ length (read (record { before = c.before.before; type_inv = record { reason = c.slice_known-1.given; file = c.shared_slice_known-1.given } })).read-read.new.reading
-  reading_room = omega (arith, few, (read (record { before = c.before.before; type_inv = record { reason = c.slice_known-1.given; file = c.shared_slice_known-1.given } })).read-read.auto.reading)
-
-  reason_room : n (record { before = c.before.before; type_inv = record { reason = c.slice_known-1.given; file = c.shared_slice_known-1.given } }) ≤ length (start (read (record { before = c.before.before; type_inv = record { reason = c.slice_known-1.given; file = c.shared_slice_known-1.given } }))).args.reason.now
-  reason_room = omega (arith, few, (start (read (record { before = c.before.before; type_inv = record { reason = c.slice_known-1.given; file = c.shared_slice_known-1.given } }))).requires)
-
-pub slice_bounds-position-end : goal.slice_bounds-position-end
-slice_bounds-position-end c = position_room c
-
-pub slice_bounds-judge-end : goal.slice_bounds-judge-end
-slice_bounds-judge-end c = sym (length-take-le _ _ (position_room (record { before = c.before.before; type_inv = record { reason = c.slice_known-1.given; file = c.shared_slice_known-1.given } })))
-
-pub slice_bounds-object-end : goal.slice_bounds-object-end
-slice_bounds-object-end c = object_room (record { before = c.before.before; type_inv = record { reason = c.slice_known-1.given; file = c.shared_slice_known-1.given } })
-
-pub slice_bounds-judge-end-in-Sightings : goal.slice_bounds-judge-end-in-Sightings
-slice_bounds-judge-end-in-Sightings c = sym (length-take-le _ _ (object_room (record { before = c.before.before.before; type_inv = record { reason = c.slice_known-1.given; file = c.shared_slice_known-1.given } })))
-
-pub slice_bounds-face-end : goal.slice_bounds-face-end
-slice_bounds-face-end c = face_room (record { before = c.before.before.before; type_inv = record { reason = c.slice_known-1.given; file = c.shared_slice_known-1.given } })
-
-pub slice_bounds-judge-end-in-Sightings-2 : goal.slice_bounds-judge-end-in-Sightings-2
-slice_bounds-judge-end-in-Sightings-2 c = sym (length-take-le _ _ (face_room (record { before = c.before.before.before.before; type_inv = record { reason = c.slice_known-1.given; file = c.shared_slice_known-1.given } })))
-
-pub slice_bounds-reading-end : goal.slice_bounds-reading-end
-slice_bounds-reading-end c = reading_room (record { before = c.before.before.before.before; type_inv = record { reason = c.slice_known-1.given; file = c.shared_slice_known-1.given } })
-
-pub slice_bounds-judge-end-in-Sightings-3 : goal.slice_bounds-judge-end-in-Sightings-3
-slice_bounds-judge-end-in-Sightings-3 c = sym (length-take-le _ _ (reading_room (record { before = c.before.before.before.before.before; type_inv = record { reason = c.slice_known-1.given; file = c.shared_slice_known-1.given } })))
-
-pub slice_bounds-judge-end-in-Sightings-5 : goal.slice_bounds-judge-end-in-Sightings-5
-slice_bounds-judge-end-in-Sightings-5 c = sym (length-take-le _ _ (reason_room (record { before = c.before.before.before.before.before.before; type_inv = record { reason = c.slice_known-1.given; file = c.shared_slice_known-1.given } })))
+    let file = c.args.file.now in
+    subst (λ (j : Judged). JudgedAs file j c.args.reason.now) (sym c.refused-then-n-gt-MOST.ensures)
+    (judged_many file (omega arith) (entered (goal.at.returns-then-n-gt-MOST c).In-Sightings) c.requires (omega (arith, c.if-n-gt-MOST.true)))
 
 pub returns-in-Broken : goal.returns-in-Broken
 returns-in-Broken c =
-    let r : After-read-read = record { before = c.before.before.before.before.before.before.before; type_inv = record { reason = c.slice_known-1.given; file = c.shared_slice_known-1.given } } in let lists = r.read-read.new.1 in
-    subst (λ (j : Judged). JudgedAs (file r) j (start r).args.reason.now) (sym c.refused-in-Broken.ensures)
-    (judged_broken (file r) (short r) c.in-Broken.line (start r).requires
-    (subst (λ (e : Entries). EnteredAs (file r) e lists.0 lists.1.0 lists.1.1.0 lists.1.1.1.0) c.in-Broken.is r.read-read.ensures))
+    let file = c.args.file.now in let lists = c.read-read.new in
+    subst (λ (j : Judged). JudgedAs file j c.args.reason.now) (sym c.refused-in-Broken.ensures)
+    (judged_broken file (omega arith) c.in-Broken.line c.requires
+    (subst (λ (e : Entries). EnteredAs file e lists.position lists.object lists.face lists.reading) c.in-Broken.is c.read-read.ensures))
 
 pub returns-else-n-gt-MOST : goal.returns-else-n-gt-MOST
 returns-else-n-gt-MOST c =
-    let e : Else-n-gt-MOST = record { before = c.before.before.before.before.before.before.before.before.before; type_inv = record { reason = c.slice_known-1.given; file = c.shared_slice_known-1.given } } in let k : In-Sightings = record { before = e.before.before; type_inv = record { reason = e.slice_known-1.given; file = e.shared_slice_known-1.given } } in let r = read k in
-    judged_as (file r) (short r) (entered k) (start r).args.reason.now (start r).requires (few e) c.judge-reply.auto.reason c.judge-reply.ensures
+    judged_as c.args.file.now (omega arith) (entered (goal.at.returns-else-n-gt-MOST c).In-Sightings) c.args.reason.now c.requires (omega (arith, c.if-n-gt-MOST.false)) c.judge-reply.auto.reason c.judge-reply.ensures
