@@ -15,9 +15,15 @@ read-requires c =
 pub returns-then-begins : goal.returns-then-begins
 unfolding row_end
 returns-then-begins c =
-    rw (heading_row c.args.listing.now (sym c.begins.ensures ∙ c.if-begins.true)) (c.read.ensures.end, c.read.ensures.values)
+    let row = heading_row c.args.listing.now (sym c.begins.ensures ∙ c.if-begins.true) in record {
+      end = rw row c.read.ensures.end;
+      values = rw row c.read.ensures.values;
+    }
 
 pub returns : goal.returns
 unfolding end_of row_values
 returns c =
-    rw (no_heading c.args.listing.now (sym c.begins.ensures ∙ c.if-begins.false)) (refl, refl)
+    let none = no_heading c.args.listing.now (sym c.begins.ensures ∙ c.if-begins.false) in record {
+      end = rw none;
+      values = rw none;
+    }
