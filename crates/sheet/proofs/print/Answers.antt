@@ -1,6 +1,5 @@
 -- `print` meets its contract. Assumes nothing.
 use native.Mathlib.Omega.{arith}
-use borrow.Author.Rules.{rules}
 use Rattle.sheet.proofs.Promising.{no_answer, answered}
 use Rattle.sheet.proofs.print.Goals as goal
 

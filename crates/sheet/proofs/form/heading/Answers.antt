@@ -1,7 +1,6 @@
 -- `form::heading` meets its contract. Assumes nothing.
-use mathlib.Core.Path.{refl, sym, ◌∙◌}
+use mathlib.Core.Path.{sym, ◌∙◌}
 use native.Mathlib.Omega.{arith}
-use borrow.Author.Rules.{rules}
 use Rattle.text.specs.Rows.{row_end, row_values, end_of}
 use Rattle.text.proofs.Parting.{begins_length}
 use Rattle.sheet.specs.Form.{adj_head}
