@@ -4,7 +4,7 @@ use mathlib.Core.List.{List, [], ◌∷◌}
 use mathlib.Core.Bool.{Bool, cond}
 use Prim.Native.Nat.{ℕ, ◌+◌, ◌-◌, ◌≤◌, ◌<◌}
 use native.Mathlib.Omega.{arith}
-use borrow.Author.Tests.{eq-eqb, ne_eqb, not-true, not-false}
+use borrow.Author.Tests.{eq-eqb, ne_eqb}
 use borrow.Author.Rules.{rules}
 use lib.ListN.{length-drop, length, take, drop}
 use Rattle.totals.proofs.Totalling.{report_length}
@@ -71,7 +71,7 @@ shape_of-totals-then-not-count c = let e : After-count = record { before = c.bef
 
 pub returns-then-not-count : goal.returns-then-not-count
 returns-then-not-count c =
-    let e : After-count = record { before = c.before.before.before.before; type_inv = record { archive = c.shared_slice_known-1.given } } in let p = turn_past (here e) e.count.ensures.fits (counted e) (not-true e.count.result c.if-not-count.true) in record {
+    let e : After-count = record { before = c.before.before.before.before; type_inv = record { archive = c.shared_slice_known-1.given } } in let p = turn_past (here e) e.count.ensures.fits (counted e) c.if-not-count.true in record {
       reply = sym p.0;
       list = p.1;
     }
@@ -85,7 +85,7 @@ loop-stop-smaller c = let e : After-count = record { before = c.before.before.be
 pub loop-stop-preserved : goal.loop-stop-preserved
 loop-stop-preserved c =
     let e : After-count = record { before = c.before.before.before.before.before; type_inv = record { archive = c.shared_slice_known-1.given } } in
-    (subst Roomy (sym (counted e)) (roomy e), turn_fits (here e) e.count.ensures.fits (counted e) (share_is (net e)) (not-false e.count.result c.if-not-count.false), (closed e).0, c.next_stop-stop-in-loop-stop.ensures)
+    (subst Roomy (sym (counted e)) (roomy e), turn_fits (here e) e.count.ensures.fits (counted e) (share_is (net e)) c.if-not-count.false, (closed e).0, c.next_stop-stop-in-loop-stop.ensures)
 
 pub count-requires-then-start-archive : goal.count-requires-then-start-archive
 count-requires-then-start-archive c =
@@ -129,7 +129,7 @@ shape_of-totals-then-not-count-2 c = sixteen2 (record { before = c.before.before
 
 pub returns-then-not-count-2 : goal.returns-then-not-count-2
 returns-then-not-count-2 c =
-    let e : After-count-then-start-archive = record { before = c.before.before.before.before; type_inv = record { archive = c.shared_slice_known-1.given } } in let p = turn_past (here2 e) e.count-then-start-archive.ensures.fits (counted2 e) (not-true e.count-then-start-archive.result c.if-not-count-2.true) in record {
+    let e : After-count-then-start-archive = record { before = c.before.before.before.before; type_inv = record { archive = c.shared_slice_known-1.given } } in let p = turn_past (here2 e) e.count-then-start-archive.ensures.fits (counted2 e) c.if-not-count-2.true in record {
       reply = sym p.0;
       list = p.1;
     }
@@ -139,7 +139,7 @@ shape_of-totals-else-not-count-2 c = sixteen2 (record { before = c.before.before
 
 pub returns-else-not-count-2 : goal.returns-else-not-count-2
 returns-else-not-count-2 c =
-    let e : After-count-then-start-archive = record { before = c.before.before.before.before; type_inv = record { archive = c.shared_slice_known-1.given } } in let p = leads_end (turn_fits (here2 e) e.count-then-start-archive.ensures.fits (counted2 e) left_is (not-false e.count-then-start-archive.result c.if-not-count-2.false)) in record {
+    let e : After-count-then-start-archive = record { before = c.before.before.before.before; type_inv = record { archive = c.shared_slice_known-1.given } } in let p = leads_end (turn_fits (here2 e) e.count-then-start-archive.ensures.fits (counted2 e) left_is c.if-not-count-2.false) in record {
       reply = sym p.1;
       list = p.0;
     }

@@ -10,25 +10,19 @@ use Rattle.reply.specs.declared.Reply.TheVariants.{Accepted}
 use Rattle.season.proofs.Numbering.{few_refused, few_table}
 use Rattle.season.proofs.Sharing.{share_refused, share_tabled}
 use Rattle.season.proofs.net.share.Goals as goal
-use Rattle.season.proofs.net.share.Goals.{After-table-tabled, In-Refused, In-Refused-2, In_default, Start}
+use Rattle.season.proofs.net.share.Goals.{After-table-tabled, In_default, Start}
 
 abbrev start : After-table-tabled → Start
 start t = t.before.before.before.before.before.before.before.before
 
 -- ---- a net whose table is refused
-module _ (c : In-Refused-2) where
-  abbrev refused : After-table-tabled
-  refused = (record { before = c.before.before.before.before.before.before.before; type_inv = record { net = c.shared_slice_known-1.given } })
-
 pub under-requires : goal.under-requires
 under-requires c =
-    let r : In-Refused-2 = record { before = c.before.before; type_inv = record { net = c.shared_slice_known-1.given } } in let t = refused r in
-    omega (arith, few_refused (few_table (start t).args.net.now) (sym t.table-tabled.ensures.answer ∙ r.in-Refused.is), c.number.ensures)
+    omega (arith, few_refused (few_table c.args.net.now) (sym c.table-tabled.ensures.answer ∙ c.in-Refused.is), c.number.ensures)
 
 pub returns-in-Refused : goal.returns-in-Refused
 returns-in-Refused c =
-    let r : In-Refused = record { before = c.before.before.before; type_inv = record { net = c.shared_slice_known-1.given } } in let t = refused r in
-    share_refused (start t).args.net.now r.in-Refused.why (sym t.table-tabled.ensures.answer ∙ r.in-Refused.is) c.number.ensures c.under.ensures
+    share_refused c.args.net.now c.in-Refused.why (sym c.table-tabled.ensures.answer ∙ c.in-Refused.is) c.number.ensures c.under.ensures
 
 -- ---- the table of another
 module _ (c : In_default) where
@@ -104,8 +98,8 @@ slice_bounds-table_share-end-5 c = sym (length-take-le _ _ (letters_long (record
 pub table_share-requires : goal.table_share-requires
 table_share-requires c =
     let e : In_default = record { before = c.before.before.before.before.before.before; type_inv = record { net = c.shared_slice_known-1.given } } in let t = (tabled e).table-tabled.new in
-    let ds = length-take-le (m e) t.1.0 (directions_long e) in let ws = length-take-le (n e) t.1.1.1.1.0 (closings_long e) in
-    let ls = length-take-le (n e) t.1.1.1.1.1.0 (letters_long e) in
+    let ds = length-take-le (m e) t.directions (directions_long e) in let ws = length-take-le (n e) t.w (closings_long e) in
+    let ls = length-take-le (n e) t.letters (letters_long e) in
     (omega (arith, ds, m_most e), omega (arith, ws, n_most e), ls ∙ sym ws)
 
 pub returns : goal.returns
