@@ -1,6 +1,5 @@
 -- `season::report` meets its contract. Assumes nothing.
 use native.Mathlib.Omega.{arith}
-use borrow.Author.Rules.{rules}
 use Rattle.season.proofs.Promising.{short_reports, long_reports}
 use Rattle.season.proofs.report.Goals as goal
 

@@ -5,7 +5,6 @@ use mathlib.Core.Bool.{Bool, cond}
 use Prim.Native.Nat.{ℕ, ◌+◌, ◌-◌, ◌≤◌, ◌<◌}
 use native.Mathlib.Omega.{arith}
 use borrow.Author.Tests.{eq-eqb, ne_eqb}
-use borrow.Author.Rules.{rules}
 use lib.ListN.{length-drop, length, take, drop}
 use Rattle.totals.proofs.Totalling.{report_length}
 use Rattle.totals.specs.Totals.{report_of}

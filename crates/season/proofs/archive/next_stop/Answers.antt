@@ -1,13 +1,9 @@
 -- `season::archive::next_stop` meets its contract: the lines passed so far belong to the first part. Assumes nothing.
-use mathlib.Core.Path.{◌≡◌, sym, ◌∙◌}
-use Prim.Native.Nat.{◌+◌, ◌-◌}
+use mathlib.Core.Path.{sym, ◌∙◌}
 use native.Mathlib.Omega.{arith}
-use borrow.Author.Rules.{rules}
-use lib.ListN.{length}
 use Rattle.text.specs.Lines.{LF}
-use Rattle.text.specs.Parts.{place_from}
 use Rattle.text.proofs.Parting.{place_after}
-use Rattle.season.proofs.Walking.{Walked, walked_none, walked_more, walked_stop, walked_end}
+use Rattle.season.proofs.Walking.{walked_none, walked_more, walked_stop, walked_end}
 use Rattle.season.proofs.archive.next_stop.Goals as goal
 
 pub loop-end-init : goal.loop-end-init

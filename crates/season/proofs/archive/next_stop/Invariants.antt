@@ -1,13 +1,10 @@
 -- `season::archive::next_stop` meets its contract: the lines passed so far belong to the first part. Assumes nothing.
-use mathlib.Core.Path.{◌≡◌, sym, ◌∙◌}
+use mathlib.Core.Path.{◌≡◌}
 use Prim.Native.Nat.{◌+◌, ◌-◌}
-use native.Mathlib.Omega.{arith}
-use borrow.Author.Rules.{rules}
 use lib.ListN.{length}
 use Rattle.text.specs.Lines.{LF}
 use Rattle.text.specs.Parts.{place_from}
-use Rattle.text.proofs.Parting.{place_after}
-use Rattle.season.proofs.Walking.{Walked, walked_none, walked_more, walked_stop, walked_end}
+use Rattle.season.proofs.Walking.{Walked}
 use Rattle.season.proofs.archive.next_stop.Given as goal
 
 abbrev pub invariant-loop-end : goal.invariant-loop-end

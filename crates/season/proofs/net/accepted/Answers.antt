@@ -1,6 +1,5 @@
 -- `season::net::accepted` meets its contract. Assumes nothing.
 use mathlib.Core.Path.{sym, ◌∙◌}
-use borrow.Author.Rules.{rules}
 use Rattle.season.proofs.Sharing.{figures_shared, figures_apart}
 use Rattle.season.proofs.net.accepted.Goals as goal
 

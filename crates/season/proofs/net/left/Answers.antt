@@ -1,5 +1,4 @@
 -- `season::net::left` meets its contract. Assumes nothing.
-use borrow.Author.Rules.{rules}
 use Rattle.season.specs.Share.{left_share}
 use Rattle.season.proofs.net.left.Goals as goal
 

@@ -1,5 +1,4 @@
 -- `season::net::long` meets its contract. Assumes nothing.
-use borrow.Author.Rules.{rules}
 use Rattle.season.specs.Share.{long_share}
 use Rattle.season.proofs.net.long.Goals as goal
 

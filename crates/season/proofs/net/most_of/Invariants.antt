@@ -1,12 +1,8 @@
 -- `season::net::most_of` meets its contract. Assumes nothing.
-use mathlib.Core.Path.{◌≡◌, sym, ◌∙◌, ap}
-use mathlib.Core.Logic.{⊎_elim}
-use Prim.Native.Nat.{ℕ, ◌-◌, ◌≤◌}
-use native.Mathlib.Omega.{arith}
-use borrow.Author.Rules.{rules}
+use mathlib.Core.Path.{◌≡◌}
+use Prim.Native.Nat.{◌-◌, ◌≤◌}
 use lib.ListN.{length}
 use Rattle.season.specs.Share.{most_to, size_at}
-use Rattle.season.proofs.Sharing.{most_none, most_larger, most_not}
 use Rattle.season.proofs.net.most_of.Given as goal
 
 abbrev pub invariant-loop-j : goal.invariant-loop-j

@@ -1,7 +1,6 @@
 -- `season::net::reply_to` meets its contract. Assumes nothing.
 use mathlib.Core.Path.{sym}
 use native.Mathlib.Omega.{arith}
-use borrow.Author.Rules.{rules}
 use lib.Seq.{length-take-le}
 use Rattle.listing.proofs.Tabling.{answered}
 use Rattle.season.proofs.net.reply_to.Goals as goal

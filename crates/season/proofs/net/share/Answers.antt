@@ -1,12 +1,9 @@
 -- `season::net::share` meets its contract. Assumes nothing.
-use mathlib.Core.Path.{◌≡◌, sym, ◌∙◌}
+use mathlib.Core.Path.{sym, ◌∙◌}
 use Prim.Native.Nat.{ℕ, ◌*◌, ◌≤◌}
 use native.Mathlib.Nat.{mul-le-mul}
 use native.Mathlib.Omega.{arith}
-use borrow.Author.Rules.{rules}
-use lib.ListN.{length}
 use lib.Seq.{length-take-le}
-use Rattle.reply.specs.declared.Reply.TheVariants.{Accepted}
 use Rattle.season.proofs.Numbering.{few_refused, few_table}
 use Rattle.season.proofs.Sharing.{share_refused, share_tabled}
 use Rattle.season.proofs.net.share.Goals as goal

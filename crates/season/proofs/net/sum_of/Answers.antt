@@ -1,8 +1,7 @@
 -- `season::net::sum_of` meets its contract. Assumes nothing.
 use mathlib.Core.Path.{◌≡◌, sym, ◌∙◌, ap, ap₂}
-use Prim.Native.Nat.{ℕ, ◌+◌, ◌-◌, ◌≤◌}
+use Prim.Native.Nat.{ℕ, ◌+◌}
 use native.Mathlib.Omega.{arith}
-use borrow.Author.Rules.{rules}
 use lib.ListN.{length}
 use Rattle.season.specs.Share.{sum_to, size_at}
 use Rattle.season.proofs.Sharing.{sum_none, sum_more, sum_most, size_most}

@@ -1,15 +1,9 @@
 -- `season::net::table_share` meets its contract. Assumes nothing.
-use mathlib.Core.Path.{◌≡◌, sym, ◌∙◌, ap}
-use mathlib.Core.List.{List}
+use mathlib.Core.Path.{sym, ◌∙◌, ap}
 use Prim.Native.Nat.{ℕ, ◌*◌}
 use native.Mathlib.Omega.{arith}
-use borrow.Author.Rules.{rules}
 use lib.ListN.{length}
-use Rattle.reply.specs.declared.Reply.{Reply}
-use Rattle.reply.specs.declared.Reply.TheVariants.{Accepted}
-use Rattle.adjustment.specs.Promise.{adjust_reply}
 use Rattle.adjustment.proofs.Promising.{accepted_passed}
-use Rattle.listing.specs.File.{room}
 use Rattle.season.specs.Share.{figures}
 use Rattle.season.proofs.Numbering.{few_refused, few_adjust}
 use Rattle.season.proofs.Sharing.{refused_share, accepted_share}

@@ -1,5 +1,4 @@
 -- `season::net::under` meets its contract. Assumes nothing.
-use borrow.Author.Rules.{rules}
 use Rattle.season.proofs.Sharing.{under_is}
 use Rattle.season.proofs.net.under.Goals as goal
 

@@ -1,9 +1,5 @@
 -- `season::stream::begin` meets its contract. Assumes nothing.
-use mathlib.Core.Path.{◌≡◌, sym, ◌∙◌}
-use mathlib.Core.Bool.{false}
-use borrow.Author.Rules.{rules}
-use lib.ListN.{length}
-use Rattle.season.specs.Stream.{lengths_amiss}
+use mathlib.Core.Path.{sym, ◌∙◌}
 use Rattle.season.proofs.Promising.{lengths_known, refused_begins, begun}
 use Rattle.season.proofs.stream.begin.Goals as goal
 

@@ -1,9 +1,6 @@
 -- `season::stream::check` meets its contract. Assumes nothing.
-use mathlib.Core.Path.{◌≡◌, sym, ◌∙◌, ap}
-use mathlib.Core.Bool.{false}
-use borrow.Author.Rules.{rules}
-use lib.ListN.{length}
-use Rattle.season.specs.Stream.{lengths_amiss, place_reply}
+use mathlib.Core.Path.{sym, ◌∙◌, ap}
+use Rattle.season.specs.Stream.{place_reply}
 use Rattle.season.proofs.Promising.{by_lengths, lengths_known, by_totals, by_place}
 use Rattle.season.proofs.stream.check.Goals as goal
 

@@ -3,7 +3,6 @@ use mathlib.Core.Path.{sym, ◌∙◌, ap, subst}
 use mathlib.Core.Bool.{Bool, cond}
 use mathlib.Core.List.{List}
 use Prim.Native.Nat.{ℕ}
-use borrow.Author.Rules.{rules}
 use Rattle.season.specs.Stream.{place_at, counted_in, past_after}
 use Rattle.season.specs.Inner.{IsShare}
 use Rattle.season.proofs.Streaming.{open_is}

@@ -1,12 +1,10 @@
 -- `season::stream::end` meets its contract. Assumes nothing.
 use mathlib.Core.Path.{◌≡◌, sym, ◌∙◌, ap}
 use borrow.Author.Tests.{eq-eqb, ne_eqb}
-use borrow.Author.Rules.{rules}
-use Rattle.reply.specs.declared.Reply.TheVariants.{Accepted}
-use Rattle.season.specs.Stream.{place_of, place_list, ended_totals, ended_place, state_reply}
+use Rattle.season.specs.Stream.{place_of, place_list, ended_totals, ended_place}
 use Rattle.season.specs.Promise.{past_reply}
 use Rattle.season.specs.declared.stream.Place.{Place}
-use Rattle.season.proofs.Promising.{Passed, passed_state, refused_ends, ends}
+use Rattle.season.proofs.Promising.{passed_state, refused_ends, ends}
 use Rattle.season.proofs.stream.end.Goals as goal
 
 pub returns-in-Refused : goal.returns-in-Refused

@@ -1,12 +1,10 @@
 -- `season::stream::feed` meets its contract: the bytes left, fed to the state as it is, give what all bytes give. Assumes nothing.
-use mathlib.Core.Path.{◌≡◌, refl, sym, ◌∙◌, ap, subst}
-use Prim.Native.Nat.{◌+◌, ◌-◌}
-use native.Mathlib.Omega.{arith}
-use borrow.Author.Rules.{rules}
-use lib.ListN.{length, get_or, drop}
+use mathlib.Core.Path.{◌≡◌}
+use Prim.Native.Nat.{◌-◌}
+use lib.ListN.{length, drop}
 use Rattle.totals.specs.Promise.{most_total}
-use Rattle.season.specs.Stream.{Stream, stream, fed}
-use Rattle.season.proofs.Streaming.{Sound, taken_sound, fed_past, fed_more, fed_end}
+use Rattle.season.specs.Stream.{stream, fed}
+use Rattle.season.proofs.Streaming.{Sound}
 use Rattle.season.proofs.stream.feed.Given as goal
 
 abbrev pub invariant-loop-i : goal.invariant-loop-i

@@ -4,7 +4,6 @@ use mathlib.Core.Bool.{Bool, cond}
 use mathlib.Core.List.{List}
 use Prim.Native.Nat.{ℕ}
 use borrow.Author.Tests.{eq-eqb, ne_eqb}
-use borrow.Author.Rules.{rules}
 use Rattle.season.specs.Stream.{place_at, counted_in, past_after, ended_totals, ended_place}
 use Rattle.season.specs.Inner.{IsShare}
 use Rattle.season.proofs.Sharing.{left_is}
@@ -13,9 +12,9 @@ use Rattle.season.proofs.stream.finish.Goals as goal
 pub returns-then-bytes-eq0 : goal.returns-then-bytes-eq0
 unfolding ended_place ended_totals
 returns-then-bytes-eq0 c = let p = c.args.p in let e = eq-eqb p.bytes 0 c.if-bytes-eq0.true in record {
-      place = rw e;
-      list = rw e;
-    }
+  place = rw e;
+  list = rw e;
+}
 
 pub returns-then-past-eq1 : goal.returns-then-past-eq1
 unfolding ended_place ended_totals

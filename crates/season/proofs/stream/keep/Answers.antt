@@ -1,7 +1,6 @@
 -- `season::stream::keep` meets its contract. Assumes nothing.
 use native.Mathlib.Omega.{arith}
 use borrow.Author.Tests.{lt-ltb, le-ltb}
-use borrow.Author.Rules.{rules}
 use Rattle.season.specs.Stream.{kept_in}
 use Rattle.season.proofs.stream.keep.Goals as goal
 

@@ -1,7 +1,6 @@
 -- `season::stream::kept_bytes` meets its contract. Assumes nothing.
 use native.Mathlib.Omega.{arith}
 use borrow.Author.Tests.{lt-ltb, le-ltb}
-use borrow.Author.Rules.{rules}
 use Rattle.season.specs.Stream.{kept_bytes}
 use Rattle.season.proofs.stream.kept_bytes.Goals as goal
 

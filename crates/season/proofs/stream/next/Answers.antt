@@ -1,11 +1,9 @@
 -- `season::stream::next` meets its contract. Assumes nothing.
-use mathlib.Core.Path.{◌≡◌, sym, ◌∙◌, ap, subst}
-use borrow.Author.Rules.{rules}
-use Rattle.reply.specs.declared.Reply.TheVariants.{Accepted}
-use Rattle.season.specs.Stream.{stream, fed, state_reply}
+use mathlib.Core.Path.{sym, ◌∙◌, ap, subst}
+use Rattle.season.specs.Stream.{stream, fed}
 use Rattle.season.specs.Inner.{Stands}
 use Rattle.season.specs.declared.stream.Place.{Place}
-use Rattle.season.proofs.Promising.{Passed, passed_state, refused_feeds, feeds}
+use Rattle.season.proofs.Promising.{passed_state, refused_feeds, feeds}
 use Rattle.season.proofs.stream.next.Goals as goal
 
 pub returns-in-Refused : goal.returns-in-Refused

@@ -3,7 +3,6 @@ use mathlib.Core.Path.{sym}
 use Prim.Native.Nat.{◌-◌}
 use native.Mathlib.Omega.{arith}
 use borrow.Author.Tests.{lt-ltb, le-ltb}
-use borrow.Author.Rules.{rules}
 use lib.Seq.{length-take-le}
 use Rattle.season.specs.Stream.{open_share}
 use Rattle.season.proofs.stream.open_share.Goals as goal

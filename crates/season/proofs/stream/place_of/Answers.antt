@@ -1,6 +1,5 @@
 -- `season::stream::place_of` meets its contract. Assumes nothing.
 use mathlib.Core.Path.{refl}
-use borrow.Author.Rules.{rules}
 use Rattle.season.specs.Stream.{place_of}
 use Rattle.season.proofs.stream.place_of.Goals as goal
 

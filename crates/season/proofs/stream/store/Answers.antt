@@ -1,5 +1,4 @@
 -- `season::stream::store` meets its contract. Assumes nothing.
-use borrow.Author.Rules.{rules}
 use Rattle.season.specs.Stream.{place_list}
 use Rattle.season.proofs.Promising.{three}
 use Rattle.season.proofs.stream.store.Goals as goal

@@ -2,7 +2,6 @@
 use mathlib.Core.Path.{sym, ◌∙◌, ap, ap₂}
 use mathlib.Core.List.{List}
 use Prim.Native.Nat.{ℕ}
-use borrow.Author.Rules.{rules}
 use Rattle.season.specs.Stream.{stream, place_at, kept_in}
 use Rattle.season.proofs.Streaming.{closes_by, taken_close, taken_kept}
 use Rattle.season.proofs.stream.take.Goals as goal
