@@ -1,6 +1,5 @@
 -- `molsadriu_add_reports` meets its promise. Assumes nothing.
 use Rattle.office.proofs.Telling.{sum_told}
-use borrow.Author.Rules.{rules}
 use Rattle.office.proofs.molsadriu_add_reports.Goals as goal
 
 pub returns : goal.returns

@@ -1,6 +1,5 @@
 -- `molsadriu_adjust_table` meets its promise. Assumes nothing.
 use Rattle.office.proofs.Telling.{table_told}
-use borrow.Author.Rules.{rules}
 use Rattle.office.proofs.molsadriu_adjust_table.Goals as goal
 
 pub returns : goal.returns

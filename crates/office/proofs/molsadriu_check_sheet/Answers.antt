@@ -1,7 +1,6 @@
 -- `molsadriu_check_sheet` meets its promise, whichever of the three answers the library gives. Assumes nothing.
 use mathlib.Core.Path.{refl}
 use Rattle.office.proofs.Telling.{sheet_told}
-use borrow.Author.Rules.{rules}
 use Rattle.office.proofs.molsadriu_check_sheet.Goals as goal
 
 pub returns-in-Yes : goal.returns-in-Yes

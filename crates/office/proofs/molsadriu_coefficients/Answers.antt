@@ -3,7 +3,6 @@ use mathlib.Core.Path.{sym, ◌∙◌}
 use mir.ValLaws.{to_z-of_z}
 use Rattle.office.specs.Terms.{terms_of}
 use Rattle.office.proofs.Lettered.{coefficients_named, coefficients_unknown}
-use borrow.Author.Rules.{rules}
 use Rattle.office.proofs.molsadriu_coefficients.Goals as goal
 
 pub returns-in_default : goal.returns-in_default

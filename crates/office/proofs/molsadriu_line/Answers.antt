@@ -5,7 +5,6 @@ use Prim.Native.Nat.{ℕ}
 use lib.ListN.{length, take, drop}
 use Rattle.text.specs.Lines.{line_at}
 use Rattle.office.proofs.OwnBytes.{own_bytes}
-use borrow.Author.Rules.{rules}
 use Rattle.office.proofs.molsadriu_line.Goals as goal
 
 pub returns : goal.returns

@@ -1,7 +1,6 @@
 -- `molsadriu_line_status` meets its promise: the number of what the library says. Assumes nothing.
 use mathlib.Core.Path.{sym, ◌∙◌, ap}
 use Rattle.office.specs.Statuses.{status_number}
-use borrow.Author.Rules.{rules}
 use Rattle.office.proofs.molsadriu_line_status.Goals as goal
 
 pub returns-in-Whole : goal.returns-in-Whole

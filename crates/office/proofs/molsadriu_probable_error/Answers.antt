@@ -1,6 +1,5 @@
 -- `molsadriu_probable_error` meets its promise. Assumes nothing.
 use Rattle.office.proofs.Telling.{errors_told}
-use borrow.Author.Rules.{rules}
 use Rattle.office.proofs.molsadriu_probable_error.Goals as goal
 
 pub returns : goal.returns

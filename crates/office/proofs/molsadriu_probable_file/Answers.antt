@@ -1,6 +1,5 @@
 -- `molsadriu_probable_file` meets its promise. Assumes nothing.
 use Rattle.office.proofs.Telling.{file_told}
-use borrow.Author.Rules.{rules}
 use Rattle.office.proofs.molsadriu_probable_file.Goals as goal
 
 pub returns : goal.returns

@@ -1,6 +1,5 @@
 -- `molsadriu_report` meets its promise. Assumes nothing.
 use Rattle.office.proofs.Telling.{report_told}
-use borrow.Author.Rules.{rules}
 use Rattle.office.proofs.molsadriu_report.Goals as goal
 
 pub returns : goal.returns

@@ -1,6 +1,5 @@
 -- `molsadriu_rescue_book` meets its promise. Assumes nothing.
 use Rattle.office.proofs.Telling.{part_told}
-use borrow.Author.Rules.{rules}
 use Rattle.office.proofs.molsadriu_rescue_book.Goals as goal
 
 pub returns : goal.returns

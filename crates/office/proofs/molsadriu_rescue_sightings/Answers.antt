@@ -1,6 +1,5 @@
 -- `molsadriu_rescue_sightings` meets its promise. Assumes nothing.
 use Rattle.office.proofs.Telling.{rescue_told}
-use borrow.Author.Rules.{rules}
 use Rattle.office.proofs.molsadriu_rescue_sightings.Goals as goal
 
 pub returns : goal.returns

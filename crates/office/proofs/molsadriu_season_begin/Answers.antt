@@ -1,6 +1,5 @@
 -- `molsadriu_season_begin` meets its promise. Assumes nothing.
 use Rattle.office.proofs.Telling.{begun_told}
-use borrow.Author.Rules.{rules}
 use Rattle.office.proofs.molsadriu_season_begin.Goals as goal
 
 pub returns : goal.returns

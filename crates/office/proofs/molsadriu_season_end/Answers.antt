@@ -1,6 +1,5 @@
 -- `molsadriu_season_end` meets its promise. Assumes nothing.
 use Rattle.office.proofs.Telling.{ended_told}
-use borrow.Author.Rules.{rules}
 use Rattle.office.proofs.molsadriu_season_end.Goals as goal
 
 pub returns : goal.returns

@@ -1,6 +1,5 @@
 -- `molsadriu_season_next` meets its promise. Assumes nothing.
 use Rattle.office.proofs.Telling.{next_told}
-use borrow.Author.Rules.{rules}
 use Rattle.office.proofs.molsadriu_season_next.Goals as goal
 
 pub returns : goal.returns

@@ -1,6 +1,5 @@
 -- `molsadriu_station_book` meets its promise. Assumes nothing.
 use Rattle.office.proofs.Telling.{book_told}
-use borrow.Author.Rules.{rules}
 use Rattle.office.proofs.molsadriu_station_book.Goals as goal
 
 pub returns : goal.returns

@@ -1,6 +1,5 @@
 -- `molsadriu_station_means` meets its promise. Assumes nothing.
 use Rattle.office.proofs.Telling.{means_told}
-use borrow.Author.Rules.{rules}
 use Rattle.office.proofs.molsadriu_station_means.Goals as goal
 
 pub returns : goal.returns
