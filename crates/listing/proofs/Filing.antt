@@ -109,7 +109,7 @@ module _ (file : List ℕ) where
     unfolding adjust_file_reply
     kept {listed} l =
         let accepted : listed.reply ≡ Accepted → file_reply file ≡ Accepted = λ e. room_accepted (Count 0) (room_of sheet) (length before) (file_reply file) (sym l.answer ∙ e) in
-        record { lists = l; verdict = ap verdict_of l.answer; demand3 = λ e. file_demand3 (accepted e); within_minute = λ e. file_within_minute (accepted e); mean_error_lem = λ e. file_mean_error (accepted e) }
+        record { lists = l; verdict = ap verdict_of l.answer; demand3 = λ e. file_demand3 (accepted e); within_minute = λ e. file_within_minute (accepted e); mean_error = λ e. file_mean_error (accepted e) }
 
     pub too_short : length before < room_of sheet → AdjustsFile sheet file before (record { reply = Refused (Count 0); length = 0 }) before
     unfolding adjust_file_reply

@@ -91,7 +91,7 @@ pub record AdjustsFile (sheet : Sheet) (file before : List ℕ) (listed : Listed
   -- and of every accepted file demand 3, printed corrections within one minute, and the mean error
   pub demand3 : listed.reply ≡ Accepted → FileDemand3 file
   pub within_minute : listed.reply ≡ Accepted → FileWithinMinute file
-  pub mean_error_lem : listed.reply ≡ Accepted → FileMeanError file
+  pub mean_error : listed.reply ≡ Accepted → FileMeanError file
 
 -- ---- for programs: the listing of any file, an accepted one's or the line of its refusal
 unfoldable pub listing_of : Sheet → List ℕ → List ℕ

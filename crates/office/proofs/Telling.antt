@@ -95,7 +95,7 @@ module _ {v : Verdict} {listed : Listed} {before after : List ℕ} {n m : ℕ} (
   pub file_told : (sheet : Sheet) (file : List ℕ) → AdjustsFile sheet file before listed after → File sheet file before n v after m
   file_told sheet file a =
       let e = a.lists.answer in
-      record { told = listed_told a.lists; demand3 = λ f. a.demand3 (e ∙ f); within_minute = λ f. a.within_minute (e ∙ f); mean_error_lem = λ f. a.mean_error_lem (e ∙ f) }
+      record { told = listed_told a.lists; demand3 = λ f. a.demand3 (e ∙ f); within_minute = λ f. a.within_minute (e ∙ f); mean_error = λ f. a.mean_error (e ∙ f) }
 
 pub rescue_told : {b : Book} {before after : Places} {rescued : Rescued} {v : Verdict} {k d m n : ℕ} → v ≡ verdict_of rescued.reply
     → (m ≡ leaves rescued.reply rescued.kept k) × (n ≡ leaves rescued.reply rescued.dropped d) → Rescues b before rescued after

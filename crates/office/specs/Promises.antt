@@ -75,7 +75,7 @@ pub record File (sheet : Sheet) (file before : List ℕ) (lengthBefore : ℕ) (v
   pub told : ToldBy (adjust_file_reply sheet file (length before)) (file_listing sheet file) before lengthBefore v after lengthAfter
   pub demand3 : adjust_file_reply sheet file (length before) ≡ Accepted → FileDemand3 file
   pub within_minute : adjust_file_reply sheet file (length before) ≡ Accepted → FileWithinMinute file
-  pub mean_error_lem : adjust_file_reply sheet file (length before) ≡ Accepted → FileMeanError file
+  pub mean_error : adjust_file_reply sheet file (length before) ≡ Accepted → FileMeanError file
 
 -- ---- of a season's archive: whole, and in parts. 30 alone, of these promises, comes with an answer: the totals of the nets before
 pub record SeasonReport (archive lent : List ℕ) (v : Verdict) (left : List ℕ) : Type 0 where

@@ -42,10 +42,10 @@ module _ (us qs : List ℤ) (n : ℕ) where
   -- ---- the promise
   module _ {lent : Errors} where
     pub refused_tells : (why : Refusal) → errors_reply us qs n ≡ Refused why → TellsErrors us qs n lent (Refused why) lent
-    refused_tells why e = record { answer = sym e; verdict = ap verdict_of (sym e); errors = refl; mean_error_lem = never why }
+    refused_tells why e = record { answer = sym e; verdict = ap verdict_of (sym e); errors = refl; mean_error = never why }
 
     pub accepted_tells : errors_reply us qs n ≡ Accepted → {left : Errors} → left ≡ errors_of us qs n → TellsErrors us qs n lent Accepted left
-    accepted_tells e {left} f = record { answer = sym e; verdict = ap verdict_of (sym e); errors = f; mean_error_lem = λ k. rw f (lists_mean_error us qs n e) }
+    accepted_tells e {left} f = record { answer = sym e; verdict = ap verdict_of (sym e); errors = f; mean_error = λ k. rw f (lists_mean_error us qs n e) }
 
     pub refusal_leaves_numbers : (why : Refusal) (left : Errors) → TellsErrors us qs n lent (Refused why) left → left ≡ lent
     refusal_leaves_numbers why left t = t.errors

@@ -41,4 +41,4 @@ pub record TellsErrors (us qs : List ℤ) (n : ℕ) (lent : Errors) (reply : Rep
   -- in the rules' numbers: number and place
   pub verdict : verdict_of reply ≡ verdict_of (errors_reply us qs n)
   pub errors : left ≡ leaves reply (errors_of us qs n) lent
-  pub mean_error_lem : reply ≡ Accepted → MeanError n (S_of us qs) left.mean
+  pub mean_error : reply ≡ Accepted → MeanError n (S_of us qs) left.mean

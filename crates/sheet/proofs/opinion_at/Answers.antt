@@ -1,7 +1,6 @@
 -- `opinion_at` meets its contract. Assumes nothing.
 use mathlib.Core.Path.{◌≡◌, refl}
 use Prim.Native.Nat.{ℕ, zero, suc}
-use borrow.Author.Rules.{rules}
 use Rattle.sheet.specs.declared.Opinion.TheVariants.{No}
 use Rattle.sheet.specs.Check.{opinion_at}
 use Rattle.sheet.proofs.opinion_at.Goals as goal

@@ -1,6 +1,5 @@
 -- `put_answer` meets its contract. Assumes nothing.
 use mathlib.Core.Path.{sym, ◌∙◌, ap}
-use borrow.Author.Rules.{rules}
 use Rattle.reply.specs.declared.Verdict.{Verdict}
 use Rattle.text.proofs.Putting.{then, rewrote}
 use Rattle.page.specs.Lines.{refused_line}

@@ -1,6 +1,5 @@
 -- `put_no` meets its contract. Assumes nothing.
 use native.Mathlib.Omega.{arith}
-use borrow.Author.Rules.{rules}
 use Rattle.text.proofs.Putting.{then, come, come_on, count_on}
 use Rattle.sheet.proofs.put_no.Goals as goal
 

@@ -4,7 +4,7 @@ use mathlib.Core.List.{List, [], ◌∷◌}
 use mathlib.Core.Bool.{Bool, cond}
 use Prim.Native.Nat.{ℕ, ◌+◌, ◌-◌, ◌≤◌, ◌<◌}
 use native.Mathlib.Omega.{arith}
-use borrow.Author.Tests.{eq-eqb, ne_eqb, not-true, not-false}
+use borrow.Author.Tests.{eq-eqb, ne_eqb}
 use borrow.Author.Rules.{rules}
 use lib.ListN.{length-drop, length, take, drop}
 use Rattle.totals.proofs.Totalling.{report_length}
@@ -18,7 +18,6 @@ use Rattle.season.specs.Inner.{IsShare, Roomy, NextStop}
 use Rattle.season.proofs.Sharing.{share_is, left_is}
 use Rattle.season.proofs.Leading.{shares_closed, shares_left, Leads, leads_none, leads_end, turn_fits, turn_past, none_within, counted_within}
 use Rattle.season.proofs.archive.count_all.Goals as goal
-use Rattle.season.proofs.archive.count_all.Goals.{After-count, After-count-then-start-archive, At-loop-stop}
 
 -- the totals are sixteen all the time
 sixteen : {totals lent : List ℕ} → Roomy totals → lent ≡ report_of [] → length totals ≡ length lent
@@ -37,109 +36,95 @@ pub count-requires : goal.count-requires
 count-requires c =
     (subst IsShare (sym c.share.ensures) (share_is _), c.loop-stop.invariant.0)
 
+-- a share has been counted, which is this one
+counted : (totals : List ℕ) {share one left : List ℕ} → left ≡ counted_in share totals → share ≡ one → left ≡ counted_in one totals
+counted totals e f = e ∙ ap (λ (x : List ℕ). counted_in x totals) f
+
+-- totals in which a share has been counted are sixteen
+sixteen_counted : {share totals left lent : List ℕ} → left ≡ counted_in share totals → IsShare share → Roomy totals → lent ≡ report_of [] → length left ≡ length lent
+sixteen_counted {share} {totals} e s r none = sixteen (subst Roomy (sym e) (counted_within most_total share totals s r)) none
+
 -- ---- a net that is closed has been counted, or not
-module _ (c : After-count) where
-  abbrev loop : At-loop-stop
-  loop = (record { before = c.before.before.before.before.before.before; type_inv = record { archive = c.shared_slice_known-1.given } })
-
-  abbrev archive : List ℕ
-  archive = loop.args.archive.now
-
-  abbrev start : ℕ
-  start = loop.loop-stop.start
-
-  abbrev stop : ℕ
-  stop = loop.loop-stop.stop
-
+module _ {archive totals : List ℕ} {start stop : ℕ} (so_far : Leads (shares_of archive) totals (shares_in (parts_of (drop start archive))))
+    (next : NextStop archive start stop) (on : stop < length archive) where
   abbrev net : List ℕ
   net = take (stop - start) (drop start archive)
 
-  closed : (stop + 2 ≤ length archive) × (parts_of (drop start archive) ≡ net ∷ parts_of (drop (stop + 2) archive))
-  closed = loop.loop-stop.invariant.3.closed c.loop-stop-test.true
-
-  here : Leads (shares_of archive) loop.loop-stop.totals (share_of net ∷ shares_in (parts_of (drop (stop + 2) archive)))
-  here = subst (λ (x : List (List ℕ)). Leads (shares_of archive) loop.loop-stop.totals x) (ap shares_in closed.1 ∙ shares_closed net (drop (stop + 2) archive)) loop.loop-stop.invariant.1
-
-  roomy : Roomy (counted_in (share_of net) loop.loop-stop.totals)
-  roomy = counted_within most_total (share_of net) loop.loop-stop.totals (share_is net) loop.loop-stop.invariant.0
-
-  counted : c.count.new.totals ≡ counted_in (share_of net) loop.loop-stop.totals
-  counted = c.count.ensures.list ∙ ap (λ (x : List ℕ). counted_in x loop.loop-stop.totals) c.share.ensures
+  here : Leads (shares_of archive) totals (share_of net ∷ shares_in (parts_of (drop (stop + 2) archive)))
+  here =
+      subst (λ (x : List (List ℕ)). Leads (shares_of archive) totals x)
+      (ap shares_in (next.closed on).1 ∙ shares_closed net (drop (stop + 2) archive)) so_far
 
 pub shape_of-totals-then-not-count : goal.shape_of-totals-then-not-count
-shape_of-totals-then-not-count c = let e : After-count = record { before = c.before.before.before.before; type_inv = record { archive = c.shared_slice_known-1.given } } in sixteen (subst Roomy (sym (counted e)) (roomy e)) (loop e).requires
+shape_of-totals-then-not-count c =
+    sixteen_counted (counted c.loop-stop.totals c.count.ensures.list c.share.ensures) (share_is _) c.loop-stop.invariant.0 c.requires
 
 pub returns-then-not-count : goal.returns-then-not-count
 returns-then-not-count c =
-    let e : After-count = record { before = c.before.before.before.before; type_inv = record { archive = c.shared_slice_known-1.given } } in let p = turn_past (here e) e.count.ensures.fits (counted e) (not-true e.count.result c.if-not-count.true) in record {
+    let i = c.loop-stop.invariant in
+    let p = turn_past (here i.1 i.3 c.loop-stop-test.true) c.count.ensures.fits (counted c.loop-stop.totals c.count.ensures.list c.share.ensures) c.if-not-count.true in
+    record {
       reply = sym p.0;
       list = p.1;
     }
 
 pub next_stop-stop-requires-in-loop-stop : goal.next_stop-stop-requires-in-loop-stop
-next_stop-stop-requires-in-loop-stop c = (closed (record { before = c.before.before.before.before; type_inv = record { archive = c.shared_slice_known-1.given } })).0
+next_stop-stop-requires-in-loop-stop c = (c.loop-stop.invariant.3.closed c.loop-stop-test.true).0
 
 pub loop-stop-smaller : goal.loop-stop-smaller
-loop-stop-smaller c = let e : After-count = record { before = c.before.before.before.before.before; type_inv = record { archive = c.shared_slice_known-1.given } } in omega (arith, (closed e).0, (loop e).loop-stop.invariant.3.on)
+loop-stop-smaller c = let next = c.loop-stop.invariant.3 in omega (arith, (next.closed c.loop-stop-test.true).0, next.on)
 
 pub loop-stop-preserved : goal.loop-stop-preserved
 loop-stop-preserved c =
-    let e : After-count = record { before = c.before.before.before.before.before; type_inv = record { archive = c.shared_slice_known-1.given } } in
-    (subst Roomy (sym (counted e)) (roomy e), turn_fits (here e) e.count.ensures.fits (counted e) (share_is (net e)) (not-false e.count.result c.if-not-count.false), (closed e).0, c.next_stop-stop-in-loop-stop.ensures)
+    let i = c.loop-stop.invariant in let more = counted c.loop-stop.totals c.count.ensures.list c.share.ensures in (
+      subst Roomy (sym more) (counted_within most_total _ c.loop-stop.totals (share_is _) i.0),
+      turn_fits (here i.1 i.3 c.loop-stop-test.true) c.count.ensures.fits more (share_is _) c.if-not-count.false,
+      (i.3.closed c.loop-stop-test.true).0,
+      c.next_stop-stop-in-loop-stop.ensures,
+    )
 
 pub count-requires-then-start-archive : goal.count-requires-then-start-archive
-count-requires-then-start-archive c =
-    (subst IsShare (sym c.left.ensures) left_is, c.loop-stop.invariant.0)
+count-requires-then-start-archive c = (subst IsShare (sym c.left.ensures) left_is, c.loop-stop.invariant.0)
 
 -- ---- no full stop line is left
-module _ (l : At-loop-stop) (ended : length l.args.archive.now ≤ l.loop-stop.stop) where
-  abbrev all : List ℕ
-  all = l.args.archive.now
+module _ {all totals : List ℕ} {start stop : ℕ} (so_far : Leads (shares_of all) totals (shares_in (parts_of (drop start all))))
+    (next : NextStop all start stop) (ended : length all ≤ stop) where
+  last : Leads (shares_of all) totals (left_shares (drop start all))
+  last = subst (λ (x : List (List ℕ)). Leads (shares_of all) totals x) (ap shares_in (next.left ended) ∙ shares_left (drop start all)) so_far
 
-  last : Leads (shares_of all) l.loop-stop.totals (left_shares (drop l.loop-stop.start all))
-  last = subst (λ (x : List (List ℕ)). Leads (shares_of all) l.loop-stop.totals x) (ap shares_in (l.loop-stop.invariant.3.left ended) ∙ shares_left (drop l.loop-stop.start all)) l.loop-stop.invariant.1
-
-  some_left : l.loop-stop.start < length all → Leads (shares_of all) l.loop-stop.totals (left_share ∷ [])
+  some_left : start < length all → Leads (shares_of all) totals (left_share ∷ [])
   unfolding left_shares
   some_left h =
-      let d = length-drop l.loop-stop.start all in
-      subst (λ (b : Bool). Leads (shares_of all) l.loop-stop.totals (cond b [] (left_share ∷ []))) (ne_eqb (length (drop l.loop-stop.start all)) 0 (λ e. omega (arith, d))) last
+      let d = length-drop start all in
+      subst (λ (b : Bool). Leads (shares_of all) totals (cond b [] (left_share ∷ []))) (ne_eqb (length (drop start all)) 0 (λ e. omega (arith, d))) last
 
-  none_left : length all ≤ l.loop-stop.start → Leads (shares_of all) l.loop-stop.totals []
+  none_left : length all ≤ start → Leads (shares_of all) totals []
   unfolding left_shares
   none_left h =
-      let d = length-drop l.loop-stop.start all in
-      subst (λ (b : Bool). Leads (shares_of all) l.loop-stop.totals (cond b [] (left_share ∷ []))) (eq-eqb (length (drop l.loop-stop.start all)) 0 (omega (arith, d))) last
-
-module _ (c : After-count-then-start-archive) where
-  abbrev loop2 : At-loop-stop
-  loop2 = (record { before = c.before.before.before.before.before.before; type_inv = record { archive = c.shared_slice_known-1.given } })
-
-  counted2 : c.count-then-start-archive.new.totals ≡ counted_in left_share loop2.loop-stop.totals
-  counted2 = c.count-then-start-archive.ensures.list ∙ ap (λ (x : List ℕ). counted_in x loop2.loop-stop.totals) c.left.ensures
-
-  here2 : Leads (shares_of loop2.args.archive.now) loop2.loop-stop.totals (left_share ∷ [])
-  here2 = some_left loop2 (omega arith) (omega arith)
-
-  sixteen2 : length c.count-then-start-archive.new.totals ≡ length loop2.args.totals.now
-  sixteen2 = sixteen (subst Roomy (sym counted2) (counted_within most_total left_share loop2.loop-stop.totals left_is loop2.loop-stop.invariant.0)) loop2.requires
+      let d = length-drop start all in
+      subst (λ (b : Bool). Leads (shares_of all) totals (cond b [] (left_share ∷ []))) (eq-eqb (length (drop start all)) 0 (omega (arith, d))) last
 
 pub shape_of-totals-then-not-count-2 : goal.shape_of-totals-then-not-count-2
-shape_of-totals-then-not-count-2 c = sixteen2 (record { before = c.before.before.before.before; type_inv = record { archive = c.shared_slice_known-1.given } })
+shape_of-totals-then-not-count-2 c =
+    sixteen_counted (counted c.loop-stop.totals c.count-then-start-archive.ensures.list c.left.ensures) left_is c.loop-stop.invariant.0 c.requires
 
 pub returns-then-not-count-2 : goal.returns-then-not-count-2
 returns-then-not-count-2 c =
-    let e : After-count-then-start-archive = record { before = c.before.before.before.before; type_inv = record { archive = c.shared_slice_known-1.given } } in let p = turn_past (here2 e) e.count-then-start-archive.ensures.fits (counted2 e) (not-true e.count-then-start-archive.result c.if-not-count-2.true) in record {
+    let i = c.loop-stop.invariant in let n = c.count-then-start-archive.ensures in
+    let p = turn_past (some_left i.1 i.3 (omega arith) (omega arith)) n.fits (counted c.loop-stop.totals n.list c.left.ensures) c.if-not-count-2.true in record {
       reply = sym p.0;
       list = p.1;
     }
 
 pub shape_of-totals-else-not-count-2 : goal.shape_of-totals-else-not-count-2
-shape_of-totals-else-not-count-2 c = sixteen2 (record { before = c.before.before.before.before; type_inv = record { archive = c.shared_slice_known-1.given } })
+shape_of-totals-else-not-count-2 c =
+    sixteen_counted (counted c.loop-stop.totals c.count-then-start-archive.ensures.list c.left.ensures) left_is c.loop-stop.invariant.0 c.requires
 
 pub returns-else-not-count-2 : goal.returns-else-not-count-2
 returns-else-not-count-2 c =
-    let e : After-count-then-start-archive = record { before = c.before.before.before.before; type_inv = record { archive = c.shared_slice_known-1.given } } in let p = leads_end (turn_fits (here2 e) e.count-then-start-archive.ensures.fits (counted2 e) left_is (not-false e.count-then-start-archive.result c.if-not-count-2.false)) in record {
+    let i = c.loop-stop.invariant in let n = c.count-then-start-archive.ensures in
+    let p = leads_end (turn_fits (some_left i.1 i.3 (omega arith) (omega arith)) n.fits (counted c.loop-stop.totals n.list c.left.ensures) left_is c.if-not-count-2.false) in
+    record {
       reply = sym p.1;
       list = p.0;
     }
@@ -148,7 +133,8 @@ pub shape_of-totals-else-start-archive : goal.shape_of-totals-else-start-archive
 shape_of-totals-else-start-archive c = sixteen c.loop-stop.invariant.0 c.requires
 
 pub returns-else-start-archive : goal.returns-else-start-archive
-returns-else-start-archive c = let p = leads_end (none_left (record { before = c.before.before.before; type_inv = record { archive = c.shared_slice_known-1.given } }) (omega arith) (omega arith)) in record {
+returns-else-start-archive c =
+    let i = c.loop-stop.invariant in let p = leads_end (none_left i.1 i.3 (omega arith) (omega arith)) in record {
       reply = sym p.1;
       list = p.0;
     }

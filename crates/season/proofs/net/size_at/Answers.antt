@@ -14,5 +14,5 @@ returns-then-letters-j c =
 pub returns : goal.returns
 returns c =
     let a = c.args in
-    c.magnitude.ensures ∙ ap nat_abs (read_at (get_or a.w.now a.j (pos 0)) c.x-1.given)
+    c.magnitude.ensures ∙ ap nat_abs (read_at (get_or a.w.now a.j (pos 0)) (search rules))
     ∙ sym (size_is a.letter a.letters.now a.w.now a.j c.if-letters-j.false)

@@ -7,35 +7,25 @@ use lib.ListN.{length}
 use Rattle.season.specs.Share.{sum_to, size_at}
 use Rattle.season.proofs.Sharing.{sum_none, sum_more, sum_most, size_most}
 use Rattle.season.proofs.net.sum_of.Goals as goal
-use Rattle.season.proofs.net.sum_of.Goals.{After-size_at-sum, At-loop-j, Start}
 
 pub loop-j-init : goal.loop-j-init
 loop-j-init c = (omega arith, sym (sum_none _))
 
--- ---- in a turn: the sum so far, with this condition's size
-module _ (c : After-size_at-sum) where
-  abbrev l : At-loop-j
-  l = (record { before = c.before.before.before; type_inv = record { letters = c.shared_slice_known-1.given } })
-
-  abbrev s : Start
-  s = l.before.before.before
-
-  abbrev size : ℕ → ℕ
-  size = size_at s.args.letter s.args.letters.now s.args.w.now
-
-  more : l.loop-j.sum + c.size_at-sum.result ≡ sum_to (l.loop-j.j + 1) size
-  more = ap₂ (λ (x y : ℕ). x + y) l.loop-j.invariant.1 c.size_at-sum.ensures ∙ sym (sum_more l.loop-j.j size)
-
-  most : sum_to (l.loop-j.j + 1) size ≤ 24000000
-  most =
-      let a = s.args in
-      omega (arith, s.requires.1, sum_most (l.loop-j.j + 1) size (λ i h. size_most a.letter a.letters.now a.w.now i (s.requires.2 i (omega arith))))
+-- the sum so far, with this condition's size
+more : (j : ℕ) (size : ℕ → ℕ) {sum one : ℕ} → sum ≡ sum_to j size → one ≡ size j → sum + one ≡ sum_to (j + 1) size
+more j size s o = ap₂ (λ (x y : ℕ). x + y) s o ∙ sym (sum_more j size)
 
 pub overflow_add-sum : goal.overflow_add-sum
-overflow_add-sum c = omega (arith, more c, most c)
+overflow_add-sum c =
+    let a = c.args in let j = c.loop-j.j in let size : ℕ → ℕ = size_at a.letter a.letters.now a.w.now in
+    let now = more j size c.loop-j.invariant.1 c.size_at-sum.ensures in
+    let most = sum_most (j + 1) size (λ i h. size_most a.letter a.letters.now a.w.now i (c.requires.2 i (omega arith))) in
+    omega (arith, c.requires.1, now, most)
 
 pub loop-j-preserved : goal.loop-j-preserved
-loop-j-preserved c = (omega arith, more c)
+loop-j-preserved c =
+    let a = c.args in
+    (omega arith, more c.loop-j.j (size_at a.letter a.letters.now a.w.now) c.loop-j.invariant.1 c.size_at-sum.ensures)
 
 pub returns : goal.returns
 returns c =

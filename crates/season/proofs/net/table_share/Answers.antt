@@ -14,46 +14,27 @@ use Rattle.season.specs.Share.{figures}
 use Rattle.season.proofs.Numbering.{few_refused, few_adjust}
 use Rattle.season.proofs.Sharing.{refused_share, accepted_share}
 use Rattle.season.proofs.net.table_share.Goals as goal
-use Rattle.season.proofs.net.table_share.Goals.{After-reply_to-reply, In_default, Start}
-
--- ---- the rule's reply to the table
-module _ (c : After-reply_to-reply) where
-  abbrev start : Start
-  start = c.before.before.before
-
-  abbrev rule : Reply
-  rule =
-      let a = start.args in
-      adjust_reply a.directions.now a.q.now a.a.now a.w.now (room (length a.directions.now) (length a.w.now))
-
-  abbrev five : List ℕ
-  five = let a = start.args in figures a.letters.now a.w.now a.a.now (length a.directions.now)
 
 pub under-requires : goal.under-requires
 under-requires c =
-    let t : After-reply_to-reply = record { before = c.before.before.before; type_inv = record { letters = c.shared_slice_known-1.given } } in let a = (start t).args in
-    omega (arith, few_refused (few_adjust a.directions.now a.q.now a.a.now a.w.now _) (sym t.reply_to-reply.ensures ∙ c.in-Refused.is), c.number.ensures)
+    let a = c.args in
+    omega (arith, few_refused (few_adjust a.directions.now a.q.now a.a.now a.w.now _) (sym c.reply_to-reply.ensures ∙ c.in-Refused.is), c.number.ensures)
 
 pub returns-in-Refused : goal.returns-in-Refused
 returns-in-Refused c =
-    let t : After-reply_to-reply = record { before = c.before.before.before.before; type_inv = record { letters = c.shared_slice_known-1.given } } in
-    refused_share (five t) (sym t.reply_to-reply.ensures ∙ c.in-Refused.is) c.number.ensures c.under.ensures
-
--- ---- an accepted table
-module _ (c : In_default) where
-  abbrev replied : After-reply_to-reply
-  replied = (record { before = c.before.before; type_inv = record { letters = c.shared_slice_known-1.given } })
-
-  is_accepted : rule replied ≡ Accepted
-  is_accepted = sym replied.reply_to-reply.ensures ∙ c.in_default.is
+    let a = c.args in
+    refused_share (figures a.letters.now a.w.now a.a.now (length a.directions.now)) (sym c.reply_to-reply.ensures ∙ c.in-Refused.is) c.number.ensures
+    c.under.ensures
 
 pub accepted-requires : goal.accepted-requires
 accepted-requires c =
-    let s = start (replied c) in let a = s.args in let p = accepted_passed a.directions.now a.q.now a.a.now a.w.now _ (is_accepted c) in
-    record {
-      letters_len = (s.requires.2, s.requires.1, p.sound.w_most);
-      m_bound = (s.requires.0, omega (arith, p.sound.long, ap (λ (m : ℕ). length a.w.now * m) p.directions));
+    let a = c.args in
+    let p = accepted_passed a.directions.now a.q.now a.a.now a.w.now _ (sym c.reply_to-reply.ensures ∙ c.in_default.is) in record {
+      letters_len = (c.requires.2, c.requires.1, p.sound.w_most);
+      m_bound = (c.requires.0, omega (arith, p.sound.long, ap (λ (m : ℕ). length a.w.now * m) p.directions));
     }
 
 pub returns : goal.returns
-returns c = accepted_share (five (replied (record { before = c.before.before; type_inv = record { letters = c.shared_slice_known-1.given } }))) (is_accepted (record { before = c.before.before; type_inv = record { letters = c.shared_slice_known-1.given } })) c.accepted.ensures
+returns c =
+    let a = c.args in
+    accepted_share (figures a.letters.now a.w.now a.a.now (length a.directions.now)) (sym c.reply_to-reply.ensures ∙ c.in_default.is) c.accepted.ensures

@@ -6,33 +6,24 @@ use lib.ListN.{length}
 use Rattle.season.specs.Stream.{lengths_amiss, place_reply}
 use Rattle.season.proofs.Promising.{by_lengths, lengths_known, by_totals, by_place}
 use Rattle.season.proofs.stream.check.Goals as goal
-use Rattle.season.proofs.stream.check.Goals.{Else-lengths_amiss}
-
--- ---- the lengths are as they must be
-module _ (c : Else-lengths_amiss) where
-  kept : lengths_amiss (length c.args.held.now) (length c.args.totals.now) (length c.args.place.now) ≡ false
-  kept = sym c.before.lengths_amiss.ensures ∙ c.if-lengths_amiss.false
-
-  long : let a = c.args in (length a.held.now ≡ 65536) × (length a.totals.now ≡ 16) × (length a.place.now ≡ 3)
-  long = let a = c.args in lengths_known a.held.now a.totals.now a.place.now kept
 
 pub returns-then-lengths_amiss : goal.returns-then-lengths_amiss
 returns-then-lengths_amiss c =
     let a = c.args in let held = a.held.now in let totals = a.totals.now in let place = a.place.now in
-    sym (by_lengths held totals place (sym c.before.lengths_amiss.ensures ∙ c.if-lengths_amiss.true))
+    sym (by_lengths held totals place (sym c.lengths_amiss.ensures ∙ c.if-lengths_amiss.true))
 
 pub check_totals-by_total-requires : goal.check_totals-by_total-requires
-check_totals-by_total-requires c = (long c).1
+check_totals-by_total-requires c = let a = c.args in (lengths_known a.held.now a.totals.now a.place.now (sym c.lengths_amiss.ensures ∙ c.if-lengths_amiss.false)).1
 
 pub returns-in-Refused : goal.returns-in-Refused
 returns-in-Refused c =
     let a = c.args in let held = a.held.now in let totals = a.totals.now in let place = a.place.now in let why = c.in-Refused.why in
-    sym (by_totals held totals place (kept (record { before = c.before.before.before; type_inv = record { place = c.shared_slice_known-3-1.given; totals = c.shared_slice_known-2-1.given; held = c.shared_slice_known-1.given } })) why (sym c.check_totals-by_total.ensures ∙ c.in-Refused.is))
+    sym (by_totals held totals place (sym c.lengths_amiss.ensures ∙ c.if-lengths_amiss.false) why (sym c.check_totals-by_total.ensures ∙ c.in-Refused.is))
 
 pub place_of-requires : goal.place_of-requires
-place_of-requires c = (long (record { before = c.before.before.before; type_inv = record { place = c.shared_slice_known-3-1.given; totals = c.shared_slice_known-2-1.given; held = c.shared_slice_known-1.given } })).2
+place_of-requires c = let a = c.args in (lengths_known a.held.now a.totals.now a.place.now (sym c.lengths_amiss.ensures ∙ c.if-lengths_amiss.false)).2
 
 pub returns : goal.returns
 returns c =
     let a = c.args in let held = a.held.now in let totals = a.totals.now in let place = a.place.now in c.check_place.ensures ∙ ap place_reply c.place_of.ensures
-    ∙ sym (by_place held totals place (kept (record { before = c.before.before.before.before.before; type_inv = record { place = c.shared_slice_known-3-1.given; totals = c.shared_slice_known-2-1.given; held = c.shared_slice_known-1.given } })) (sym c.check_totals-by_total.ensures ∙ c.in_default.is))
+    ∙ sym (by_place held totals place (sym c.lengths_amiss.ensures ∙ c.if-lengths_amiss.false) (sym c.check_totals-by_total.ensures ∙ c.in_default.is))

@@ -11,12 +11,12 @@ use Rattle.season.proofs.stream.close.Goals as goal
 
 pub count-fits-requires : goal.count-fits-requires
 count-fits-requires c =
-    (subst IsShare (sym c.before.open_share_lem.ensures) (open_is c.args.held.now c.args.bytes), c.requires.2)
+    (subst IsShare (sym c.open_share-share.ensures) (open_is c.args.held.now c.args.bytes), c.requires.2)
 
 pub returns : goal.returns
 unfolding past_after
 returns c =
     let totals = c.args.totals.now in record {
       place = ap (place_at 0 0) (c.past_of.ensures ∙ ap (λ (b : Bool). cond b 0 1) c.count-fits.ensures.fits);
-      list = c.count-fits.ensures.list ∙ ap (λ (x : List ℕ). counted_in x totals) c.before.before.open_share_lem.ensures;
+      list = c.count-fits.ensures.list ∙ ap (λ (x : List ℕ). counted_in x totals) c.open_share-share.ensures;
     }

@@ -13,7 +13,7 @@ unfolding open_share
 returns-then-bytes c = rw (lt-ltb 65536 c.args.bytes (omega arith)) c.long.ensures
 
 pub slice_bounds-share-end : goal.slice_bounds-share-end
-slice_bounds-share-end c = let s = c.before.before.before in sym (length-take-le (s.args.bytes - 1) s.args.held.now (omega (arith, s.requires.0)))
+slice_bounds-share-end c = let a = c.args in sym (length-take-le (a.bytes - 1) a.held.now (omega (arith, c.requires.0)))
 
 pub returns : goal.returns
 unfolding open_share

@@ -9,8 +9,7 @@ use Rattle.season.proofs.stream.take.Goals as goal
 
 pub close-requires : goal.close-requires
 close-requires c =
-    let s = c.before.before.before.before.before.before in
-    (s.requires.0, s.requires.2.stop (closes_by s.args.byte s.args.p.line (sym c.closes.ensures ∙ c.if-closes.true)).1, s.requires.1)
+    (c.requires.0, c.requires.2.stop (closes_by c.args.byte c.args.p.line (sym c.closes.ensures ∙ c.if-closes.true)).1, c.requires.1)
 
 pub returns-then-closes : goal.returns-then-closes
 returns-then-closes c =

@@ -3,7 +3,6 @@ use mathlib.Core.Path.{◌≡◌, refl, sym, ◌∙◌, subst₂}
 use mathlib.Core.List.{List}
 use Prim.Native.Nat.{ℕ, ◌+◌, ◌≤◌, ◌<◌}
 use native.Mathlib.Omega.{arith}
-use borrow.Author.Rules.{rules}
 use borrow.Author.Tests.{ltb-false}
 use lib.IntN.{ℤ}
 use lib.ListN.{length}
@@ -85,10 +84,10 @@ pub first_direction-direction-requires : goal.first_direction-direction-requires
 first_direction-direction-requires c =
     let b = c.before.before.before.before.before.before in let p = (start b).requires in
     record {
-      sound = p.0;
-      directions_len = p.1.0;
-      x_len = (p.1.1, refl, refl, refl);
-      w_in_bounds = (omega (arith, k_long b, p.0.n_most), k_small b (omega (arith, c.if-sized-n.false, n_is b)));
+      sound = p.sound;
+      directions_len = p.directions_len;
+      x_len = (p.x_len, refl, refl, refl);
+      w_in_bounds = (omega (arith, k_long b, p.sound.n_most), k_small b (omega (arith, c.if-sized-n.false, n_is b)));
     }
 
 -- ---- no correlate is too large, and the V lines have been compared
@@ -143,11 +142,11 @@ pub first_condition-condition-requires : goal.first_condition-condition-requires
 first_condition-condition-requires c =
     let d = c.before.before.before.before.before.before.before.before in let b = taken d in let p = (start b).requires in
     let all : (t b).m ≤ v_first d = omega (arith, c.if-direction-m.false, m_is b) in record {
-      sound = p.0;
-      x_len = p.1.1;
-      q_in_bounds = (omega (arith, v_long d, p.0.m_most), v_small d all);
-      q_in_bounds_2 = (omega (arith, u_long d, p.0.m_most), u_small d all);
-      w_in_bounds = (p.0.n_most, length-take-le _ _ (omega (arith, n_is b, p.0.n_most)) ∙ n_is b);
+      sound = p.sound;
+      x_len = p.x_len;
+      q_in_bounds = (omega (arith, v_long d, p.sound.m_most), v_small d all);
+      q_in_bounds_2 = (omega (arith, u_long d, p.sound.m_most), u_small d all);
+      w_in_bounds = (p.sound.n_most, length-take-le _ _ (omega (arith, n_is b, p.sound.n_most)) ∙ n_is b);
     }
 
 -- ---- and the K lines

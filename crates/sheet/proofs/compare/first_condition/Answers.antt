@@ -3,7 +3,6 @@ use mathlib.Core.Path.{◌≡◌, refl, ◌∙◌, ap}
 use mathlib.Core.List.{List}
 use Prim.Native.Nat.{ℕ, ◌≤◌}
 use native.Mathlib.Omega.{arith}
-use borrow.Author.Rules.{rules}
 use lib.IntN.{ℤ, pos}
 use lib.ListN.{length}
 use Rattle.exact.proofs.Filling.{tabulate_at}
@@ -52,8 +51,8 @@ module _ (c : After-print_remainders) where
 
 pub first_unlike-requires : goal.first_unlike-requires
 first_unlike-requires c =
-    let p = c.before in let s = start p in let l = s.requires.1 in
-    (l.0, omega (arith, few p, s.requires.sound.m_most, s.requires.sound.n_most), omega (arith, few p, r_long p, l.1.1.1.0), omega (arith, few p, misses_long p, l.1.1.1.1))
+    let p = c.before in let s = start p in let r = s.requires in
+    (r.x_len, omega (arith, few p, r.sound.m_most, r.sound.n_most), omega (arith, few p, r_long p, r.w_in_bounds.0), omega (arith, few p, misses_long p, r.w_in_bounds.1))
 
 pub returns : goal.returns
 returns c = λ listing f k.

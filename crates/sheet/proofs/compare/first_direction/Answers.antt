@@ -3,7 +3,6 @@ use mathlib.Core.Path.{◌≡◌, refl, sym, ◌∙◌, ap}
 use mathlib.Core.List.{List, ◌++◌}
 use Prim.Native.Nat.{ℕ, ◌≤◌, ◌<◌}
 use native.Mathlib.Omega.{arith}
-use borrow.Author.Rules.{rules}
 use borrow.Author.Tests.{ltb-false}
 use lib.IntN.{ℤ, pos, nat_abs}
 use lib.ListN.{length, drop, length-append, get_or-append}
@@ -21,10 +20,10 @@ use Rattle.sheet.proofs.compare.first_direction.Goals.{After-adjust_directions, 
 
 pub corrections-requires : goal.corrections-requires
 corrections-requires c = let p = c.requires in record {
-      sound = p.0;
-      w_in_bounds = p.1.1.1;
-      q_in_bounds = omega (arith, p.0.m_most, p.1.1.0.1);
-    }
+  sound = p.sound;
+  w_in_bounds = p.w_in_bounds;
+  q_in_bounds = omega (arith, p.sound.m_most, p.x_len.1);
+}
 
 -- what has been formed of the table
 module _ (c : After-print_corrections-within) where

@@ -2,9 +2,8 @@
 use mathlib.Core.Path.{◌≡◌, sym, ◌∙◌, ap, subst}
 use mathlib.Core.Bool.{Bool}
 use mathlib.Core.List.{List}
-use Prim.Native.Nat.{ℕ, ◌+◌, ◌-◌, ◌≤◌, ◌<◌, zero-le}
+use Prim.Native.Nat.{ℕ, ◌+◌, ◌<◌, zero-le}
 use native.Mathlib.Omega.{arith}
-use borrow.Author.Rules.{rules}
 use borrow.Author.Tests.{lt-ltb, le-ltb}
 use lib.Dec.{ltb}
 use lib.IntN.{ℤ, pos, nat_abs}
@@ -12,7 +11,7 @@ use mir.Syntax.{w64}
 use mir.Val.{to_z, of_z}
 use Rattle.exact.proofs.Bound.{read_at}
 use Rattle.exact.proofs.Searching.{Failed, failed_none, failed_more, first_at, first_none}
-use Rattle.exact.proofs.Filling.{Filled, filled_none, filled_more}
+use Rattle.exact.proofs.Filling.{filled_none, filled_more}
 use Rattle.sheet.specs.Inner.{number_at}
 use Rattle.sheet.proofs.compare.take_correlates.Goals as goal
 use Rattle.sheet.proofs.compare.take_correlates.Goals.{After-magnitude, At-loop-j, Start}

@@ -1,18 +1,11 @@
 -- `compare::take_correlates` meets its contract: the correlates before j are within 10^8 and stand in their list. Assumes nothing.
-use mathlib.Core.Path.{◌≡◌, sym, ◌∙◌, ap, subst}
 use mathlib.Core.Bool.{Bool}
 use mathlib.Core.List.{List}
-use Prim.Native.Nat.{ℕ, ◌+◌, ◌-◌, ◌≤◌, ◌<◌, zero-le}
-use native.Mathlib.Omega.{arith}
-use borrow.Author.Rules.{rules}
-use borrow.Author.Tests.{lt-ltb, le-ltb}
+use Prim.Native.Nat.{ℕ, ◌+◌, ◌-◌, ◌≤◌}
 use lib.Dec.{ltb}
 use lib.IntN.{ℤ, pos, nat_abs}
-use mir.Syntax.{w64}
-use mir.Val.{to_z, of_z}
-use Rattle.exact.proofs.Bound.{read_at}
-use Rattle.exact.proofs.Searching.{Failed, failed_none, failed_more, first_at, first_none}
-use Rattle.exact.proofs.Filling.{Filled, filled_none, filled_more}
+use Rattle.exact.proofs.Searching.{Failed}
+use Rattle.exact.proofs.Filling.{Filled}
 use Rattle.sheet.specs.Inner.{number_at}
 use Rattle.sheet.proofs.compare.take_correlates.Given as goal
 

@@ -1,6 +1,5 @@
 -- `form::due_line` meets its contract. Assumes nothing.
 use native.Mathlib.Omega.{arith}
-use borrow.Author.Rules.{rules}
 use Rattle.sheet.proofs.Forming.{due_v, due_k}
 use Rattle.sheet.proofs.form.due_line.Goals as goal
 

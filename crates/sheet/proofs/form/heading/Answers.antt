@@ -1,7 +1,6 @@
 -- `form::heading` meets its contract. Assumes nothing.
-use mathlib.Core.Path.{refl, sym, ◌∙◌}
+use mathlib.Core.Path.{sym, ◌∙◌}
 use native.Mathlib.Omega.{arith}
-use borrow.Author.Rules.{rules}
 use Rattle.text.specs.Rows.{row_end, row_values, end_of}
 use Rattle.text.proofs.Parting.{begins_length}
 use Rattle.sheet.specs.Form.{adj_head}
@@ -15,9 +14,15 @@ read-requires c =
 pub returns-then-begins : goal.returns-then-begins
 unfolding row_end
 returns-then-begins c =
-    rw (heading_row c.args.listing.now (sym c.begins.ensures ∙ c.if-begins.true)) (c.read.ensures.end, c.read.ensures.values)
+    let row = heading_row c.args.listing.now (sym c.begins.ensures ∙ c.if-begins.true) in record {
+      end = rw row c.read.ensures.end;
+      values = rw row c.read.ensures.values;
+    }
 
 pub returns : goal.returns
 unfolding end_of row_values
 returns c =
-    rw (no_heading c.args.listing.now (sym c.begins.ensures ∙ c.if-begins.false)) (refl, refl)
+    let none = no_heading c.args.listing.now (sym c.begins.ensures ∙ c.if-begins.false) in record {
+      end = rw none;
+      values = rw none;
+    }

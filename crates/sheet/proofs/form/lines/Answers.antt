@@ -2,10 +2,9 @@
 use mathlib.Core.Path.{◌≡◌, refl, sym, ◌∙◌, subst}
 use mathlib.Core.List.{List}
 use mathlib.Core.Option.{some}
-use Prim.Native.Nat.{ℕ, ◌+◌, ◌*◌, ◌-◌, ◌≤◌}
+use Prim.Native.Nat.{ℕ, ◌+◌, ◌*◌, ◌-◌}
 use native.Mathlib.Nat.{le_refl}
 use native.Mathlib.Omega.{arith}
-use borrow.Author.Rules.{rules}
 use lib.IntN.{ℤ}
 use lib.ListN.{length, take}
 use borrow.Rule.Slice.PartMut.{mid_of, put_mid, same_len_mid, mid_len}
@@ -13,7 +12,7 @@ use Rattle.text.specs.Parts.{place_from}
 use Rattle.text.specs.Lines.{LF}
 use Rattle.text.proofs.Rowing.{told_some, told_none}
 use Rattle.sheet.specs.Form.{fields_due}
-use Rattle.sheet.specs.Inner.{due_from, Headed}
+use Rattle.sheet.specs.Inner.{due_from}
 use Rattle.sheet.proofs.Forming.{Begun, begun_none, begun_put, fields_most, broken, goes_on_lem, all_read}
 use Rattle.sheet.proofs.form.lines.Goals as goal
 use Rattle.sheet.proofs.form.lines.Goals.{After-due_line-end, At-loop-i, In-Next, Start}
