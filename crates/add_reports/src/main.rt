@@ -1,12 +1,12 @@
 // The program that adds up season reports: those that come on standard input, one after another.
 #![tactic(auto)]
 
-fn main(rt: HostRuntime) {
+use lister::sums;
+use std::process::ExitCode;
+
+fn main(rt: HostRuntime) -> ExitCode {
     let mut input = rt.stdin();
-    lister::report(
-        &rt,
-        b"add_reports",
-        lister::sums::add_open(&rt, &mut input),
-        b"standard input",
-    );
+    let outcome = sums::add_open(&rt, &mut input);
+    lister::report(&rt, b"add_reports", outcome, b"standard input");
+    lister::status(outcome)
 }

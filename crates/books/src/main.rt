@@ -3,7 +3,8 @@
 #![tactic(auto)]
 
 use lister::Files;
+use std::process::ExitCode;
 
-fn main(rt: HostRuntime) {
-    lister::list_arguments(&rt, b"books", true, Files::Books);
+fn main(rt: HostRuntime) -> ExitCode {
+    lister::list_arguments(&rt, b"books", true, Files::Books)
 }

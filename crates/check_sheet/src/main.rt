@@ -2,12 +2,13 @@
 // the toolchain has a library of that one.)
 #![tactic(auto)]
 
-fn main(rt: HostRuntime) {
+use lister::sheets;
+use std::process::ExitCode;
+
+fn main(rt: HostRuntime) -> ExitCode {
     if lister::arg_count(&rt) == 3 {
-        lister::sheets::check_pair(&rt, b"check", false, 1, 2);
-    } else {
-        let _ = rt.stderr().write_all(
-            b"check: too few names or too many; it is: check NET LISTING\n",
-        );
+        return lister::status(sheets::check_pair(&rt, b"check", false, 1, 2));
     }
+    let _ = rt.stderr().write_all(b"check: too few names or too many; it is: check NET LISTING\n");
+    ExitCode::SUCCESS
 }

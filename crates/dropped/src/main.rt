@@ -3,17 +3,15 @@
 #![tactic(auto)]
 
 use lister::Files;
+use std::process::ExitCode;
 
-fn main(rt: HostRuntime) {
+fn main(rt: HostRuntime) -> ExitCode {
     if lister::arg_count(&rt) < 2 {
         let mut input = rt.stdin();
-        lister::report(
-            &rt,
-            b"dropped",
-            lister::list_open(&rt, &mut input, Files::Dropped),
-            b"standard input",
-        );
+        let outcome = lister::list_open(&rt, &mut input, Files::Dropped);
+        lister::report(&rt, b"dropped", outcome, b"standard input");
+        lister::status(outcome)
     } else {
-        lister::list_arguments(&rt, b"dropped", false, Files::Dropped);
+        lister::list_arguments(&rt, b"dropped", false, Files::Dropped)
     }
 }

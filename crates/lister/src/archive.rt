@@ -7,6 +7,7 @@ ghost use Rattle.lister.specs.Ended.{ended_in};
 use crate::{Input, MOST_READS, NAME, Outcome, PART};
 use season::stream;
 use std::io::Read;
+use std::process::ExitCode;
 use totals::{TOTALS, report};
 
 // All bytes of an open file. Answers whether it was read to its end.
@@ -92,11 +93,7 @@ fn print(held: &[u8], totals: &mut [u64], place: &mut [u64], out: &mut [u8]) -> 
 fn write_report(rt: &impl Print, held: &[u8], totals: &mut [u64], place: &mut [u64]) -> Outcome {
     let mut out = [0u8; report::REPORT];
     let n = print(held, totals, place, &mut out);
-    if rt.write_all(&out[..n]).is_ok() {
-        Outcome::Listed
-    } else {
-        Outcome::Unwritten
-    }
+    crate::write(rt, &out[..n])
 }
 
 // The report of an archive that is open.
@@ -111,14 +108,16 @@ pub fn report_open(rt: &impl Print, input: &mut impl Read) -> Outcome {
     write_report(rt, &held, &mut totals, &mut place)
 }
 
-// The one report of all archives that the arguments name. Where one of them cannot be read there is none.
-pub fn report_arguments(rt: &HostRuntime, program: &[u8]) {
+// The one report of all archives that the arguments name. Where one of them cannot be read there is none. Answers the program's exit status.
+pub fn report_arguments(rt: &HostRuntime, program: &[u8]) -> ExitCode {
     let mut held = [0u8; stream::ROOM];
     let mut totals = [0u64; TOTALS];
     let mut place = [0u64; stream::PLACES];
     stream::begin(&held, &mut totals, &mut place);
-    if feed_arguments(rt, program, &mut held, &mut totals, &mut place) {
-        let outcome = write_report(rt, &held, &mut totals, &mut place);
-        crate::report(rt, program, outcome, b"the archives");
+    if !feed_arguments(rt, program, &mut held, &mut totals, &mut place) {
+        return ExitCode::SUCCESS;
     }
+    let outcome = write_report(rt, &held, &mut totals, &mut place);
+    crate::report(rt, program, outcome, b"the archives");
+    crate::status(outcome)
 }

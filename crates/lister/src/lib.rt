@@ -4,7 +4,7 @@
 // (`sheets`).
 //
 // What cannot be done is said on standard error, a line for each file that opens with the program's name, and nothing else
-// is. A program has no exit status of its own, so the command that runs it goes by these lines.
+// is. A program's exit status says one thing alone, that the reader of its listing wanted no more, so the command that runs it goes by these lines.
 #![tactic(auto)]
 
 pub mod archive;
@@ -21,7 +21,8 @@ use book::parts::Part;
 use listing::Sheet;
 use std::env::{Env, FillError};
 use std::fs::File;
-use std::io::Read;
+use std::io::{ErrorKind, Read};
+use std::process::ExitCode;
 
 // One byte more than the longest file has, so that a longer one is seen by its length, however long it is.
 const ROOM: usize = 65536;
@@ -65,7 +66,13 @@ pub enum Outcome {
     Listed,
     Unread,
     Unwritten,
+    // The reader of the listing wanted no more of it.
+    Unwanted,
 }
+
+// The exit status that a shell tells where the signal SIGPIPE ended a program: 128 and that signal's number. The system no longer ends a program so,
+// since it runs with the signal ignored; it ends itself.
+const UNWANTED: u8 = 141;
 
 // One read.
 fn read_some(file: &mut impl Read, buf: &mut [u8]) -> Input
@@ -117,11 +124,20 @@ fn list(files: Files, file: &[u8], out: &mut [u8]) -> usize
     }
 }
 
-// Writes the listing of a file. Answers whether all of it was written. The buffer is for the longest listing of all, the kept lines of a spoiled book.
-fn write_listing(rt: &impl Print, files: Files, file: &[u8]) -> bool {
+// Writes to standard output.
+fn write(rt: &impl Print, listing: &[u8]) -> Outcome {
+    match rt.write_all(listing) {
+        Ok(()) => Outcome::Listed,
+        Err(e) if e.kind() == ErrorKind::BrokenPipe => Outcome::Unwanted,
+        Err(_) => Outcome::Unwritten,
+    }
+}
+
+// Writes the listing of a file. The buffer is for the longest listing of all, the kept lines of a spoiled book.
+fn write_listing(rt: &impl Print, files: Files, file: &[u8]) -> Outcome {
     let mut out = [0u8; parts::KEPT];
     let n = list(files, file, &mut out);
-    rt.write_all(&out[..n]).is_ok()
+    write(rt, &out[..n])
 }
 
 // A file that is open. One that was read in part has no listing.
@@ -130,11 +146,7 @@ pub fn list_open(rt: &impl Print, input: &mut impl Read, files: Files) -> Outcom
     let Input::Bytes(n) = read_whole(input, &mut file) else {
         return Outcome::Unread;
     };
-    if write_listing(rt, files, &file[..n]) {
-        Outcome::Listed
-    } else {
-        Outcome::Unwritten
-    }
+    write_listing(rt, files, &file[..n])
 }
 
 // A line on standard error. Where that cannot be written, nothing is left to say it on.
@@ -147,19 +159,30 @@ fn say(rt: &HostRuntime, program: &[u8], what: &[u8], name: &[u8]) {
     let _ = errors.write_all(b"\n");
 }
 
-// Says what went wrong. Answers whether to go on: where one listing could not be written, the next could not be either.
+// Whether to go on behind a file: where one listing could not be written, the next could not be either.
+fn goes_on(outcome: Outcome) -> bool {
+    match outcome {
+        Outcome::Listed | Outcome::Unread => true,
+        Outcome::Unwritten | Outcome::Unwanted => false,
+    }
+}
+
+// The exit status of a program whose last file came to this.
+pub fn status(outcome: Outcome) -> ExitCode {
+    match outcome {
+        Outcome::Unwanted => ExitCode::from(UNWANTED),
+        Outcome::Listed | Outcome::Unread | Outcome::Unwritten => ExitCode::SUCCESS,
+    }
+}
+
+// Says what went wrong. Answers whether to go on. Where the reader wanted no more nothing is said, as with other commands.
 pub fn report(rt: &HostRuntime, program: &[u8], outcome: Outcome, name: &[u8]) -> bool {
     match outcome {
-        Outcome::Listed => true,
-        Outcome::Unread => {
-            say(rt, program, b"read ", name);
-            true
-        }
-        Outcome::Unwritten => {
-            say(rt, program, b"write the listing of ", name);
-            false
-        }
+        Outcome::Listed | Outcome::Unwanted => {}
+        Outcome::Unread => say(rt, program, b"read ", name),
+        Outcome::Unwritten => say(rt, program, b"write the listing of ", name),
     }
+    goes_on(outcome)
 }
 
 // The line with a file's name.
@@ -192,16 +215,17 @@ fn open_named(rt: &HostRuntime, program: &[u8], name: &[u8]) -> Option<File> {
     file
 }
 
-// The file of that name, under a line with the name where it is headed. Answers whether to go on.
-fn print_named(rt: &HostRuntime, program: &[u8], headed: bool, kind: Kind, name: &[u8]) -> bool {
+// The file of that name, under a line with the name where it is headed.
+fn print_named(rt: &HostRuntime, program: &[u8], headed: bool, kind: Kind, name: &[u8]) -> Outcome {
     if headed {
         write_heading(rt, name);
     }
     let Some(mut file) = open_named(rt, program, name) else {
-        return true;
+        return Outcome::Unread;
     };
     let outcome = print_open(rt, &mut file, kind);
-    report(rt, program, outcome, name)
+    report(rt, program, outcome, name);
+    outcome
 }
 
 // How many arguments there are, the program's own name among them.
@@ -228,22 +252,24 @@ fn name_of(rt: &impl Env, i: usize, name: &mut [u8]) -> usize
 }
 
 // The file that argument i names.
-fn print_argument(rt: &HostRuntime, program: &[u8], headed: bool, kind: Kind, i: usize) -> bool {
+fn print_argument(rt: &HostRuntime, program: &[u8], headed: bool, kind: Kind, i: usize) -> Outcome {
     let mut name = [0u8; NAME];
     let n = name_of(rt, i, &mut name);
     print_named(rt, program, headed, kind, &name[..n])
 }
 
-// The files that the arguments name, in turn. Argument 0 is the program's own name.
-pub fn print_arguments(rt: &HostRuntime, program: &[u8], headed: bool, kind: Kind) {
+// The files that the arguments name, in turn. Argument 0 is the program's own name. Answers the program's exit status.
+pub fn print_arguments(rt: &HostRuntime, program: &[u8], headed: bool, kind: Kind) -> ExitCode {
     for i in 1..arg_count(rt) {
-        if !print_argument(rt, program, headed, kind, i) {
-            break;
+        let outcome = print_argument(rt, program, headed, kind, i);
+        if !goes_on(outcome) {
+            return status(outcome);
         }
     }
+    ExitCode::SUCCESS
 }
 
 // The same of files that are read whole.
-pub fn list_arguments(rt: &HostRuntime, program: &[u8], headed: bool, files: Files) {
-    print_arguments(rt, program, headed, Kind::Whole(files));
+pub fn list_arguments(rt: &HostRuntime, program: &[u8], headed: bool, files: Files) -> ExitCode {
+    print_arguments(rt, program, headed, Kind::Whole(files))
 }

@@ -4,7 +4,8 @@ ghost use Rattle.text.specs.Written.{Wrote};
 ghost use Rattle.sheet.specs.Answer.{answer_in};
 ghost use Rattle.lister.specs.Input.{Within};
 
-use crate::{Input, NAME, ROOM};
+use crate::{Input, NAME, Outcome, ROOM};
+use std::process::ExitCode;
 
 // The file of that name, as much of it as the buffer holds. What cannot be opened or read is said.
 fn read_named(rt: &HostRuntime, program: &[u8], name: &[u8], file: &mut [u8]) -> Input
@@ -30,29 +31,28 @@ fn print(net: &[u8], listing: &[u8], out: &mut [u8]) -> usize
     sheet::print(net, listing, out)
 }
 
-// Writes the answer. Answers whether all of it was written.
-fn write_answer(rt: &impl Print, net: &[u8], listing: &[u8]) -> bool {
+// Writes the answer.
+fn write_answer(rt: &impl Print, net: &[u8], listing: &[u8]) -> Outcome {
     let mut out = [0u8; sheet::ANSWER];
     let n = print(net, listing, &mut out);
-    rt.write_all(&out[..n]).is_ok()
+    crate::write(rt, &out[..n])
 }
 
-// The net and the sheet of these names. Where one of them cannot be read there is no answer. Answers whether to go on: where one answer could not be
-// written, the next could not be either.
-fn check_named(rt: &HostRuntime, program: &[u8], net: &[u8], sheet: &[u8]) -> bool {
+// The net and the sheet of these names. Where one of them cannot be read there is no answer.
+fn check_named(rt: &HostRuntime, program: &[u8], net: &[u8], sheet: &[u8]) -> Outcome {
     let mut file = [0u8; ROOM];
     let mut listing = [0u8; ROOM];
     let Input::Bytes(n) = read_named(rt, program, net, &mut file) else {
-        return true;
+        return Outcome::Unread;
     };
     let Input::Bytes(m) = read_named(rt, program, sheet, &mut listing) else {
-        return true;
+        return Outcome::Unread;
     };
-    let written = write_answer(rt, &file[..n], &listing[..m]);
-    if !written {
+    let outcome = write_answer(rt, &file[..n], &listing[..m]);
+    if let Outcome::Unwritten = outcome {
         crate::say(rt, program, b"write the answer to ", sheet);
     }
-    written
+    outcome
 }
 
 // The net and the sheet that two arguments name, under a line with the sheet's name where it is headed.
@@ -62,7 +62,7 @@ pub fn check_pair(
     headed: bool,
     net: usize,
     sheet: usize,
-) -> bool {
+) -> Outcome {
     let mut net_name = [0u8; NAME];
     let mut sheet_name = [0u8; NAME];
     let n = crate::name_of(rt, net, &mut net_name);
@@ -74,11 +74,17 @@ pub fn check_pair(
 }
 
 // The nets and sheets that the arguments name by turns, each pair under the sheet's name. A net at the end, with no sheet behind it, is left out.
-pub fn check_arguments(rt: &HostRuntime, program: &[u8]) {
+// Where one answer could not be written, the next could not be either. Answers the program's exit status.
+pub fn check_arguments(rt: &HostRuntime, program: &[u8]) -> ExitCode {
     let mut left = crate::arg_count(rt);
     let mut i: usize = 1;
-    while 2 < left && check_pair(rt, program, true, i, i + 1) {
+    while 2 < left {
+        let outcome = check_pair(rt, program, true, i, i + 1);
+        if !crate::goes_on(outcome) {
+            return crate::status(outcome);
+        }
         i += 2;
         left -= 2;
     }
+    ExitCode::SUCCESS
 }

@@ -8,11 +8,7 @@ use totals::{adding, report};
 fn write_sum(rt: &impl Print, a: Adding) -> Outcome {
     let mut out = [0u8; report::REPORT];
     let n = adding::end(a, &mut out);
-    if rt.write_all(&out[..n]).is_ok() {
-        Outcome::Listed
-    } else {
-        Outcome::Unwritten
-    }
+    crate::write(rt, &out[..n])
 }
 
 // The sum of the reports in a file that is open.

@@ -3,17 +3,15 @@
 #![tactic(auto)]
 
 use lister::Files;
+use std::process::ExitCode;
 
-fn main(rt: HostRuntime) {
+fn main(rt: HostRuntime) -> ExitCode {
     if lister::arg_count(&rt) < 2 {
         let mut input = rt.stdin();
-        lister::report(
-            &rt,
-            b"probable",
-            lister::list_open(&rt, &mut input, Files::NetworksWithErrors),
-            b"standard input",
-        );
+        let outcome = lister::list_open(&rt, &mut input, Files::NetworksWithErrors);
+        lister::report(&rt, b"probable", outcome, b"standard input");
+        lister::status(outcome)
     } else {
-        lister::list_arguments(&rt, b"probable", false, Files::NetworksWithErrors);
+        lister::list_arguments(&rt, b"probable", false, Files::NetworksWithErrors)
     }
 }

@@ -3,17 +3,15 @@
 #![tactic(auto)]
 
 use lister::archive;
+use std::process::ExitCode;
 
-fn main(rt: HostRuntime) {
+fn main(rt: HostRuntime) -> ExitCode {
     if lister::arg_count(&rt) < 2 {
         let mut input = rt.stdin();
-        lister::report(
-            &rt,
-            b"report",
-            archive::report_open(&rt, &mut input),
-            b"standard input",
-        );
+        let outcome = archive::report_open(&rt, &mut input);
+        lister::report(&rt, b"report", outcome, b"standard input");
+        lister::status(outcome)
     } else {
-        archive::report_arguments(&rt, b"report");
+        archive::report_arguments(&rt, b"report")
     }
 }

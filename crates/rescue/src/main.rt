@@ -3,17 +3,15 @@
 #![tactic(auto)]
 
 use lister::Files;
+use std::process::ExitCode;
 
-fn main(rt: HostRuntime) {
+fn main(rt: HostRuntime) -> ExitCode {
     if lister::arg_count(&rt) < 2 {
         let mut input = rt.stdin();
-        lister::report(
-            &rt,
-            b"rescue",
-            lister::list_open(&rt, &mut input, Files::Rescued),
-            b"standard input",
-        );
+        let outcome = lister::list_open(&rt, &mut input, Files::Rescued);
+        lister::report(&rt, b"rescue", outcome, b"standard input");
+        lister::status(outcome)
     } else {
-        lister::list_arguments(&rt, b"rescue", false, Files::Rescued);
+        lister::list_arguments(&rt, b"rescue", false, Files::Rescued)
     }
 }

@@ -3,8 +3,9 @@
 #![tactic(auto)]
 
 use lister::Files;
+use std::process::ExitCode;
 
-fn main(rt: HostRuntime) {
+fn main(rt: HostRuntime) -> ExitCode {
     lister::list_arguments(&rt, b"rescues", true, Files::Rescued);
-    lister::list_arguments(&rt, b"rescues", true, Files::Dropped);
+    lister::list_arguments(&rt, b"rescues", true, Files::Dropped)
 }

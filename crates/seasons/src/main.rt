@@ -3,7 +3,8 @@
 #![tactic(auto)]
 
 use lister::Kind;
+use std::process::ExitCode;
 
-fn main(rt: HostRuntime) {
-    lister::print_arguments(&rt, b"seasons", true, Kind::Archives);
+fn main(rt: HostRuntime) -> ExitCode {
+    lister::print_arguments(&rt, b"seasons", true, Kind::Archives)
 }

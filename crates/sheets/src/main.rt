@@ -2,6 +2,8 @@
 // what that must be, worked out by the independent program (see `answers`).
 #![tactic(auto)]
 
-fn main(rt: HostRuntime) {
-    lister::sheets::check_arguments(&rt, b"sheets");
+use std::process::ExitCode;
+
+fn main(rt: HostRuntime) -> ExitCode {
+    lister::sheets::check_arguments(&rt, b"sheets")
 }

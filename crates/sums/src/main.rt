@@ -3,7 +3,8 @@
 #![tactic(auto)]
 
 use lister::Kind;
+use std::process::ExitCode;
 
-fn main(rt: HostRuntime) {
-    lister::print_arguments(&rt, b"sums", true, Kind::Reports);
+fn main(rt: HostRuntime) -> ExitCode {
+    lister::print_arguments(&rt, b"sums", true, Kind::Reports)
 }
