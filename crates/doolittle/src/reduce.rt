@@ -14,6 +14,9 @@ pub type Row = [i64; 25];
 // The place of a row's constant.
 pub const CONSTANT: usize = 24;
 
+// The coefficient of a direction that a condition does not touch.
+const UNTOUCHED: i64 = 0;
+
 // q*x, where q is an inverse weight: of a coefficient here, and in `adjustment` of a sum of a*K.
 pub fn weighted(q: i64, x: i64) -> i64
     requires { (nat_abs q ≤ 10) × (nat_abs x ≤ 4800000000000) }
@@ -41,7 +44,7 @@ fn add_direction(q: &[i64], a: &[i64], w: &[i64], j: usize, start: usize, i: usi
         (at row.old CONSTANT) row.new }
 {
     let x = a[start + i];
-    if x == 0 {
+    if x == UNTOUCHED {
         return;
     }
     let g = q[i];

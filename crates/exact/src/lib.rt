@@ -27,7 +27,8 @@ pub fn floor(n: i64, d: i64) -> i64
     ensures { result ≡ floor n d }
 {
     let q = n / d;
-    if n % d < 0 { q - 1 } else { q }
+    let below = n % d < 0;
+    if below { q - 1 } else { q }
 }
 
 // What is left of z when whole m are taken away: from 0 to m - 1.

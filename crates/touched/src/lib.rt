@@ -8,6 +8,9 @@ ghost use Rattle.exact.specs.First.{some_below};
 ghost use Rattle.touched.specs.Shared.{one_if, shares_three};
 ghost use Rattle.touched.specs.Inner.{word_of, shared_ones, shares_before, WordsOf};
 
+// So many directions two conditions share that a report counts them.
+const MANY: u32 = 3;
+
 // The word of the directions before direction i, with direction i where its coefficient x is not zero.
 fn with_direction(word: u64, i: usize, x: i64) -> u64
     requires { (i < 64) × (word < 2 ^ i) }
@@ -65,7 +68,7 @@ fn shares_before(words: &[u64; 24], j: usize) -> bool
     let mut k = 0;
     while k < j {
         let y = words[k];
-        if 3 <= shared(x, y) {
+        if MANY <= shared(x, y) {
             return true;
         }
         k += 1;

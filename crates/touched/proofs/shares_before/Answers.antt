@@ -31,15 +31,15 @@ module _ (c : After-shared) where
   abbrev test : ℕ → Bool
   test = three loop.args.words.now j
 
-pub returns-then-shared-ge3 : goal.returns-then-shared-ge3
-returns-then-shared-ge3 c =
+pub returns-then-shared-ge-MANY : goal.returns-then-shared-ge-MANY
+returns-then-shared-ge-MANY c =
     let b : After-shared = record { before = c.before.before; type_inv = record { words = c.way_told-in-loop-k-1.given } } in let l = loop b in
-    sym (some_at (j b) (test b) l.loop-k.k (omega arith) l.loop-k.invariant.1 (le-leb 3 _ (rw b.shared.ensures at c.if-shared-ge3.true)))
+    sym (some_at (j b) (test b) l.loop-k.k (omega arith) l.loop-k.invariant.1 (le-leb 3 _ (rw b.shared.ensures at c.if-shared-ge-MANY.true)))
 
 pub loop-k-preserved : goal.loop-k-preserved
 loop-k-preserved c =
     let b : After-shared = record { before = c.before.before; type_inv = record { words = c.way_told-in-loop-k-1.given } } in let l = loop b in
-    (omega arith, failed_more (test b) l.loop-k.k l.loop-k.invariant.1 (lt-leb 3 _ (rw b.shared.ensures at c.if-shared-ge3.false)))
+    (omega arith, failed_more (test b) l.loop-k.k l.loop-k.invariant.1 (lt-leb 3 _ (rw b.shared.ensures at c.if-shared-ge-MANY.false)))
 
 pub returns : goal.returns
 returns c =

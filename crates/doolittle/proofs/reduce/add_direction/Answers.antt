@@ -59,11 +59,11 @@ x_is c =
     let s = c.before in
     read_at (at (a s) (s.args.start + i s)) c.x-1.given ∙ ap (λ (h : ℕ). at (a s) (h + i s)) s.requires.j_in_bounds.1
 
-pub returns-then-x-eq0 : goal.returns-then-x-eq0
-returns-then-x-eq0 c =
+pub returns-then-x-eq-UNTOUCHED : goal.returns-then-x-eq-UNTOUCHED
+returns-then-x-eq-UNTOUCHED c =
     let s = c.before.before in
     record {
-      coefficients = λ k h l. sym (ap (λ (z : ℤ). at (row s) k +ℤ z) (untouched (t s) (j s) k (i s) (sym (x_is c.before) ∙ ap (to_z w64) c.if-x-eq0.true)) ∙ +ℤ_idr (at (row s) k));
+      coefficients = λ k h l. sym (ap (λ (z : ℤ). at (row s) k +ℤ z) (untouched (t s) (j s) k (i s) (sym (x_is c.before) ∙ ap (to_z w64) c.if-x-eq-UNTOUCHED.true)) ∙ +ℤ_idr (at (row s) k));
       constant = refl;
     }
 
