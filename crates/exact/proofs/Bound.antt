@@ -7,7 +7,6 @@
 --   fits_within                     a number within a numeral fits: `fits_within z h tt`; fits_of_mag from a call's `.ok`; numeral_fits: a numeral
 --   read, read_at, read_within, bits_equal   what the machine reads back of a number that fits is the number; equal bits are equal numbers
 use mathlib.Core.Path.{◌≡◌, refl, sym, ◌∙◌, ap}
-use mathlib.Core.List.{[], ◌∷◌}
 use Prim.Native.Nat.{ℕ, zero, suc, ◌+◌, ◌*◌, ◌<◌, ◌≤◌, ◌^◌}
 use native.Mathlib.Nat.{le_trans, mul-le-mul_left, mul-le-mul_right, le_refl}
 use native.Mathlib.Omega.{arith}
@@ -17,11 +16,11 @@ use lib.Signed.{mag}
 use mir.Syntax.{w64}
 use mir.Val.{SFits, to_z, of_z}
 use mir.ValLaws.{to_z-of_z}
-use Rattle.exact.proofs.Linear.{unknowns, abs_by, linear}
+use Rattle.std.proofs.lemmas.Int.{ints, unsigned_abs-mul, fits_signed_from_abs}
 
 -- ---- the size of a sum, a negation, a product
 pub abs_add : (a b : ℤ) → nat_abs (a +ℤ b) ≤ nat_abs a + nat_abs b
-abs_add a b = let v = unknowns (a ∷ b ∷ []) in abs_by (a +ℤ b) (search linear) (omega arith)
+abs_add a b = omega (arith, ints)
 
 pub abs_neg : (a : ℤ) → nat_abs (neg_ℤ a) ≡ nat_abs a
 abs_neg (pos zero) = refl
@@ -29,10 +28,7 @@ abs_neg (pos (suc n)) = refl
 abs_neg (negsuc n) = refl
 
 pub abs_mul : (a b : ℤ) → nat_abs (a *ℤ b) ≡ nat_abs a * nat_abs b
-abs_mul (pos a) (pos b) = refl
-abs_mul (pos a) (negsuc b) = abs_neg (pos (a * suc b))
-abs_mul (negsuc a) (pos b) = abs_neg (pos (suc a * b))
-abs_mul (negsuc a) (negsuc b) = refl
+abs_mul a b = unsigned_abs-mul a b
 
 pub mul_le : {a b c d : ℕ} → a ≤ c → b ≤ d → a * b ≤ c * d
 mul_le {a} {b} {c} {d} h k = le_trans (mul-le-mul_left a k) (mul-le-mul_right d h)
@@ -102,12 +98,8 @@ fits_of_mag z h = record { sfits = h }
 pub ruleset bounds = (bounded_add, bounded_mul, bounded_neg, bounded_pos, bounded_negsuc, bounded_read, fits_of_mag)
 
 -- ---- what a bound shows
-mag_le_abs : (z : ℤ) → mag z ≤ nat_abs z
-mag_le_abs (pos n) = omega arith
-mag_le_abs (negsuc n) = omega arith
-
 pub abs_fits : {z : ℤ} → nat_abs z < 2 ^ 63 → SFits w64 z
-abs_fits {z} h = record { sfits = omega (arith, mag_le_abs z) }
+abs_fits {z} h = fits_signed_from_abs w64 z h
 
 pub fits_in : {z : ℤ} (s : Bounded z) → T (ltb s.bound (2 ^ 63)) → SFits w64 z
 fits_in {z} s t = abs_fits (omega (arith, ltb→lt s.bound (2 ^ 63) t))

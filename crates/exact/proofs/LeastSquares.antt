@@ -10,8 +10,8 @@ use Prim.Native.Nat.{ℕ, ◌<◌}
 use native.Mathlib.Omega.{arith}
 use lib.IntN.{ℤ, pos, neg_ℤ, ◌+ℤ◌, ◌-ℤ◌, ◌*ℤ◌, *ℤ-zero, +ℤ_idl}
 use lib.Signed.{◌≤ℤ◌, ◌<ℤ◌}
+use Rattle.std.proofs.lemmas.Int.{ints}
 use Rattle.exact.specs.Sum.{sum}
-use Rattle.exact.proofs.Linear.{unknowns, linear, orders, eq_by, le_by, eq_of}
 use Rattle.exact.proofs.Identity.{letters, polynomials, ring_by}
 use Rattle.exact.proofs.Order.{mul_nonneg, square_nonneg, square_zero, same_by, lt_le}
 use Rattle.exact.proofs.Sum.{sum_ext, sum_add, sum_mul, sum_swap, sum_zero, sum_nonneg, sum_zeros}
@@ -34,10 +34,10 @@ squared g x c v = let ρ = g ∷ x ∷ c ∷ v ∷ [] in let e = letters ρ in r
 
 -- ---- orders of one term
 not_below : {s t : ℤ} (u : ℤ) → t ≡ s +ℤ u → pos 0 ≤ℤ u → s ≤ℤ t
-not_below {s} {t} u e h = let v = unknowns (s ∷ t ∷ u ∷ []) in le_by (search linear) (search linear) (omega (arith, orders, eq_of e (search linear) (search linear)))
+not_below u e h = omega (arith, ints)
 
 nothing_added : (s u : ℤ) → s ≡ s +ℤ u → u ≡ pos 0
-nothing_added s u e = let v = unknowns (s ∷ u ∷ []) in eq_by (search linear) (search linear) (omega (arith, eq_of e (search linear) (search linear)))
+nothing_added s u e = omega (arith, ints)
 
 -- the square of a difference, with a positive weight, is 0 only where there is none
 no_square : (x y g : ℤ) → pos 0 <ℤ g → g *ℤ ((x -ℤ y) *ℤ (x -ℤ y)) ≡ pos 0 → x ≡ y

@@ -2,11 +2,10 @@
 -- a product or a negation, and an order or an equation of ℤ is then one of ℕ, which `omega` reads, products multiplied out. Assumes nothing.
 --   Difference                              z = p − n, with what `omega` is to know of z; unknown, unknowns: of one variable, of a list of them
 --   linear                                  the set for `search`
---   eq_by, le_by, lt_by, abs_by, fits_by    a fact of ℤ shown by one of ℕ: `le_by (search linear) (search linear) (omega (arith, orders))`
+--   eq_by, le_by, lt_by, abs_by             a fact of ℤ shown by one of ℕ: `le_by (search linear) (search linear) (omega (arith, orders))`
 --   eq_of, le_of, lt_of                     a fact of ℤ about a compound, read as one of ℕ
 --   orders                                  the set for `omega`: it then reads each order, equation, range and test of ℤ in scope
 --   one_sided                               goes into omega's list where the proof turns on a sign
---   machine, returned, equal_to             a signed parameter of the code, a call's result, a number that equals an expression
 use mathlib.Core.Path.{◌≡◌, sym, ◌∙◌, ap, subst}
 use mathlib.Core.Bool.{Bool, true, false, not, cond}
 use mathlib.Core.List.{List, [], ◌∷◌}
@@ -137,31 +136,6 @@ pub mag_parts : (z : ℤ) (B : ℕ) → mag z < B → (above z < below z + B) ×
 mag_parts (pos n) B h = omega arith
 mag_parts (negsuc n) B h = omega arith
 
--- a signed variable of the code, and what the machine reads of it: `let x = machine c.fits.x in ..`
-pub record Machine (z : ℤ) : Type 0 where
-  pub is : Difference z
-  pub read : Difference (to_z w64 (of_z w64 z))
-  pub fits : SFits w64 z
-  pub most : above z < below z + 2 ^ 63
-  pub least : below z ≤ above z + 2 ^ 63
-
-abbrev pub machine : {z : ℤ} → SFits w64 z → Machine z
-machine {z} f = record {
-  is = unknown z;
-  read = difference_read f (unknown z);
-  fits = f;
-  most = (mag_parts z (2 ^ 63) f.sfits).0;
-  least = (mag_parts z (2 ^ 63) f.sfits).1;
-}
-
--- the same of a call's result: `let r = returned c.f.result c.f.ok in ..`
-abbrev pub returned : (z : ℤ) → mag z < 2 ^ 63 → Machine z
-returned z h = machine (record { sfits = h })
-
--- a number that equals an expression: `let r = equal_to c.f.ensures (search linear) in ..`
-abbrev pub equal_to : {a b : ℤ} → a ≡ b → Difference b → Difference a
-equal_to e s = difference s.p s.n (e ∙ is_difference s)
-
 -- ---- a fact of ℤ shown by one of ℕ (`-by`), and read as one of ℕ (`-of`)
 le_in : (a b : ℤ) → above a + below b ≤ above b + below a → T (le_z a b)
 le_in (pos a) (pos b) h = le→leb a b (omega arith)
@@ -191,10 +165,6 @@ abs_in : (z : ℤ) (B : ℕ) → above z ≤ below z + B → below z ≤ above z
 abs_in (pos n) B h k = omega arith
 abs_in (negsuc n) B h k = omega arith
 
-mag_in : (z : ℤ) (B : ℕ) → above z < below z + B → below z ≤ above z + B → mag z < B
-mag_in (pos n) B h k = omega arith
-mag_in (negsuc n) B h k = omega arith
-
 module _ {a b : ℤ} (s : Difference a) (t : Difference b) where
   pub eq_by : s.p + t.n ≡ t.p + s.n → a ≡ b
   eq_by e = parts_equal a b (omega (arith, s.balance, t.balance))
@@ -207,9 +177,6 @@ module _ {a b : ℤ} (s : Difference a) (t : Difference b) where
 
 pub abs_by : (a : ℤ) (s : Difference a) {B : ℕ} → (s.p ≤ s.n + B) × (s.n ≤ s.p + B) → nat_abs a ≤ B
 abs_by a s {B} h = abs_in a B (omega arith) (omega arith)
-
-pub fits_by : {a : ℤ} (s : Difference a) → (s.p < s.n + 2 ^ 63) × (s.n ≤ s.p + 2 ^ 63) → SFits w64 a
-fits_by {a} s h = record { sfits = mag_in a (2 ^ 63) (omega (arith, s.balance)) (omega (arith, s.balance)) }
 
 pub le_of : {a b : ℤ} → a ≤ℤ b → (s : Difference a) (t : Difference b) → s.p + t.n ≤ t.p + s.n
 le_of {a} {b} h s t = omega (arith, le_out a b h.le)

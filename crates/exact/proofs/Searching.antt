@@ -3,21 +3,26 @@
 --   first_none          n where all fail; some_at, some_none the same of `some_below`
 --   first_before        whatever lies before it fails; all_failed: where none passes, all fail
 --   first_least         no number that passes the test is below it
---   first_ext           of tests that agree below n; first_until: of tests that agree as long as all have failed
+--   first_ext, some_ext           of tests that agree below n; first_until: of tests that agree as long as all have failed
 --   first_most, first_found      it is n at most; first_more: one number more changes nothing where one before it passes
 --   first_either        of one test or another, where the first of the other is known
 --   from_failed, from_test, from_ext, from_none      a search that begins at j: whatever lies before j fails, from j on the test decides
 --   Failed, failed_none, failed_more       the loop's invariant: all below i fail
+--   some_in_range, some_in_range_from, some_in_list     `some_below` is what std's `any` answers over `0..n`, over `j..n`, and over a list
 --   not_both            a test does not both hold and fail
 --   neither, either     where one test or the other does not hold, neither does; where the second holds, one or the other does
 use mathlib.Core.Path.{◌≡◌, refl, sym, ◌∙◌, ap, subst}
 use mathlib.Core.Bool.{Bool, true, false, cond, ◌||◌, ◌&&◌}
-use Prim.Native.Nat.{ℕ, zero, suc, ◌+◌, ◌<◌, ◌≤◌}
+use Prim.Native.Nat.{ℕ, zero, suc, ◌+◌, ◌-◌, ◌<◌, ◌≤◌}
 use native.Mathlib.Omega.{arith}
 use native.Mathlib.Decide.{dec_le, dec_lt}
 use borrow.Author.Tests.{lt-ltb, le-ltb, le-leb, lt-leb, ltb-false}
 use borrow.Author.Count.{below_more}
-use lib.Dec.{T, leb}
+use lib.Dec.{T, leb, ltb}
+use lib.ListN.{length, get_or}
+use mathlib.Core.List.{List, [], ◌∷◌}
+use Rattle.std.specs.List.{list_any, range_with_len}
+use Rattle.std.proofs.lemmas.Bool.Decides.{nat_tests}
 use Rattle.exact.specs.First.{first, some_below}
 
 -- a test does not both hold and fail
@@ -85,6 +90,9 @@ unfolding first
 first_ext zero p r e = refl
 first_ext (suc n) p r e =
     λ t. cond (e 0 (omega arith) t) 0 (suc (first_ext n (λ i. p (suc i)) (λ i. r (suc i)) (λ i l. e (suc i) (omega arith)) t))
+
+pub some_ext : (n : ℕ) (p r : ℕ → Bool) → ((i : ℕ) → i < n → p i ≡ r i) → some_below n p ≡ some_below n r
+some_ext n p r e = ap (λ (h : ℕ). ltb h n) (first_ext n p r e)
 
 -- a search that begins at j
 pub from_failed : (j : ℕ) (p : ℕ → Bool) → Failed (λ k. leb j k && p k) j
@@ -160,3 +168,54 @@ unfolding first
 first_more zero p i l e = absurd (omega arith)
 first_more (suc n) p zero l e = rw e
 first_more (suc n) p (suc i) l e = ap (λ (k : ℕ). cond (p 0) 0 (suc k)) (first_more n (λ h. p (suc h)) i (omega arith) e)
+
+-- ---- what std's `any` answers over a range of numbers or over the elements of a list
+ltb_suc : (f n : ℕ) → ltb (suc f) (suc n) ≡ ltb f n
+ltb_suc f n = grind (arith, nat_tests)
+
+leb_suc : (j k : ℕ) → leb (suc j) (suc k) ≡ leb j k
+leb_suc j k = grind (arith, nat_tests)
+
+some_from : (a n : ℕ) (p : ℕ → Bool) → some_below n (λ i. p (a + i)) ≡ list_any p (range_with_len a n)
+unfolding first
+some_from a zero p = refl
+some_from a (suc n) p =
+    by_test (p a) (ap p (omega arith)) (some_ext n (λ i. p (a + suc i)) (λ i. p (a + 1 + i)) (λ i l. ap p (omega arith)) ∙ some_from (a + 1) n p)
+  where
+    by_test : (b : Bool) → p (a + 0) ≡ b → some_below n (λ i. p (a + suc i)) ≡ list_any p (range_with_len (a + 1) n)
+        → some_below (suc n) (λ i. p (a + i)) ≡ (b || list_any p (range_with_len (a + 1) n))
+    by_test true e r = rw e (lt-ltb 0 (suc n) (omega arith))
+    by_test false e r = rw e (ltb_suc (first n (λ i. p (a + suc i))) n ∙ r)
+
+pub some_in_range : (n : ℕ) (p : ℕ → Bool) → some_below n p ≡ list_any p (range_with_len 0 n)
+some_in_range n p = some_ext n p (λ i. p (0 + i)) (λ i l. ap p (omega arith)) ∙ some_from 0 n p
+
+from_shifted : (j n : ℕ) (p : ℕ → Bool) → some_below n (λ k. leb j k && p k) ≡ some_below (n - j) (λ i. p (j + i))
+unfolding first
+from_shifted zero n p =
+    let e : n ≡ n - 0 = omega arith in
+    some_ext n (λ k. leb 0 k && p k) (λ i. p (0 + i)) (λ i l. from_test 0 i p (omega arith) ∙ ap p (omega arith))
+    ∙ ap (λ (m : ℕ). some_below m (λ i. p (0 + i))) e
+from_shifted (suc j) zero p = let e : 0 ≡ 0 - suc j = omega arith in ap (λ (m : ℕ). some_below m (λ i. p (suc j + i))) e
+from_shifted (suc j) (suc n) p =
+    let e : n - j ≡ suc n - suc j = omega arith in
+    let b : leb (suc j) 0 ≡ false = lt-leb (suc j) 0 (omega arith) in
+    rw b (ltb_suc (first n (λ k. leb (suc j) (suc k) && p (suc k))) n)
+    ∙ some_ext n (λ k. leb (suc j) (suc k) && p (suc k)) (λ k. leb j k && p (suc k)) (λ k l. ap (λ (b : Bool). b && p (suc k)) (leb_suc j k))
+    ∙ from_shifted j n (λ k. p (suc k)) ∙ some_ext (n - j) (λ i. p (suc (j + i))) (λ i. p (suc j + i)) (λ i l. ap p (omega arith))
+    ∙ ap (λ (m : ℕ). some_below m (λ i. p (suc j + i))) e
+
+pub some_in_range_from : (j n : ℕ) (p : ℕ → Bool) → some_below n (λ k. leb j k && p k) ≡ list_any p (range_with_len j (n - j))
+some_in_range_from j n p = from_shifted j n p ∙ some_from j (n - j) p
+
+pub some_in_list : {A : Type 0} (xs : List A) (p : A → Bool) (d : A) → some_below (length xs) (λ i. p (get_or xs i d)) ≡ list_any p xs
+unfolding first
+some_in_list [] p d = refl
+some_in_list (x ∷ xs) p d = by_test (p x) (some_in_list xs p d)
+  where
+    rest : ℕ
+    rest = first (length xs) (λ i. p (get_or xs i d))
+
+    by_test : (b : Bool) → ltb rest (length xs) ≡ list_any p xs → ltb (cond b 0 (suc rest)) (suc (length xs)) ≡ (b || list_any p xs)
+    by_test true r = lt-ltb 0 (suc (length xs)) (omega arith)
+    by_test false r = ltb_suc rest (length xs) ∙ r

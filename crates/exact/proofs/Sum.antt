@@ -7,16 +7,15 @@
 --   sum_nonneg, sum_zeros             terms not below 0; where such terms add up to 0, each is 0
 --   sum_abs, sum_abs_sum              the size of a sum: each term within B; at most the sum of the sizes
 use mathlib.Core.Path.{◌≡◌, refl, sym, ◌∙◌, ap, subst}
-use mathlib.Core.List.{[], ◌∷◌}
 use Prim.Native.Nat.{ℕ, zero, suc, ◌+◌, ◌*◌, ◌<◌, ◌≤◌}
 use native.Mathlib.Numerals.{add-one}
 use native.Mathlib.Omega.{arith}
 use native.Mathlib.Decide.{dec_lt}
 use lib.IntN.{ℤ, pos, nat_abs, ◌+ℤ◌, ◌*ℤ◌, *ℤ-zero, +ℤ_idl, +ℤ_idr}
 use lib.Signed.{◌≤ℤ◌, ≤ℤ_refl}
+use Rattle.std.proofs.lemmas.Int.{ints}
 use Rattle.exact.specs.Sum.{sum}
 use Rattle.exact.proofs.Ring.{ring, *ℤ_dist_l}
-use Rattle.exact.proofs.Linear.{unknowns, linear, orders, eq_by, le_by, eq_of}
 use Rattle.exact.proofs.Bound.{abs_add}
 use Rattle.exact.proofs.Order.{add_le}
 
@@ -81,9 +80,7 @@ sum_nonneg (suc n) f h = add_le {a = pos 0} {c = pos 0} (sum_nonneg n f (λ i k.
 
 -- terms that are not negative and add up to 0 are 0
 both_zero : (a b : ℤ) → pos 0 ≤ℤ a → pos 0 ≤ℤ b → a +ℤ b ≡ pos 0 → (a ≡ pos 0) × (b ≡ pos 0)
-both_zero a b h k e =
-    let v = unknowns (a ∷ b ∷ []) in let s = eq_of e (search linear) (search linear) in
-    (eq_by (search linear) (search linear) (omega (arith, orders)), eq_by (search linear) (search linear) (omega (arith, orders)))
+both_zero a b h k e = (omega (arith, ints), omega (arith, ints))
 
 pub sum_zeros : (n : ℕ) (f : ℕ → ℤ) → ((i : ℕ) → i < n → pos 0 ≤ℤ f i) → sum n f ≡ pos 0 → (i : ℕ) → i < n → f i ≡ pos 0
 unfolding sum
@@ -108,9 +105,7 @@ sum_abs (suc n) B f h = omega (arith, abs_add (sum n f) (f n), sum_abs n B f (λ
 -- the size of a sum is at most the sum of the sizes
 module _ (f : ℕ → ℤ) where
   one_more : (s a t : ℤ) → pos (nat_abs s) ≤ℤ t → pos (nat_abs (s +ℤ a)) ≤ℤ (t +ℤ pos (nat_abs a))
-  one_more s a t h =
-      let v = unknowns (s ∷ a ∷ t ∷ []) in
-      le_by (search linear) (search linear) (omega (arith, orders, abs_add s a))
+  one_more s a t h = omega (arith, ints, abs_add s a)
 
   pub sum_abs_sum : (n : ℕ) → pos (nat_abs (sum n f)) ≤ℤ sum n (λ i. pos (nat_abs (f i)))
   unfolding sum

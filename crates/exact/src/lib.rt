@@ -22,42 +22,33 @@ pub fn nearest(n: i64, d: i64) -> i64
 }
 
 // The largest whole number that is not above n / d.
+#[tactic(auto, using(crate::proofs::Circles::floor_euclid))]
 pub fn floor(n: i64, d: i64) -> i64
     requires { pos 0 <ℤ d }
     ensures { result ≡ floor n d }
 {
-    let q = n / d;
-    let below = n % d < 0;
-    if below { q - 1 } else { q }
+    n.div_euclid(d)
 }
 
 // What is left of z when whole m are taken away: from 0 to m - 1.
+#[tactic(auto, using(crate::proofs::Circles::modulo_euclid))]
 pub fn modulo(z: i64, m: i64) -> i64
     requires { pos 0 <ℤ m }
     ensures { result ≡ modulo z m }
 {
-    let left = z % m;
-    if left < 0 { left + m } else { left }
+    z.rem_euclid(m)
 }
 
 // The size of z, also of the least 64-bit number, which has no negative of its own.
 pub fn magnitude(z: i64) -> u64
     ensures { result ≡ nat_abs z }
 {
-    if z < 0 {
-        let w = -(z + 1);
-        w as u64 + 1
-    } else {
-        z as u64
-    }
+    z.unsigned_abs()
 }
 
 // z is not from low to high.
 pub fn outside(low: i64, high: i64, z: i64) -> bool
     ensures { result ≡ outside low high z }
 {
-    if z < low {
-        return true;
-    }
-    high < z
+    !(low..=high).contains(&z)
 }
