@@ -1,6 +1,6 @@
 -- The promises leave nothing open: two answers that keep one are equal. Assumes nothing.
 --   one_number, one_place              of `number` and `place`
---   one_refused, one_told              of `refuse` and `tell`
+--   one_refused, one_told              of the verdict on a refusal, and on a reply
 --   replies, one_reply                 the rule's reply keeps the promise of an operation that only replies, and no other does
 --   no_refusal_is_0                    no refusal has the number 0
 --   only_accepted_is_0                 a verdict's number is 0 where the input is accepted, and nowhere else
@@ -10,11 +10,11 @@ use native.Mathlib.Omega.{arith}
 use Rattle.exact.proofs.Unique.{only}
 use Rattle.reply.specs.declared.Refusal.{Refusal}
 use Rattle.reply.specs.declared.Refusal.TheVariants.{Malformed, Count, OutOfRange, Coefficient, Misclosure, WeakRow, Correlate, Remainder, Correction, Sightings, Field, Faces, Initial, FacesApart, Spread, Nets, Sheet, NothingLeft}
-use Rattle.reply.specs.declared.Reply.{Reply}
-use Rattle.reply.specs.declared.Reply.TheVariants.{Accepted, Refused}
+use Rattle.reply.specs.Reply.{Reply}
 use Rattle.reply.specs.declared.Verdict.{Verdict}
 use Rattle.reply.specs.Numbers.{number_of, place_of}
 use Rattle.reply.specs.Verdicts.{refused, verdict_of, Replies}
+use Rattle.std.specs.Prelude.{Ok, Err}
 
 pub one_number : (why : Refusal) (n n' : ℕ) → n ≡ number_of why → n' ≡ number_of why → n ≡ n'
 one_number why n n' x y = only x y
@@ -54,6 +54,6 @@ no_refusal_is_0 (Nets net) e = omega (arith, e)
 no_refusal_is_0 (Sheet line) e = omega (arith, e)
 no_refusal_is_0 NothingLeft e = omega (arith, e)
 
-pub only_accepted_is_0 : (r : Reply) → (verdict_of r).number ≡ 0 → r ≡ Accepted
-only_accepted_is_0 Accepted e = refl
-only_accepted_is_0 (Refused why) e = absurd (no_refusal_is_0 why e)
+pub only_accepted_is_0 : (r : Reply) → (verdict_of r).number ≡ 0 → r ≡ Ok tt
+only_accepted_is_0 (Ok _) e = refl
+only_accepted_is_0 (Err why) e = absurd (no_refusal_is_0 why e)

@@ -1,3 +1,4 @@
+pub mod Reply
 pub mod Numbers
 pub mod Verdicts
 pub mod Checks

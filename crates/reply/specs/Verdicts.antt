@@ -1,8 +1,7 @@
 -- What a caller is told of a reply: this paper's number and place, two numbers.
-use Rattle.std.specs.Prelude.{◌≡◌}
+use Rattle.std.specs.Prelude.{◌≡◌, Ok, Err}
 use Rattle.reply.specs.declared.Refusal.{Refusal}
-use Rattle.reply.specs.declared.Reply.{Reply}
-use Rattle.reply.specs.declared.Reply.TheVariants.{Accepted, Refused}
+use Rattle.reply.specs.Reply.{Reply}
 use Rattle.reply.specs.declared.Verdict.{Verdict}
 use Rattle.reply.specs.Numbers.{number_of, place_of}
 
@@ -14,8 +13,8 @@ abbrev pub refused : Refusal → Verdict
 refused why = record { number = number_of why; place = place_of why }
 
 abbrev pub verdict_of : Reply → Verdict
-verdict_of Accepted = accepted
-verdict_of (Refused why) = refused why
+verdict_of (Ok _) = accepted
+verdict_of (Err why) = refused why
 
 -- what an operation promises whose one answer is its reply: that of the rule, and in this paper's numbers its number and place
 pub record Replies (rule reply : Reply) : Type 0 where

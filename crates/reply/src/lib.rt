@@ -1,13 +1,16 @@
-// The replies: why an input is refused, what an operation answers, and what a caller is told of it in the rules' numbers. Number and place stand in
-// one definition each (specs/Numbers.antt), which `number` and `place` give; `refuse` and `tell` give both as a verdict (specs/Verdicts.antt).
+// Why an input is refused, and what a caller is told of it in the rules' numbers. An operation answers a `Result` with a refusal for its error (specs/Reply.antt).
+// Number and place stand in one definition each (specs/Numbers.antt); a `Verdict` has both (specs/Verdicts.antt).
 #![tactic(auto)]
 
 ghost use Rattle.std.specs.Prelude.{◌≡◌};
 ghost use Rattle.reply.specs.Numbers.{number_of, place_of};
 ghost use Rattle.reply.specs.Verdicts.{refused, verdict_of};
 
+use std::error::Error;
+use std::fmt;
+
 // Why an input is refused. Lines, ordinals, directions, rows and conditions count from 1; 0 is a place seen only at the end or from the length.
-#[derive(Clone, Copy)]
+#[derive(Clone, Copy, Debug, PartialEq, Eq)]
 pub enum Refusal {
     // A line is malformed, unknown or under the wrong heading; a term's kind doesn't fit: its line or ordinal.
     Malformed(u64),
@@ -47,107 +50,98 @@ pub enum Refusal {
     NothingLeft,
 }
 
-// What an operation answers that leaves its results in lent lists.
-#[derive(Clone, Copy)]
-pub enum Reply {
-    Accepted,
-    Refused(Refusal),
-}
-
-// What an operation answers whose result is one number.
-#[derive(Clone, Copy)]
-pub enum Figure {
-    Value(i64),
-    Refused(Refusal),
-}
-
 // What a caller is told: 0 and 0 where the input is accepted, else the rules' number and place of the refusal.
 #[repr(C)]
-#[derive(Clone, Copy)]
+#[derive(Clone, Copy, Debug, PartialEq, Eq)]
 pub struct Verdict {
     pub number: u64,
     pub place: u64,
 }
 
-// The rules' number of a refusal.
-pub fn number(r: Refusal) -> u64
-    ensures { result ≡ number_of r }
-{
-    match r {
-        Refusal::Malformed(_) => 1,
-        Refusal::Count(_) => 2,
-        Refusal::OutOfRange(_) => 3,
-        Refusal::Coefficient(_) => 4,
-        Refusal::Misclosure(_) => 5,
-        Refusal::WeakRow(_) => 6,
-        Refusal::Correlate(_) => 7,
-        Refusal::Remainder(_) => 8,
-        Refusal::Correction(_) => 9,
-        Refusal::Sightings => 21,
-        Refusal::Field(_) => 22,
-        Refusal::Faces {
-            position: _,
-            object: _,
-        } => 23,
-        Refusal::Initial { position: _ } => 24,
-        Refusal::FacesApart {
-            position: _,
-            object: _,
-        } => 25,
-        Refusal::Spread {
-            position: _,
-            object: _,
-        } => 26,
-        Refusal::Nets(_) => 30,
-        Refusal::Sheet(_) => 31,
-        Refusal::NothingLeft => 32,
+impl Refusal {
+    // The rules' number.
+    pub fn number(self) -> u64
+        ensures { result ≡ number_of self }
+    {
+        match self {
+            Refusal::Malformed(_) => 1,
+            Refusal::Count(_) => 2,
+            Refusal::OutOfRange(_) => 3,
+            Refusal::Coefficient(_) => 4,
+            Refusal::Misclosure(_) => 5,
+            Refusal::WeakRow(_) => 6,
+            Refusal::Correlate(_) => 7,
+            Refusal::Remainder(_) => 8,
+            Refusal::Correction(_) => 9,
+            Refusal::Sightings => 21,
+            Refusal::Field(_) => 22,
+            Refusal::Faces { .. } => 23,
+            Refusal::Initial { .. } => 24,
+            Refusal::FacesApart { .. } => 25,
+            Refusal::Spread { .. } => 26,
+            Refusal::Nets(_) => 30,
+            Refusal::Sheet(_) => 31,
+            Refusal::NothingLeft => 32,
+        }
+    }
+
+    // The rules' place.
+    pub fn place(self) -> u64
+        ensures { result ≡ place_of self }
+    {
+        match self {
+            Refusal::Malformed(place)
+            | Refusal::Count(place)
+            | Refusal::OutOfRange(place)
+            | Refusal::Coefficient(place)
+            | Refusal::Misclosure(place)
+            | Refusal::WeakRow(place)
+            | Refusal::Correlate(place)
+            | Refusal::Remainder(place)
+            | Refusal::Correction(place)
+            | Refusal::Field(place)
+            | Refusal::Nets(place)
+            | Refusal::Sheet(place) => place,
+            Refusal::Faces { position, object }
+            | Refusal::FacesApart { position, object }
+            | Refusal::Spread { position, object } => 100 * u64::from(position) + u64::from(object),
+            Refusal::Initial { position } => 100 * u64::from(position) + 1,
+            Refusal::Sightings | Refusal::NothingLeft => 0,
+        }
     }
 }
 
-// The rules' place of a refusal.
-pub fn place(r: Refusal) -> u64
-    ensures { result ≡ place_of r }
-{
-    match r {
-        Refusal::Malformed(line) => line,
-        Refusal::Count(line) => line,
-        Refusal::OutOfRange(line) => line,
-        Refusal::Coefficient(condition) => condition,
-        Refusal::Misclosure(condition) => condition,
-        Refusal::WeakRow(row) => row,
-        Refusal::Correlate(row) => row,
-        Refusal::Remainder(condition) => condition,
-        Refusal::Correction(direction) => direction,
-        Refusal::Sightings => 0,
-        Refusal::Field(ordinal) => ordinal,
-        Refusal::Faces { position, object } => 100 * (position as u64) + object as u64,
-        Refusal::Initial { position } => 100 * (position as u64) + 1,
-        Refusal::FacesApart { position, object } => 100 * (position as u64) + object as u64,
-        Refusal::Spread { position, object } => 100 * (position as u64) + object as u64,
-        Refusal::Nets(net) => net,
-        Refusal::Sheet(line) => line,
-        Refusal::NothingLeft => 0,
+impl fmt::Display for Refusal {
+    fn fmt<W: fmt::Write>(&self, f: &mut fmt::Formatter<W>) -> fmt::Result {
+        write!(f, "refused {} {}", self.number(), self.place())
     }
 }
 
-// The verdict on a refusal.
-pub fn refuse(why: Refusal) -> Verdict
-    ensures { result ≡ refused why }
-{
-    let number = number(why);
-    let place = place(why);
-    Verdict { number, place }
+impl Error for Refusal {}
+
+// What a caller is told of a refusal.
+impl From<Refusal> for Verdict {
+    ghost from_gives = { λ why verdict. verdict ≡ refused why };
+
+    fn from(why: Refusal) -> Verdict {
+        Verdict {
+            number: why.number(),
+            place: why.place(),
+        }
+    }
 }
 
-// The verdict on a reply.
-pub fn tell(reply: Reply) -> Verdict
-    ensures { result ≡ verdict_of reply }
-{
-    match reply {
-        Reply::Accepted => Verdict {
-            number: 0,
-            place: 0,
-        },
-        Reply::Refused(why) => refuse(why),
+// What a caller is told of a reply.
+impl From<Result<(), Refusal>> for Verdict {
+    ghost from_gives = { λ reply verdict. verdict ≡ verdict_of reply };
+
+    fn from(reply: Result<(), Refusal>) -> Verdict {
+        match reply {
+            Ok(()) => Verdict {
+                number: 0,
+                place: 0,
+            },
+            Err(why) => Verdict::from(why),
+        }
     }
 }
