@@ -2,7 +2,7 @@
 use Rattle.std.specs.Prelude.{Bool, ◌||◌, List, ℕ, ◌+◌, length, get_or, ℤ, pos, ◌-ℤ◌}
 use Rattle.exact.specs.Circle.{C}
 use Rattle.exact.specs.Outside.{outside}
-use Rattle.reply.specs.declared.Reply.{Reply}
+use Rattle.reply.specs.Reply.{Reply}
 use Rattle.reply.specs.declared.Refusal.TheVariants.{OutOfRange}
 use Rattle.reply.specs.Checks.{refuse_first}
 

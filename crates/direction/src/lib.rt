@@ -5,7 +5,7 @@ ghost use Rattle.std.specs.Prelude.{◌≡◌, length};
 ghost use Rattle.reply.specs.Verdicts.{Replies};
 ghost use Rattle.direction.specs.Ranges.{weight_out_of_range, out_of_range, directions_reply};
 
-use reply::{Refusal, Reply};
+use reply::Refusal;
 
 // The circle, in 0.001 second, and the last direction before it is full.
 pub const CIRCLE: i64 = 1296000000;
@@ -23,25 +23,19 @@ pub fn weight_out_of_range(q: i64) -> bool
 pub fn out_of_range(direction: i64, q: i64) -> bool
     ensures { result ≡ out_of_range direction q }
 {
-    if exact::outside(0, LAST, direction) {
-        return true;
-    }
-    weight_out_of_range(q)
+    exact::outside(0, LAST, direction) || weight_out_of_range(q)
 }
 
 // Refuses the first direction that is out of range, by its number.
-pub fn check(directions: &[i64], q: &[i64]) -> Reply
+// The loops that refuse the first at fault differ by their test; one over closures would need each test's promise as a parameter.
+pub fn check(directions: &[i64], q: &[i64]) -> Result<(), Refusal>
     requires { length q.now ≡ length directions.now }
     ensures { Replies (directions_reply directions.now q.now) result }
 {
-    let mut i = 0;
-    while i < directions.len() {
-        let x = directions[i];
-        let y = q[i];
-        if out_of_range(x, y) {
-            return Reply::Refused(Refusal::OutOfRange((i + 1) as u64));
+    for (i, direction) in directions.iter().enumerate() {
+        if out_of_range(*direction, q[i]) {
+            return Err(Refusal::OutOfRange(i as u64 + 1));
         }
-        i += 1;
     }
-    Reply::Accepted
+    Ok(())
 }

@@ -1,22 +1,21 @@
 -- What an accepted list has passed. Assumes nothing.
 --   Passed, passed               every check, at every position and object: no field out of range, no fault of 23 to 26
-use mathlib.Core.Path.{◌≡◌, refl, sym, ◌∙◌}
+use mathlib.Core.Path.{◌≡◌, sym, ◌∙◌}
 use mathlib.Core.Bool.{Bool, false, not}
 use Prim.Native.Nat.{ℕ, ◌+◌, ◌*◌, ◌/◌, ◌%◌, ◌<◌}
 use native.Mathlib.Omega.{arith}
 use borrow.Author.Tests.{not-false}
-use Rattle.exact.specs.First.{first}
-use Rattle.exact.proofs.Searching.{Failed, first_none}
-use Rattle.reply.specs.declared.Refusal.TheVariants.{Sightings, Field}
-use Rattle.reply.specs.declared.Reply.TheVariants.{Accepted}
+use Rattle.exact.proofs.Searching.{Failed}
+use Rattle.reply.specs.declared.Refusal.TheVariants.{Sightings}
 use Rattle.reply.proofs.Checking.{both_accepted, if_accepted, none_refused}
 use Rattle.station.specs.declared.checks.Check.TheVariants.{PairsWhole, InitialSeen, FacesClose, PositionsAgree}
 use Rattle.station.specs.Bounds.{InRange}
-use Rattle.station.specs.Sightings.{Book, sightings, field_fault}
+use Rattle.station.specs.Sightings.{Book}
 use Rattle.station.specs.Table.{counts, readings}
 use Rattle.station.specs.Means.{faces_fault, initial_fault, apart_fault, spread_fault}
 use Rattle.station.specs.Replies.{fault, refusal, check_of, table_reply, lengths_reply, fields_reply, reply_of}
 use Rattle.station.proofs.Deciding.{fit, in_range}
+use Rattle.std.specs.Prelude.{Ok}
 
 pub record Passed (b : Book) : Type 0 where
   pub ranges : InRange b
@@ -35,7 +34,7 @@ column_of x y l = omega arith
 at_place : (f : ℕ → ℕ → Bool) → Failed (λ k. f (k / 16) (k % 16)) 256 → (x y : ℕ) → x < 16 → y < 16 → f x y ≡ false
 at_place f h x y lx ly = (λ i. f (sym (row_of x y ly) i) (sym (column_of x y ly) i)) ∙ h (16 * x + y) (omega arith)
 
-pub passed : (b : Book) (d p : ℕ) → reply_of b d p ≡ Accepted → Passed b
+pub passed : (b : Book) (d p : ℕ) → reply_of b d p ≡ Ok tt → Passed b
 unfolding reply_of table_reply fault
 passed b d p e =
     let n = counts b in let r = readings b in
@@ -44,9 +43,8 @@ passed b d p e =
     let f = both_accepted (check_of PairsWhole n r) _ c.1 in
     let g = both_accepted (check_of InitialSeen n r) _ f.1 in
     let h = both_accepted (check_of FacesClose n r) (check_of PositionsAgree n r) g.1 in
-    let sound = none_refused (sightings b) (field_fault b) (λ k. Field (k + 1)) c.0 in
     record {
-      ranges = in_range b d p (not-false (fit b d p) (if_accepted (not (fit b d p)) Sightings a.0)) (first (sightings b) (field_fault b)) refl (omega (arith, first_none (sightings b) (field_fault b) sound));
+      ranges = in_range b d p (not-false (fit b d p) (if_accepted (not (fit b d p)) Sightings a.0)) c.0;
       faces = at_place (faces_fault n) (none_refused 256 (fault PairsWhole n r) (refusal PairsWhole) f.0);
       initials = at_place (initial_fault n) (none_refused 256 (fault InitialSeen n r) (refusal InitialSeen) g.0);
       close = at_place (apart_fault n r) (none_refused 256 (fault FacesClose n r) (refusal FacesClose) h.0);

@@ -17,7 +17,6 @@ use Rattle.exact.proofs.Identity.{letters, polynomials, ring_by}
 use Rattle.exact.proofs.Linear.{unknowns, linear, orders, one_sided, eq_by, le_by, lt_by, abs_by, le_of, lt_of}
 use Rattle.exact.proofs.Order.{lt_or_le, lt_le, le_antisym, mul_le_left, lt_yes}
 use Rattle.exact.proofs.Sum.{sum_le, sum_mul}
-use Rattle.reply.specs.declared.Reply.TheVariants.{Accepted}
 use Rattle.station.specs.Sightings.{Book}
 use Rattle.station.specs.SumWhere.{sum_where}
 use Rattle.station.specs.Table.{one, counts, readings}
@@ -26,6 +25,7 @@ use Rattle.station.specs.Replies.{reply_of}
 use Rattle.station.proofs.Accepting.{passed}
 use Rattle.station.proofs.Figures.{twice_above}
 use Rattle.station.proofs.Selecting.{chosen, where_nonneg, where_zero}
+use Rattle.std.specs.Prelude.{Ok}
 
 -- ---- whole circles
 -- z is what is left of it and whole circles
@@ -193,6 +193,6 @@ module _ (n r : List ℤ) (i j : ℕ) (li : i < 16) (here : seen n i j ≡ true)
       off
 
 -- for every pair that entered the direction of an object of an accepted list
-pub near_every_pair : (b : Book) (d p : ℕ) → reply_of b d p ≡ Accepted → (i j : ℕ) → i < 16 → j < 16 → seen (counts b) i j ≡ true →
+pub near_every_pair : (b : Book) (d p : ℕ) → reply_of b d p ≡ Ok tt → (i j : ℕ) → i < 16 → j < 16 → seen (counts b) i j ≡ true →
     nat_abs (centred (pos 2 *ℤ direction (counts b) (readings b) j -ℤ g (readings b) i j) C) ≤ 240001
 near_every_pair b d p accepted i j li lj here = near_pair (counts b) (readings b) i j li here (λ k l. (passed b d p accepted).agree k j l lj)

@@ -13,7 +13,6 @@ use Rattle.exact.specs.Sum.{sum}
 use Rattle.exact.specs.Same.{same}
 use Rattle.exact.proofs.Sum.{sum_none, sum_next, sum_ext, sum_add, sum_mul, sum_swap}
 use Rattle.exact.proofs.Sameness.{same_yes, same_true}
-use Rattle.reply.specs.declared.Reply.TheVariants.{Accepted}
 use Rattle.station.specs.Sightings.{Book, sightings, position_at, object_at, face_at, is_of}
 use Rattle.station.specs.Table.{one, entry, counts}
 use Rattle.station.specs.Means.{seen, P}
@@ -23,6 +22,7 @@ use Rattle.station.proofs.Tests.{same_tests}
 use Rattle.station.proofs.Pairing.{own_position, own_object, once_each, counted, not_seen}
 use Rattle.station.proofs.Selecting.{chosen, where_at}
 use Rattle.station.proofs.Tallying.{InFields, in_fields}
+use Rattle.std.specs.Prelude.{Ok}
 
 -- one for each of n
 pub sum_ones : (n : ℕ) → sum n one ≡ pos n
@@ -72,7 +72,7 @@ module _ (b : Book) (h : ℕ) (s : InFields b h) where
       ∙ where_at 16 (own_object b h) one (omega (arith, s.objects.1))
 
 -- ---- the counts of an accepted list
-module _ (b : Book) (d p : ℕ) (accepted : reply_of b d p ≡ Accepted) where
+module _ (b : Book) (d p : ℕ) (accepted : reply_of b d p ≡ Ok tt) where
   checks : Passed b
   checks = passed b d p accepted
 

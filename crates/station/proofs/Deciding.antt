@@ -1,25 +1,22 @@
 -- The laws of the station's order of checks. Assumes nothing.
 --   LengthsFit, lengths_fit_lem        what the test of the lengths tells
 --   in_range                       lists that pass 21 and 22 are in range
---   reply_lengths, reply_field, reply_table
---                                  the reply where 21 refuses, where 22 does, and where both accept
+--   reply_lengths, reply_fields    the reply where 21 refuses, and where it accepts
 use mathlib.Core.Path.{◌≡◌}
 use mathlib.Core.Bool.{Bool, true, false}
-use Prim.Native.Nat.{ℕ, ◌+◌, ◌<◌, ◌≤◌}
-use native.Mathlib.Omega.{arith}
+use Prim.Native.Nat.{ℕ, ◌+◌, ◌≤◌}
 use borrow.Author.Tests.{leb-true, eqb-true}
 use lib.Dec.{leb, eqb}
 use lib.ListN.{length}
-use Rattle.exact.specs.First.{first}
-use Rattle.exact.proofs.Searching.{first_before}
 use Rattle.reply.specs.declared.Refusal.TheVariants.{Sightings, Field}
-use Rattle.reply.specs.declared.Reply.TheVariants.{Refused}
-use Rattle.reply.proofs.Checking.{refuse_first_lem, accept_first}
+use Rattle.reply.specs.Checks.{◌and_then◌}
+use Rattle.reply.proofs.Checking.{none_refused}
 use Rattle.station.specs.Sightings.{Book, sightings, lengths_fit, field_fault}
 use Rattle.station.specs.Bounds.{InRange}
 use Rattle.station.specs.Table.{counts, readings}
-use Rattle.station.specs.Replies.{table_reply, reply_of}
+use Rattle.station.specs.Replies.{fields_reply, table_reply, reply_of}
 use Rattle.station.proofs.Tests.{and_true}
+use Rattle.std.specs.Prelude.{Ok, Err}
 
 -- ---- 21
 pub record LengthsFit (positions objects faces readings directions pairs : ℕ) : Type 0 where
@@ -51,26 +48,22 @@ module _ (b : Book) (d p : ℕ) where
   abbrev pub fit : Bool
   fit = lengths_fit (sightings b) (length b.object) (length b.face) (length b.reading) d p
 
-  pub reply_lengths : fit ≡ false → reply_of b d p ≡ Refused Sightings
+  pub reply_lengths : fit ≡ false → reply_of b d p ≡ Err Sightings
   unfolding reply_of
   reply_lengths e = rw e
 
-  module _ (e : fit ≡ true) (h : ℕ) (q : h ≡ first (sightings b) (field_fault b)) where
-    pub reply_field : h < sightings b → reply_of b d p ≡ Refused (Field (h + 1))
+  module _ (e : fit ≡ true) where
+    pub reply_fields : reply_of b d p ≡ (fields_reply b and_then table_reply (counts b) (readings b))
     unfolding reply_of
-    reply_field l = rw (e, refuse_first_lem (sightings b) (field_fault b) (λ k. Field (k + 1)) h q l)
+    reply_fields = rw e
 
-    pub reply_table : sightings b ≤ h → reply_of b d p ≡ table_reply (counts b) (readings b)
-    unfolding reply_of
-    reply_table l = rw (e, accept_first (sightings b) (field_fault b) (λ k. Field (k + 1)) (omega (arith, q)))
-
-    pub in_range : sightings b ≤ h → InRange b
-    in_range l =
+    pub in_range : fields_reply b ≡ Ok tt → InRange b
+    in_range a =
         let f = lengths_fit_lem (sightings b) (length b.object) (length b.face) (length b.reading) d p e in
         record {
           few = f.few;
           objects = f.objects_fit;
           faces = f.faces_fit;
           readings = f.readings_fit;
-          sound = λ k m. first_before (sightings b) (field_fault b) k (omega (arith, q));
+          sound = none_refused (sightings b) (field_fault b) (λ h. Field (h + 1)) a;
         }

@@ -1,9 +1,9 @@
 -- How large the figures of a pair can be, and what the machine reads of a call's result. Assumes nothing.
 --   told                              what the machine reads of a call's result is what the call promised
---   entry_within                      an entry of a table whose numbers are within m
 --   twice_above                       twice a number above 0
 --   centred_size                      what is left of a number lies within half of its circle once centred
 --   s_size, g_size, e_size            so do s, g and e
+--   g_read                            what the machine reads of a g
 use mathlib.Core.Path.{◌≡◌, ◌∙◌}
 use mathlib.Core.List.{List, [], ◌∷◌}
 use Prim.Native.Nat.{ℕ, ◌<◌, ◌≤◌, ◌^◌}
@@ -13,18 +13,13 @@ use lib.Signed.{mag, ◌≤ℤ◌, ◌<ℤ◌}
 use mir.Syntax.{w64}
 use mir.Val.{to_z, of_z}
 use Rattle.exact.specs.Circle.{C, modulo}
-use Rattle.exact.specs.Within.{Within}
-use Rattle.exact.proofs.Bound.{read_at}
+use Rattle.exact.proofs.Bound.{fits_within, read, read_at}
 use Rattle.exact.proofs.Circles.{modulo_low, modulo_high, modulo_size}
 use Rattle.exact.proofs.Linear.{unknowns, linear, orders, one_sided, lt_by, abs_by, lt_of}
-use Rattle.station.specs.Table.{slot, entry}
 use Rattle.station.specs.Means.{centred, s, g, e}
 
 pub told : {x v : ℤ} → mag x < 2 ^ 63 → x ≡ v → to_z w64 (of_z w64 x) ≡ v
 told {x} ok p = read_at x ok ∙ p
-
-pub entry_within : {m : ℕ} {x : ℤ} (table : List ℤ) (f i j : ℕ) → Within m table → x ≡ entry table f i j → nat_abs x ≤ m
-entry_within table f i j h p = rw p (h (slot f i j))
 
 pub twice_above : (z : ℤ) → pos 0 <ℤ z → pos 0 <ℤ (pos 2 *ℤ z)
 twice_above z h = let v = unknowns (z ∷ []) in lt_by (search linear) (search linear) (omega (arith, orders))
@@ -45,6 +40,10 @@ s_size r i j = centred_size _ (pos 648000000) (record { lt = tt })
 pub g_size : (r : List ℤ) (i j : ℕ) → nat_abs (g r i j) ≤ 2592000000
 unfolding g
 g_size r i j = modulo_size _ (pos 2592000000) (record { lt = tt })
+
+-- what the machine reads of a g
+pub g_read : {x : ℤ} (r : List ℤ) (i j : ℕ) → x ≡ g r i j → to_z w64 (of_z w64 x) ≡ g r i j
+g_read r i j e = rw e (read (fits_within _ (g_size r i j) tt))
 
 pub e_size : (n r : List ℤ) (i j : ℕ) → nat_abs (e n r i j) ≤ 1296000000
 unfolding e

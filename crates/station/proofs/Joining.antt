@@ -3,14 +3,14 @@
 use mathlib.Core.Path.{◌≡◌}
 use Prim.Native.Nat.{ℕ}
 use native.Mathlib.Omega.{arith}
-use Rattle.reply.specs.declared.Reply.TheVariants.{Accepted}
 use Rattle.station.specs.Sightings.{Book}
 use Rattle.station.specs.Pairs.{JoinedRightly}
 use Rattle.station.specs.Replies.{reply_of}
 use Rattle.station.proofs.Counting.{twice_the_pairs}
 use Rattle.station.proofs.Pairing.{paired, is_seen, entered, pairs_counted, one_place}
+use Rattle.std.specs.Prelude.{Ok}
 
-pub joined_rightly : (b : Book) (d p : ℕ) → reply_of b d p ≡ Accepted → JoinedRightly b
+pub joined_rightly : (b : Book) (d p : ℕ) → reply_of b d p ≡ Ok tt → JoinedRightly b
 joined_rightly b d p accepted = record {
   made = paired b d p accepted;
   is_seen = λ i j li lj q. is_seen b i j li lj 0 q.left (omega arith) q.pair.left;

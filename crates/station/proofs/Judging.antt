@@ -1,43 +1,44 @@
 -- The laws of the rescue's order of checks. Assumes nothing.
---   rescue_lengths, rescue_room, rescue_field, rescue_nothing, rescue_accepted
---                                  the reply where 21 refuses, for the book's own lists or for those lent for the answer, where 22 does, where nothing is
---                                  left, and where something is
+--   rescue_lengths, rescue_room, rescue_fields
+--                                  the reply where 21 refuses, for the book's own lists or for those lent for the answer, and where both are accepted
 --   too_many                       over 512 sightings are refused with 21
 --   placed                         positions and objects of a list in range
---   kept_first, none_kept, some_kept        the first sighting that stays, by the reasons of the tables, and what it tells
+--   left_lem                       whether something is left, by the reasons of the tables
 --   reasons_long, keeps, drops_ordinals, drops_reasons      a list parted by its reasons
---   RoomsFit, rooms_fit_lem            what the test of the lent lists tells
+--   RoomsFit, rooms_all, rooms_fit_lem      the test of the lent lists, and what it tells
 --   refused_keeps, accepted_keeps  a refusal that changes nothing keeps the promise of the rescue, and so do the parts of an accepted list
 use mathlib.Core.Path.{◌≡◌, refl, sym, ◌∙◌, ap}
-use mathlib.Core.Bool.{Bool, true, false, not, and-false}
-use mathlib.Core.List.{List}
-use Prim.Native.Nat.{ℕ, ◌+◌, ◌<◌, ◌≤◌}
-use native.Mathlib.Omega.{arith}
-use borrow.Author.Tests.{lt-ltb, le-ltb, lt-leb, eqb-true}
-use lib.Dec.{eqb, leb}
+use mathlib.Core.Bool.{Bool, true, false, not, ◌&&◌, and-false, and-true as and_yes}
+use Rattle.std.specs.List.{list_all}
+use Rattle.std.specs.Prelude.{◌==◌}
+use mathlib.Core.List.{List, [], ◌∷◌}
+use Prim.Native.Nat.{ℕ, ◌+◌, ◌<◌}
+use borrow.Author.Tests.{lt-leb, eqb-true}
+use lib.Dec.{eqb, leb, ltb}
 use lib.IntN.{ℤ, pos}
 use lib.ListN.{length, get_or}
-use Rattle.exact.specs.First.{first}
+use Rattle.exact.specs.First.{some_below}
 use Rattle.exact.specs.Gather.{gather}
 use Rattle.exact.specs.Tabulate.{tabulate}
 use Rattle.exact.proofs.Filling.{tabulate_length, tabulate_at}
 use Rattle.exact.proofs.Gathering.{gather_ext}
 use Rattle.exact.proofs.Searching.{first_ext}
+use Rattle.reply.specs.Checks.{refuse_if, ◌and_then◌, figure_of, leaves}
+use Rattle.reply.specs.Reply.{Reply}
 use Rattle.reply.specs.Verdicts.{verdict_of}
 use Rattle.reply.specs.declared.Refusal.{Refusal}
-use Rattle.reply.specs.declared.Refusal.TheVariants.{Sightings, Field, NothingLeft}
-use Rattle.reply.specs.declared.Reply.TheVariants.{Accepted, Refused}
-use Rattle.reply.proofs.Checking.{refuse_first_lem, accept_first}
-use Rattle.station.specs.declared.Rescued.{Rescued}
+use Rattle.reply.specs.declared.Refusal.TheVariants.{Sightings, NothingLeft}
 use Rattle.station.specs.Bounds.{InRange}
-use Rattle.station.specs.Sightings.{Book, sightings, lengths_fit, field_fault}
+use Rattle.station.specs.Sightings.{Book, sightings, lengths_fit}
 use Rattle.station.specs.Table.{counts, readings}
+use Rattle.station.specs.Replies.{fields_reply}
 use Rattle.station.specs.Rescue.{place_of, is_kept, is_dropped, reason, ordinals, reasons, nothing_left, rescue_reply, kept, Lent, rooms_fit, rooms, filled, Rescues}
 use Rattle.station.specs.Steps.{free, why_after, Placed}
 use Rattle.station.proofs.Deciding.{fit}
 use Rattle.station.proofs.Tests.{and_true}
 use Rattle.station.proofs.Tallying.{in_fields}
 use Rattle.station.proofs.Sifting.{why_free, kept_free}
+use Rattle.std.specs.Prelude.{Ok, Err}
 
 -- ---- the reply
 -- over 512 sightings do not fit
@@ -45,31 +46,22 @@ pub too_many : (b : Book) → 512 < sightings b → fit b 16 16 ≡ false
 unfolding lengths_fit
 too_many b l = rw (lt-leb (sightings b) 512 l) (and-false (leb 1 (sightings b)))
 
-pub rescue_lengths : (b : Book) (room : Bool) → fit b 16 16 ≡ false → rescue_reply b room ≡ Refused Sightings
+pub rescue_lengths : (b : Book) (room : Bool) → fit b 16 16 ≡ false → rescue_reply b room ≡ Err Sightings
 unfolding rescue_reply
 rescue_lengths b room e = rw e
 
-pub rescue_room : (b : Book) (room : Bool) → room ≡ false → rescue_reply b room ≡ Refused Sightings
+pub rescue_room : (b : Book) (room : Bool) → room ≡ false → rescue_reply b room ≡ Err Sightings
 unfolding rescue_reply
 rescue_room b room e = by_fit (fit b 16 16) refl
   where
-    by_fit : (t : Bool) → fit b 16 16 ≡ t → rescue_reply b room ≡ Refused Sightings
+    by_fit : (t : Bool) → fit b 16 16 ≡ t → rescue_reply b room ≡ Err Sightings
     by_fit true f = rw (f, e)
     by_fit false f = rw f
 
-module _ (b : Book) (room : Bool) (e : fit b 16 16 ≡ true) (r : room ≡ true) (h : ℕ) (q : h ≡ first (sightings b) (field_fault b)) where
-  pub rescue_field : h < sightings b → rescue_reply b room ≡ Refused (Field (h + 1))
+module _ (b : Book) (room : Bool) (e : fit b 16 16 ≡ true) (r : room ≡ true) where
+  pub rescue_fields : rescue_reply b room ≡ (fields_reply b and_then refuse_if (nothing_left b) NothingLeft)
   unfolding rescue_reply
-  rescue_field l = rw (e, r, refuse_first_lem (sightings b) (field_fault b) (λ k. Field (k + 1)) h q l)
-
-  module _ (l : sightings b ≤ h) where
-    pub rescue_nothing : nothing_left b ≡ true → rescue_reply b room ≡ Refused NothingLeft
-    unfolding rescue_reply
-    rescue_nothing n = rw (e, r, accept_first (sightings b) (field_fault b) (λ k. Field (k + 1)) (omega (arith, q)), n)
-
-    pub rescue_accepted : nothing_left b ≡ false → rescue_reply b room ≡ Accepted
-    unfolding rescue_reply
-    rescue_accepted n = rw (e, r, accept_first (sightings b) (field_fault b) (λ k. Field (k + 1)) (omega (arith, q)), n)
+  rescue_fields = rw (e, r)
 
 -- ---- what stays
 module _ (b : Book) (s : InRange b) where
@@ -80,16 +72,9 @@ module _ (b : Book) (s : InRange b) where
     object_in = λ h l. (in_fields b h (s.sound h l)).objects.1;
   }
 
-  pub kept_first : first (sightings b) (λ h. free (why_after 4 (counts b) (readings b)) (place_of b h)) ≡ first (sightings b) (is_kept b)
-  kept_first = first_ext (sightings b) _ _ (λ h l. why_free b s 4 h l)
-
-pub none_kept : (b : Book) (k : ℕ) → k ≡ first (sightings b) (is_kept b) → sightings b ≤ k → nothing_left b ≡ true
-unfolding nothing_left
-none_kept b k e l = rw (← e, le-ltb k (sightings b) l)
-
-pub some_kept : (b : Book) (k : ℕ) → k ≡ first (sightings b) (is_kept b) → k < sightings b → nothing_left b ≡ false
-unfolding nothing_left
-some_kept b k e l = rw (← e, lt-ltb k (sightings b) l)
+  pub left_lem : nothing_left b ≡ not (some_below (sightings b) (λ h. free (why_after 4 (counts b) (readings b)) (place_of b h)))
+  unfolding nothing_left
+  left_lem = ap (λ (k : ℕ). not (ltb k (sightings b))) (sym (first_ext (sightings b) _ _ (λ h l. why_free b s 4 h l)))
 
 -- ---- the list parted by its reasons
 module _ (b : Book) (rs : List ℕ) (e : rs ≡ tabulate (sightings b) (reason b)) where
@@ -123,6 +108,11 @@ pub record RoomsFit (n positions objects faces readings ordinals reasons : ℕ) 
   pub ordinals_fit : ordinals ≡ n
   pub reasons_fit : reasons ≡ n
 
+-- the code's test of the six is the rule's
+pub rooms_all : (n p o f r d w : ℕ) → list_all (λ room. room == n) (p ∷ o ∷ f ∷ r ∷ d ∷ w ∷ []) ≡ rooms_fit n p o f r d w
+unfolding rooms_fit
+rooms_all n p o f r d w = ap (λ (t : Bool). eqb p n && (eqb o n && (eqb f n && (eqb r n && (eqb d n && t))))) (and_yes (eqb w n))
+
 pub rooms_fit_lem : (n p o f r d w : ℕ) → rooms_fit n p o f r d w ≡ true → RoomsFit n p o f r d w
 unfolding rooms_fit
 rooms_fit_lem n p o f r d w e =
@@ -138,10 +128,17 @@ rooms_fit_lem n p o f r d w e =
     }
 
 -- ---- the promise of the rescue
-pub refused_keeps : (b : Book) (before : Lent) (why : Refusal) (r : Rescued) → r ≡ record { reply = Refused why; kept = 0; dropped = 0 } → Refused why ≡ rescue_reply b (rooms b before) →
-    Rescues b before r before
-refused_keeps b before why r e f = rw e (record { replied = f; verdict = ap verdict_of f; kept_are = refl; dropped_are = refl; lists_are = refl })
+pub refused_keeps : (b : Book) (before : Lent) (why : Refusal) → Err why ≡ rescue_reply b (rooms b before) → Rescues b before (Err why) before
+refused_keeps b before why e = record {
+  answer = ap (λ (r : Reply). figure_of r (record { kept = sightings (kept b); dropped = length (ordinals b) })) e;
+  verdict = ap verdict_of e;
+  lists_are = ap (λ (r : Reply). leaves r (filled b before) before) e;
+}
 
-pub accepted_keeps : (b : Book) (before after : Lent) (k d : ℕ) → Accepted ≡ rescue_reply b (rooms b before) → k ≡ sightings (kept b) → d ≡ length (ordinals b) → after ≡ filled b before →
-    Rescues b before (record { reply = Accepted; kept = k; dropped = d }) after
-accepted_keeps b before after k d f p q l = record { replied = f; verdict = ap verdict_of f; kept_are = p; dropped_are = q; lists_are = l }
+pub accepted_keeps : (b : Book) (before after : Lent) (k d : ℕ) → ◌≡◌ {A = Reply} (Ok tt) (rescue_reply b (rooms b before)) → k ≡ sightings (kept b) → d ≡ length (ordinals b) → after ≡ filled b before →
+    Rescues b before (Ok (record { kept = k; dropped = d })) after
+accepted_keeps b before after k d e p q l = record {
+  answer = λ i. figure_of (e i) (record { kept = p i; dropped = q i });
+  verdict = ap verdict_of e;
+  lists_are = l ∙ ap (λ (r : Reply). leaves r (filled b before) before) e;
+}

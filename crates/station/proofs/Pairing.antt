@@ -18,7 +18,6 @@ use Rattle.exact.specs.Same.{same}
 use Rattle.exact.proofs.Linear.{Difference, unknowns, linear, orders, lt_failed, eq_by}
 use Rattle.exact.proofs.Sum.{sum_ext}
 use Rattle.exact.proofs.Sameness.{same_yes, same_true}
-use Rattle.reply.specs.declared.Reply.TheVariants.{Accepted}
 use Rattle.station.specs.Sightings.{Book, sightings, position_at, object_at, face_at, reading_at, is_of}
 use Rattle.station.specs.Pairs.{Sighted, Joined, Entered}
 use Rattle.station.specs.SumWhere.{sum_where}
@@ -29,6 +28,7 @@ use Rattle.station.proofs.Accepting.{Passed, passed}
 use Rattle.station.proofs.Tests.{and_true, same_tests}
 use Rattle.station.proofs.Selecting.{OnlyOne, where_one, where_zero, where_nonneg}
 use Rattle.station.proofs.Tallying.{InFields, in_fields, table_at}
+use Rattle.std.specs.Prelude.{Ok}
 
 -- ---- a sighting of a face, position and object, by the test and in words
 module _ (b : Book) (f i j h : ℕ) where
@@ -89,7 +89,7 @@ module _ (b : Book) (i j : ℕ) (li : i < 16) (lj : j < 16) where
       by_test false e =
           absurd (subst T (sym (tested b f i j h s) ∙ where_zero (is_of b f i j) (sightings b) (sym (counted f lf) ∙ none f lf (not_seen e)) h s.listed) tt)
 
-module _ (b : Book) (d p : ℕ) (accepted : reply_of b d p ≡ Accepted) where
+module _ (b : Book) (d p : ℕ) (accepted : reply_of b d p ≡ Ok tt) where
   checks : Passed b
   checks = passed b d p accepted
 

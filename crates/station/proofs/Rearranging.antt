@@ -20,10 +20,9 @@ use Rattle.exact.specs.First.{first}
 use Rattle.exact.specs.Tabulate.{tabulate}
 use Rattle.exact.specs.Same.{same}
 use Rattle.exact.proofs.Sum.{sum_ext, sum_swap}
-use Rattle.exact.proofs.Searching.{Failed, first_before, first_none}
+use Rattle.exact.proofs.Searching.{Failed, first_before}
 use Rattle.reply.specs.declared.Refusal.TheVariants.{Field}
-use Rattle.reply.specs.declared.Reply.{Reply}
-use Rattle.reply.specs.declared.Reply.TheVariants.{Refused}
+use Rattle.reply.specs.Reply.{Reply}
 use Rattle.reply.specs.Checks.{leaves}
 use Rattle.station.specs.Sightings.{Book, sightings, position_at, object_at, face_at, reading_at, lengths_fit, out_of_range, field_fault, is_of}
 use Rattle.station.specs.Rearrangement.{Rearranged}
@@ -31,9 +30,11 @@ use Rattle.station.specs.SumWhere.{sum_where}
 use Rattle.station.specs.Table.{one, total, counts, readings}
 use Rattle.station.specs.Means.{directions, pair_counts}
 use Rattle.station.specs.Replies.{table_reply, reply_of, Answers}
-use Rattle.station.proofs.Deciding.{fit, reply_lengths, reply_field, reply_table}
+use Rattle.reply.proofs.Checking.{refuse_first_lem, refuse_none}
+use Rattle.station.proofs.Deciding.{fit, reply_lengths, reply_fields}
 use Rattle.station.proofs.Tests.{same_tests}
 use Rattle.station.proofs.Selecting.{chosen, where_at}
+use Rattle.std.specs.Prelude.{Err}
 
 -- ---- sums
 module _ (n : ℕ) (from to : ℕ → ℕ) (from_in : (h : ℕ) → h < n → from h < n) (to_in : (h : ℕ) → h < n → to h < n)
@@ -116,11 +117,11 @@ fields_of b = by_order (dec_lt (first (sightings b) (field_fault b)) (sightings 
     by_order (no l) = all_in (λ h k. first_before (sightings b) (field_fault b) h (omega arith))
 
 module _ (b : Book) (d p : ℕ) where
-  refused_field : fit b d p ≡ true → first (sightings b) (field_fault b) < sightings b → reply_of b d p ≡ Refused (Field (first (sightings b) (field_fault b) + 1))
-  refused_field e l = reply_field b d p e (first (sightings b) (field_fault b)) refl l
+  refused_field : fit b d p ≡ true → first (sightings b) (field_fault b) < sightings b → reply_of b d p ≡ Err (Field (first (sightings b) (field_fault b) + 1))
+  refused_field e l = rw (reply_fields b d p e, refuse_first_lem (sightings b) (field_fault b) (λ h. Field (h + 1)) (first (sightings b) (field_fault b)) refl l)
 
   by_table : fit b d p ≡ true → Failed (field_fault b) (sightings b) → reply_of b d p ≡ table_reply (counts b) (readings b)
-  by_table e s = reply_table b d p e (first (sightings b) (field_fault b)) refl (omega (arith, first_none (sightings b) (field_fault b) s))
+  by_table e s = rw (reply_fields b d p e, refuse_none (sightings b) (field_fault b) (λ h. Field (h + 1)) s)
 
 module _ {b b' : Book} (q : Rearranged b b') (d p : ℕ) where
   same_unfit : fit b d p ≡ false → reply_of b d p ≡ reply_of b' d p
@@ -131,7 +132,7 @@ module _ {b b' : Book} (q : Rearranged b b') (d p : ℕ) where
       by_table b d p e s ∙ (λ t. table_reply (sym (counts_rearranged q) t) (sym (readings_rearranged q) t))
       ∙ sym (by_table b' d p (fit_same q d p ∙ e) (sound_moved q s))
 
-  reply_same : ((h : ℕ) → reply_of b d p ≡ Refused (Field h) → ⊥) → reply_of b d p ≡ reply_of b' d p
+  reply_same : ((h : ℕ) → reply_of b d p ≡ Err (Field h) → ⊥) → reply_of b d p ≡ reply_of b' d p
   reply_same n = by_fit (fit b d p) refl (fields_of b)
     where
       by_fit : (t : Bool) → fit b d p ≡ t → Fields b → reply_of b d p ≡ reply_of b' d p
@@ -141,7 +142,7 @@ module _ {b b' : Book} (q : Rearranged b b') (d p : ℕ) where
 
 -- ---- of two orders of the same sightings, the replies and both lists are equal, unless the refusal is for a field
 pub order_free : {b b' : Book} (q : Rearranged b b') (d p : List ℤ) (r r' : Reply) (D D' P P' : List ℤ) → Answers b d p r D P → Answers b' d p r' D' P' →
-    ((h : ℕ) → r ≡ Refused (Field h) → ⊥) → (r ≡ r') × ((D ≡ D') × (P ≡ P'))
+    ((h : ℕ) → r ≡ Err (Field h) → ⊥) → (r ≡ r') × ((D ≡ D') × (P ≡ P'))
 order_free {b} {b'} q d p r r' D D' P P' a a' n =
     let e : r ≡ r' = a.replied ∙ reply_same q (length d) (length p) (λ h f. n h (a.replied ∙ f)) ∙ sym a'.replied in
     let c = sym (counts_rearranged q) in let m = sym (readings_rearranged q) in (
@@ -153,10 +154,10 @@ order_free {b} {b'} q d p r r' D D' P P' a a' n =
     )
 
 -- ---- and a refusal for a field stays one
-pub field_stays : {b b' : Book} (q : Rearranged b b') (d p h : ℕ) → reply_of b d p ≡ Refused (Field h) → (h' : ℕ) × (reply_of b' d p ≡ Refused (Field h'))
+pub field_stays : {b b' : Book} (q : Rearranged b b') (d p h : ℕ) → reply_of b d p ≡ Err (Field h) → (h' : ℕ) × (reply_of b' d p ≡ Err (Field h'))
 field_stays {b} {b'} q d p h e = by_fit (fit b' d p) refl (fields_of b')
   where
-    by_fit : (t : Bool) → fit b' d p ≡ t → Fields b' → (h' : ℕ) × (reply_of b' d p ≡ Refused (Field h'))
+    by_fit : (t : Bool) → fit b' d p ≡ t → Fields b' → (h' : ℕ) × (reply_of b' d p ≡ Err (Field h'))
     by_fit true f (at_fault l) = (first (sightings b') (field_fault b') + 1, refused_field b' d p f l)
     by_fit true f (all_in s) = (h, same_sound (turned q) d p f s ∙ e)
     by_fit false f k = (h, same_unfit (turned q) d p f ∙ e)

@@ -18,8 +18,7 @@ use Rattle.exact.proofs.Gathering.{rank, nth, gather_rank, gather_at, nth_in, nt
 use Rattle.exact.proofs.Sum.{sum_ext}
 use Rattle.reply.specs.Checks.{refuse_if, ◌and_then◌}
 use Rattle.reply.specs.declared.Refusal.TheVariants.{Sightings, Field, NothingLeft}
-use Rattle.reply.specs.declared.Reply.{Reply}
-use Rattle.reply.specs.declared.Reply.TheVariants.{Accepted, Refused}
+use Rattle.reply.specs.Reply.{Reply}
 use Rattle.reply.proofs.Checking.{refuse_none, refuse_first_lem}
 use Rattle.station.specs.Sightings.{Book, sightings, position_at, object_at, face_at, reading_at, field_fault}
 use Rattle.station.specs.Rearrangement.{Rearranged}
@@ -33,6 +32,7 @@ use Rattle.station.proofs.Rescuing.{dropped_long, in_dropped, nothing_kept, some
 use Rattle.station.proofs.Selecting.{chosen}
 use Rattle.station.proofs.Sifting.{left_long, left_objects, left_faces, left_readings}
 use Rattle.station.proofs.Tests.{same_tests}
+use Rattle.std.specs.Prelude.{Ok, Err}
 
 -- ---- what a test leaves of two orders
 -- as many as a count says
@@ -175,7 +175,7 @@ module _ {b b' : Book} (q : Rearranged b b') where
       by_test c n false f = absurd (omega (arith, something_kept c f))
 
   -- the replies of 22 are the same, or the first is a refusal
-  fields_same : Fields b → (fields_reply b ≡ fields_reply b') ⊎ ((h : ℕ) × (fields_reply b ≡ Refused (Field h)))
+  fields_same : Fields b → (fields_reply b ≡ fields_reply b') ⊎ ((h : ℕ) × (fields_reply b ≡ Err (Field h)))
   fields_same (at_fault l) = inr (_, refuse_first_lem (sightings b) (field_fault b) (λ h. Field (h + 1)) (first (sightings b) (field_fault b)) refl l)
   fields_same (all_in s) =
       inl (refuse_none (sightings b) (field_fault b) (λ h. Field (h + 1)) s ∙ sym (refuse_none (sightings b') (field_fault b') (λ h. Field (h + 1)) (sound_moved q s)))
@@ -184,17 +184,17 @@ module _ {b b' : Book} (q : Rearranged b b') where
 abbrev in_order : (lengths room fields left : Reply) → Reply
 in_order lengths room fields left = lengths and_then (room and_then (fields and_then left))
 
-same_order : (l r f f' n : Reply) → (f ≡ f') ⊎ ((h : ℕ) × (f ≡ Refused (Field h))) → ((h : ℕ) → in_order l r f n ≡ Refused (Field h) → ⊥) → in_order l r f n ≡ in_order l r f' n
-same_order (Refused w) r f f' n c other = refl
-same_order Accepted (Refused w) f f' n c other = refl
-same_order Accepted Accepted f f' n (inl e) other = λ t. e t and_then n
-same_order Accepted Accepted f f' n (inr x) other = absurd (other x.0 (λ t. x.1 t and_then n))
+same_order : (l r f f' n : Reply) → (f ≡ f') ⊎ ((h : ℕ) × (f ≡ Err (Field h))) → ((h : ℕ) → in_order l r f n ≡ Err (Field h) → ⊥) → in_order l r f n ≡ in_order l r f' n
+same_order (Err w) r f f' n c other = refl
+same_order (Ok _) (Err w) f f' n c other = refl
+same_order (Ok _) (Ok _) f f' n (inl e) other = λ t. e t and_then n
+same_order (Ok _) (Ok _) f f' n (inr x) other = absurd (other x.0 (λ t. x.1 t and_then n))
 
-field_order : (l r f f' n : Reply) (h : ℕ) → (f' ≡ f) ⊎ ((h : ℕ) × (f' ≡ Refused (Field h))) → in_order l r f n ≡ Refused (Field h) → (h' : ℕ) × (in_order l r f' n ≡ Refused (Field h'))
-field_order (Refused w) r f f' n h c e = (h, e)
-field_order Accepted (Refused w) f f' n h c e = (h, e)
-field_order Accepted Accepted f f' n h (inl d) e = (h, (λ t. d t and_then n) ∙ e)
-field_order Accepted Accepted f f' n h (inr x) e = (x.0, λ t. x.1 t and_then n)
+field_order : (l r f f' n : Reply) (h : ℕ) → (f' ≡ f) ⊎ ((h : ℕ) × (f' ≡ Err (Field h))) → in_order l r f n ≡ Err (Field h) → (h' : ℕ) × (in_order l r f' n ≡ Err (Field h'))
+field_order (Err w) r f f' n h c e = (h, e)
+field_order (Ok _) (Err w) f f' n h c e = (h, e)
+field_order (Ok _) (Ok _) f f' n h (inl d) e = (h, (λ t. d t and_then n) ∙ e)
+field_order (Ok _) (Ok _) f f' n h (inr x) e = (x.0, λ t. x.1 t and_then n)
 
 module _ {b b' : Book} (q : Rearranged b b') (room : Bool) where
   -- but for 22, the checks say the same of both
@@ -203,13 +203,13 @@ module _ {b b' : Book} (q : Rearranged b b') (room : Bool) where
       ≡ in_order (lengths_reply b 16 16) (refuse_if (not room) Sightings) fields (refuse_if (nothing_left b) NothingLeft)
   others_same fields = λ t. in_order (refuse_if (not (fit_same q 16 16 t)) Sightings) (refuse_if (not room) Sightings) fields (refuse_if (nothing_same q t) NothingLeft)
 
-  pub rescue_same : ((h : ℕ) → rescue_reply b room ≡ Refused (Field h) → ⊥) → rescue_reply b room ≡ rescue_reply b' room
+  pub rescue_same : ((h : ℕ) → rescue_reply b room ≡ Err (Field h) → ⊥) → rescue_reply b room ≡ rescue_reply b' room
   unfolding rescue_reply
   rescue_same other =
       same_order (lengths_reply b 16 16) (refuse_if (not room) Sightings) (fields_reply b) (fields_reply b') (refuse_if (nothing_left b) NothingLeft) (fields_same q (fields_of b)) other
       ∙ sym (others_same (fields_reply b'))
 
-  pub rescue_field_stays : (h : ℕ) → rescue_reply b room ≡ Refused (Field h) → (h' : ℕ) × (rescue_reply b' room ≡ Refused (Field h'))
+  pub rescue_field_stays : (h : ℕ) → rescue_reply b room ≡ Err (Field h) → (h' : ℕ) × (rescue_reply b' room ≡ Err (Field h'))
   unfolding rescue_reply
   rescue_field_stays h e =
       let x = field_order (lengths_reply b 16 16) (refuse_if (not room) Sightings) (fields_reply b) (fields_reply b') (refuse_if (nothing_left b) NothingLeft) h (fields_same (turned q) (fields_of b')) e in

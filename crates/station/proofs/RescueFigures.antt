@@ -23,13 +23,13 @@ use Rattle.exact.proofs.Gathering.{gather_ext}
 use Rattle.exact.proofs.Searching.{first_ext}
 use Rattle.reply.specs.Checks.{refuse_if, ◌and_then◌}
 use Rattle.reply.specs.declared.Refusal.TheVariants.{NothingLeft}
-use Rattle.reply.specs.declared.Reply.TheVariants.{Accepted, Refused}
 use Rattle.station.specs.Sightings.{Book, book, sightings, position_at, object_at, face_at, reading_at, lengths_fit, out_of_range, is_of}
 use Rattle.station.specs.Table.{total, one, entry, counts, readings}
 use Rattle.station.specs.Means.{half_c, centred, seen, faces_fault, initial_fault, s, apart_fault}
 use Rattle.station.specs.Replies.{fault, lengths_reply, fields_reply}
 use Rattle.station.specs.Rescue.{left, place_of, step_check, spoilt, stays, is_kept, is_dropped, reason, kept, ordinals, reasons, nothing_left, rescue_reply}
 use Rattle.station.proofs.Tallying.{table_at}
+use Rattle.std.specs.Prelude.{Ok, Err}
 
 -- tests that agree leave the same
 left_same : (b : Book) (test test' : ℕ → Bool) → ((h : ℕ) → h < sightings b → test h ≡ test' h) → left b test ≡ left b test'
@@ -140,7 +140,7 @@ doubled_left =
 abbrev first_object : List Bool
 first_object = true ∷ false ∷ true ∷ false ∷ false ∷ []
 
-pub doubled : (rescue_reply doubled_left true ≡ Accepted) × (kept doubled_left ≡ book (pos 1 ∷ pos 1 ∷ []) (pos 1 ∷ pos 1 ∷ []) (pos 0 ∷ pos 1 ∷ []) (pos 0 ∷ pos 648004000 ∷ []))
+pub doubled : (rescue_reply doubled_left true ≡ Ok tt) × (kept doubled_left ≡ book (pos 1 ∷ pos 1 ∷ []) (pos 1 ∷ pos 1 ∷ []) (pos 0 ∷ pos 1 ∷ []) (pos 0 ∷ pos 648004000 ∷ []))
     × (ordinals doubled_left ≡ 2 ∷ 4 ∷ 5 ∷ []) × (reasons doubled_left ≡ 1 ∷ 1 ∷ 1 ∷ [])
 unfolding sum first gather tabulate floor modulo lengths_fit out_of_range same is_of total centred
 doubled = by_course doubled_left ((true ∷ true ∷ true ∷ true ∷ true ∷ []) ∷ first_object ∷ first_object ∷ first_object ∷ first_object ∷ []) refl refl refl
@@ -153,6 +153,6 @@ far_apart =
 abbrev everyone : List Bool
 everyone = true ∷ true ∷ true ∷ true ∷ []
 
-pub apart : (rescue_reply far_apart true ≡ Refused NothingLeft) × (kept far_apart ≡ book [] [] [] []) × (ordinals far_apart ≡ 1 ∷ 2 ∷ 3 ∷ 4 ∷ []) × (reasons far_apart ≡ 3 ∷ 3 ∷ 4 ∷ 4 ∷ [])
+pub apart : (rescue_reply far_apart true ≡ Err NothingLeft) × (kept far_apart ≡ book [] [] [] []) × (ordinals far_apart ≡ 1 ∷ 2 ∷ 3 ∷ 4 ∷ []) × (reasons far_apart ≡ 3 ∷ 3 ∷ 4 ∷ 4 ∷ [])
 unfolding sum first gather tabulate floor modulo lengths_fit out_of_range same is_of total centred
 apart = by_course far_apart (everyone ∷ everyone ∷ everyone ∷ (false ∷ false ∷ true ∷ true ∷ []) ∷ (false ∷ false ∷ false ∷ false ∷ []) ∷ []) refl refl refl

@@ -20,7 +20,6 @@ use Rattle.exact.specs.Gather.{gather}
 use Rattle.exact.proofs.Filling.{tabulate_is}
 use Rattle.exact.proofs.Gathering.{rank, nth, gather_rank, gather_parts, gather_most, gather_all, gather_none, gather_at, nth_in, nth_test, nth_rise, rank_in, nth_rank}
 use Rattle.exact.proofs.Searching.{Failed, failed_none, not_both, some_at, some_none, all_failed}
-use Rattle.reply.specs.declared.Reply.TheVariants.{Accepted}
 use Rattle.station.specs.Bounds.{InRange}
 use Rattle.station.specs.Sightings.{Book, book, sightings, position_at, out_of_range}
 use Rattle.station.specs.Table.{counts, readings}
@@ -30,6 +29,7 @@ use Rattle.station.specs.Parted.{Parted, Sound}
 use Rattle.station.proofs.Clearing.{settled}
 use Rattle.station.proofs.Sifting.{left_long, left_objects, left_faces, left_readings, left_position, left_object, left_face, left_reading, place_in, tables_after, reason_in}
 use Rattle.station.proofs.Sounding.{Clear, sound_clear, clear_sound, clear_fits, rescue_in}
+use Rattle.std.specs.Prelude.{Ok}
 
 -- ---- each once
 module _ (b : Book) where
@@ -97,7 +97,7 @@ something_kept b e = by_order (dec_lt 0 (sightings (kept b)))
     by_order (yes k) = k
     by_order (no k) = not_both (sym (ap not (some_none (sightings b) (is_kept b) (none k))) ∙ e)
 
-pub something_left : (b : Book) (room : Bool) → rescue_reply b room ≡ Accepted → 1 ≤ sightings (kept b)
+pub something_left : (b : Book) (room : Bool) → rescue_reply b room ≡ Ok tt → 1 ≤ sightings (kept b)
 something_left b room e = something_kept b (rescue_in b room e).1
 
 -- ---- a list that is sound
@@ -125,7 +125,7 @@ module _ (b : Book) (c : Clear b) where
   stays_whole zero h l = refl
   stays_whole (suc k) h l = stays_all k (stays_whole k) h l
 
-  clear_whole : (rescue_reply b true ≡ Accepted) × (kept b ≡ b) × (ordinals b ≡ []) × (reasons b ≡ [])
+  clear_whole : (rescue_reply b true ≡ Ok tt) × (kept b ≡ b) × (ordinals b ≡ []) × (reasons b ≡ [])
   unfolding rescue_reply nothing_left
   clear_whole = (
     rw ((clear_fits b c.ranges c.some).0, (clear_fits b c.ranges c.some).1, some_at (sightings b) (is_kept b) 0 c.some (failed_none (is_kept b)) (stays_whole 4 0 c.some)),
@@ -134,7 +134,7 @@ module _ (b : Book) (c : Clear b) where
     gather_none (sightings b) (is_dropped b) (reason b) (λ h l. ap not (stays_whole 4 h l)),
   )
 
-pub sound_whole : (b : Book) → Sound b → (rescue_reply b true ≡ Accepted) × (kept b ≡ b) × (ordinals b ≡ []) × (reasons b ≡ [])
+pub sound_whole : (b : Book) → Sound b → (rescue_reply b true ≡ Ok tt) × (kept b ≡ b) × (ordinals b ≡ []) × (reasons b ≡ [])
 sound_whole b s = clear_whole b (sound_clear b s)
 
 -- ---- what is kept
@@ -150,7 +150,7 @@ left_range b s test = record {
       ∙ s.sound (nth test (sightings b) m) (nth_in test (sightings b) m (omega (arith, left_long b test)));
 }
 
-kept_clear : (b : Book) (room : Bool) → rescue_reply b room ≡ Accepted → Clear (kept b)
+kept_clear : (b : Book) (room : Bool) → rescue_reply b room ≡ Ok tt → Clear (kept b)
 kept_clear b room e =
     let s = (rescue_in b room e).0 in
     let n = tables_after b s 4 in
@@ -160,8 +160,8 @@ kept_clear b room e =
       quiet = λ k p l. (λ t. fault (step_check k) (sym n.0 t) (sym n.1 t) p) ∙ settled (counts b) (readings b) p l k;
     }
 
-pub kept_sound : (b : Book) (room : Bool) → rescue_reply b room ≡ Accepted → Sound (kept b)
+pub kept_sound : (b : Book) (room : Bool) → rescue_reply b room ≡ Ok tt → Sound (kept b)
 kept_sound b room e = clear_sound (kept b) (kept_clear b room e)
 
-pub again : (b : Book) (room : Bool) → rescue_reply b room ≡ Accepted → (rescue_reply (kept b) true ≡ Accepted) × (kept (kept b) ≡ kept b) × (ordinals (kept b) ≡ []) × (reasons (kept b) ≡ [])
+pub again : (b : Book) (room : Bool) → rescue_reply b room ≡ Ok tt → (rescue_reply (kept b) true ≡ Ok tt) × (kept (kept b) ≡ kept b) × (ordinals (kept b) ≡ []) × (reasons (kept b) ≡ [])
 again b room e = sound_whole (kept b) (kept_sound b room e)

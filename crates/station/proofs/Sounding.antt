@@ -13,13 +13,12 @@ use borrow.Author.Tests.{le-leb, eq-eqb, not-false}
 use lib.IntN.{ℤ}
 use lib.ListN.{length}
 use Rattle.exact.specs.First.{first, some_below}
-use Rattle.exact.proofs.Searching.{Failed, first_none}
+use Rattle.exact.proofs.Searching.{Failed}
 use Rattle.reply.specs.Checks.{refuse_if, refuse_first, ◌and_then◌}
 use Rattle.reply.specs.Numbers.{number_of}
 use Rattle.reply.specs.declared.Refusal.{Refusal}
 use Rattle.reply.specs.declared.Refusal.TheVariants.{Sightings, Field, Spread, NothingLeft}
-use Rattle.reply.specs.declared.Reply.{Reply}
-use Rattle.reply.specs.declared.Reply.TheVariants.{Accepted, Refused}
+use Rattle.reply.specs.Reply.{Reply}
 use Rattle.reply.proofs.Checking.{never, both_accepted, if_accepted, refuse_none, none_refused, refused_as}
 use Rattle.station.specs.declared.checks.Check.TheVariants.{PairsWhole, InitialSeen, FacesClose, PositionsAgree}
 use Rattle.station.specs.Bounds.{InRange}
@@ -28,7 +27,8 @@ use Rattle.station.specs.Table.{counts, readings}
 use Rattle.station.specs.Replies.{fault, refusal, check_of, table_reply, lengths_reply, fields_reply, reply_of}
 use Rattle.station.specs.Rescue.{step_check, nothing_left, rescue_reply}
 use Rattle.station.specs.Parted.{Sound}
-use Rattle.station.proofs.Deciding.{fit, lengths_fit_lem, in_range, reply_table}
+use Rattle.station.proofs.Deciding.{fit, lengths_fit_lem, in_range, reply_fields}
+use Rattle.std.specs.Prelude.{Ok, Err}
 
 pub record Clear (b : Book) : Type 0 where
   pub ranges : InRange b
@@ -37,13 +37,10 @@ pub record Clear (b : Book) : Type 0 where
 
 -- ---- 21 and 22
 -- lists that pass both are in range, and not empty
-passes_both : (b : Book) → lengths_reply b 16 16 ≡ Accepted → fields_reply b ≡ Accepted → InRange b × (1 ≤ sightings b)
+passes_both : (b : Book) → lengths_reply b 16 16 ≡ Ok tt → fields_reply b ≡ Ok tt → InRange b × (1 ≤ sightings b)
 passes_both b a c =
     let e = not-false (fit b 16 16) (if_accepted (not (fit b 16 16)) Sightings a) in
-    let f = none_refused (sightings b) (field_fault b) (λ h. Field (h + 1)) c in (
-      in_range b 16 16 e (first (sightings b) (field_fault b)) refl (omega (arith, first_none (sightings b) (field_fault b) f)),
-      (lengths_fit_lem (sightings b) (length b.object) (length b.face) (length b.reading) 16 16 e).some,
-    )
+    (in_range b 16 16 e c, (lengths_fit_lem (sightings b) (length b.object) (length b.face) (length b.reading) 16 16 e).some)
 
 module _ (b : Book) (s : InRange b) (some : 1 ≤ sightings b) where
   lengths_pass : fit b 16 16 ≡ true
@@ -52,26 +49,26 @@ module _ (b : Book) (s : InRange b) (some : 1 ≤ sightings b) where
       rw (le-leb 1 (sightings b) some, le-leb (sightings b) 512 s.few, eq-eqb (length b.object) (sightings b) s.objects, eq-eqb (length b.face) (sightings b) s.faces)
       (rw (eq-eqb (length b.reading) (sightings b) s.readings) refl)
 
-  pub clear_fits : (lengths_reply b 16 16 ≡ Accepted) × (fields_reply b ≡ Accepted)
+  pub clear_fits : (lengths_reply b 16 16 ≡ Ok tt) × (fields_reply b ≡ Ok tt)
   clear_fits = ((λ t. refuse_if (not (lengths_pass t)) Sightings), refuse_none (sightings b) (field_fault b) (λ h. Field (h + 1)) s.sound)
 
 -- ---- 23 to 25, and then 26
 -- what is said in the end: all agree, or 26
 abbrev Final : Reply → Type 0
-Final reply = (reply ≡ Accepted) ⊎ ((p : ℕ) × (o : ℕ) × (reply ≡ Refused (Spread p o)))
+Final reply = (reply ≡ Ok tt) ⊎ ((p : ℕ) × (o : ℕ) × (reply ≡ Err (Spread p o)))
 
 -- a check that never says 26 has accepted
-goes_on_lem : (r s : Reply) → ((p o : ℕ) → r ≡ Refused (Spread p o) → ⊥) → Final (r and_then s) → (r ≡ Accepted) × Final s
-goes_on_lem Accepted s n f = (refl, f)
-goes_on_lem (Refused why) s n (inl e) = never why e
-goes_on_lem (Refused why) s n (inr x) = absurd (n x.0 x.1 x.2)
+goes_on_lem : (r s : Reply) → ((p o : ℕ) → r ≡ Err (Spread p o) → ⊥) → Final (r and_then s) → (r ≡ Ok tt) × Final s
+goes_on_lem (Ok _) s n f = (refl, f)
+goes_on_lem (Err why) s n (inl e) = never why e
+goes_on_lem (Err why) s n (inr x) = absurd (n x.0 x.1 x.2)
 
-lengths_other : (fault : Bool) (p o : ℕ) → refuse_if fault Sightings ≡ Refused (Spread p o) → ⊥
+lengths_other : (fault : Bool) (p o : ℕ) → refuse_if fault Sightings ≡ Err (Spread p o) → ⊥
 lengths_other true p o e = let w : Sightings ≡ Spread p o = cc in omega (arith, ap number_of w)
 lengths_other false p o e = never (Spread p o) (sym e)
 
 -- a check with a lower number does not say 26
-first_other : (n : ℕ) (fault : ℕ → Bool) (why : ℕ → Refusal) → ((k : ℕ) → number_of (why k) < 26) → (p o : ℕ) → refuse_first n fault why ≡ Refused (Spread p o) → ⊥
+first_other : (n : ℕ) (fault : ℕ → Bool) (why : ℕ → Refusal) → ((k : ℕ) → number_of (why k) < 26) → (p o : ℕ) → refuse_first n fault why ≡ Err (Spread p o) → ⊥
 first_other n fault why lower p o e = omega (arith, lower (first n fault), ap number_of (refused_as n fault why (Spread p o) e))
 
 module _ (n r : List ℤ) where
@@ -113,13 +110,10 @@ sound_clear b f =
 
 pub clear_sound : (b : Book) → Clear b → Sound b
 clear_sound b c =
-    rw (
-      reply_table b 16 16 (lengths_pass b c.ranges c.some) (first (sightings b) (field_fault b)) refl (omega (arith, first_none (sightings b) (field_fault b) c.ranges.sound)),
-      last_check (counts b) (readings b) c.quiet,
-    ) (final (counts b) (readings b))
+    rw (reply_fields b 16 16 (lengths_pass b c.ranges c.some), (clear_fits b c.ranges c.some).1, last_check (counts b) (readings b) c.quiet) (final (counts b) (readings b))
 
 -- ---- a list that a rescue accepts
-pub rescue_in : (b : Book) (room : Bool) → rescue_reply b room ≡ Accepted → InRange b × (nothing_left b ≡ false)
+pub rescue_in : (b : Book) (room : Bool) → rescue_reply b room ≡ Ok tt → InRange b × (nothing_left b ≡ false)
 unfolding rescue_reply
 rescue_in b room e =
     let a = both_accepted (lengths_reply b 16 16) _ e in

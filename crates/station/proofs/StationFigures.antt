@@ -13,11 +13,11 @@ use Rattle.exact.specs.Circle.{C, floor, modulo}
 use Rattle.exact.specs.First.{first}
 use Rattle.exact.specs.Tabulate.{tabulate}
 use Rattle.exact.specs.Same.{same}
-use Rattle.reply.specs.declared.Reply.TheVariants.{Accepted}
 use Rattle.station.specs.Sightings.{Book, book, lengths_fit, out_of_range, is_of}
 use Rattle.station.specs.Table.{total, counts, readings}
 use Rattle.station.specs.Means.{centred, seen, faces_fault, initial_fault, s, apart_fault, g, lowest, e, spread_fault, P, sum_of_e, direction, directions, pair_counts}
 use Rattle.station.specs.Replies.{fault, table_reply, reply_of}
+use Rattle.std.specs.Prelude.{Ok}
 
 -- one position: object 1 at 0 and right₁, object 2 at left and right
 abbrev pub pair_of_objects : ℕ → ℕ → ℕ → Book
@@ -29,7 +29,7 @@ abbrev pub second : ℤ → List ℤ
 second z = pos 0 ∷ z ∷ replicate 14 (pos 0)
 
 abbrev pub Figure : Book → ℤ → Type 0
-Figure b z = (reply_of b 16 16 ≡ Accepted) × ((directions (counts b) (readings b) ≡ second z) × (pair_counts (counts b) ≡ pos 1 ∷ pos 1 ∷ replicate 14 (pos 0)))
+Figure b z = (reply_of b 16 16 ≡ Ok tt) × ((directions (counts b) (readings b) ≡ second z) × (pair_counts (counts b) ≡ pos 1 ∷ pos 1 ∷ replicate 14 (pos 0)))
 
 pub figure_9 : Figure (pair_of_objects 648004000 144010000 792016000) (pos 144011000)
 unfolding sum first tabulate floor modulo lengths_fit out_of_range same is_of total centred seen faces_fault initial_fault s apart_fault g lowest e spread_fault P sum_of_e direction fault table_reply reply_of
@@ -54,7 +54,7 @@ across_zero =
     (pos 0 ∷ pos 1 ∷ pos 0 ∷ pos 1 ∷ pos 0 ∷ pos 1 ∷ pos 0 ∷ pos 1 ∷ [])
     (pos 0 ∷ pos 648000000 ∷ pos 500 ∷ pos 648000500 ∷ pos 0 ∷ pos 648000000 ∷ pos 1295999500 ∷ pos 647999500 ∷ [])
 
-pub across_zero_lem : (reply_of across_zero 16 16 ≡ Accepted) × ((directions (counts across_zero) (readings across_zero) ≡ second (pos 0)) × (pair_counts (counts across_zero) ≡ pos 2 ∷ pos 2 ∷ replicate 14 (pos 0)))
+pub across_zero_lem : (reply_of across_zero 16 16 ≡ Ok tt) × ((directions (counts across_zero) (readings across_zero) ≡ second (pos 0)) × (pair_counts (counts across_zero) ≡ pos 2 ∷ pos 2 ∷ replicate 14 (pos 0)))
 unfolding sum first tabulate floor modulo lengths_fit out_of_range same is_of total centred seen faces_fault initial_fault s apart_fault g lowest e spread_fault P sum_of_e direction fault table_reply reply_of
 across_zero_lem = (refl, (refl, refl))
 

@@ -1,18 +1,17 @@
 -- The rescue's steps as the code makes them, on the station's tables. Assumes nothing.
 --   cleared_long, cleared_within        a cleared table keeps its length, and its numbers get no larger
 --   cleared_none, cleared_on            without a reason nothing is cleared; what was cleared for fewer reasons is cleared for more
---   noted_long, noted_at, noted_keeps   a step notes 256 reasons, and no reason is lost
+--   noted_at, noted_keeps               what a step notes, and no reason is lost
 --   Stepped, stepped_none, stepped_more        the reasons and the tables after k steps: before the first, and after one more
---   stepped_fit                         they are what the next step asks for
 use mathlib.Core.Path.{◌≡◌, refl, sym, ◌∙◌, ap}
 use mathlib.Core.Bool.{Bool, true, false, cond}
 use mathlib.Core.List.{List}
-use Prim.Native.Nat.{ℕ, zero, suc, ◌%◌, ◌<◌, ◌≤◌}
+use Prim.Native.Nat.{ℕ, suc, ◌%◌, ◌<◌, ◌≤◌}
 use native.Mathlib.Decide.{dec_lt}
 use native.Mathlib.Omega.{arith}
 use borrow.Author.Tests.{eq-eqb, eqb-true}
 use lib.IntN.{ℤ, pos, nat_abs}
-use lib.ListN.{length, get_or, replicate, length-replicate, get_or-replicate, get_or-eq_default}
+use lib.ListN.{length, get_or, replicate, get_or-replicate, get_or-eq_default}
 use Rattle.exact.specs.Within.{Within}
 use Rattle.exact.proofs.Filling.{tabulate_length, tabulate_at, tabulate_ext, tabulate_is}
 use Rattle.station.specs.declared.checks.Check.{Check}
@@ -56,10 +55,6 @@ cleared_on why more t h = tabulate_ext 512 _ _ (λ k l. (λ i. cond (free more (
 
 -- ---- the reasons
 module _ (check : Check) (step : ℕ) (n r : List ℤ) (why : List ℕ) where
-  pub noted_long : length (noted check step n r why) ≡ 256
-  unfolding noted
-  noted_long = tabulate_length 256 _
-
   pub noted_at : (k : ℕ) → k < 256 → get_or (noted check step n r why) k 0 ≡ cond (fault check n r k) step (get_or why k 0)
   unfolding noted
   noted_at k l = tabulate_at 256 _ k 0 l
@@ -97,19 +92,3 @@ module _ (n r : List ℤ) where
     where
       keeps : (j : ℕ) → j < 256 → free why' j ≡ true → free why j ≡ true
       keeps j l t = noted_keeps (step_check k) (suc k) count sums why (omega arith) j l ((λ i. free (sym e i) j) ∙ t)
-
--- what a step asks of the tables
-why_long : (k : ℕ) (n r : List ℤ) → length (why_after k n r) ≡ 256
-unfolding why_after
-why_long zero n r = length-replicate {A = ℕ} 256 0
-why_long (suc k) n r = noted_long (step_check k) (suc k) (cleared (why_after k n r) n) (cleared (why_after k n r) r) (why_after k n r)
-
-pub stepped_fit : {n r count sums : List ℤ} {k : ℕ} {why : List ℕ} → Within 512 n → Within 663552000000 r → Stepped n r k count sums why →
-    Within 512 count × Within 663552000000 sums × (length count ≡ 512) × (length sums ≡ 512) × (length why ≡ 256)
-stepped_fit {n} {r} {count} {sums} {k} {why} wn wr s = (
-  rw s.counts_are (cleared_within 512 why n wn),
-  rw s.sums_are (cleared_within 663552000000 why r wr),
-  ap length s.counts_are ∙ cleared_long why n,
-  ap length s.sums_are ∙ cleared_long why r,
-  ap length s.reasons_are ∙ why_long k n r,
-)

@@ -1,15 +1,16 @@
 -- The station's table, as it fills from the list. Assumes nothing.
 --   InFields, in_fields               the fields of a sighting that is in range
 --   of_slot, of_other                 a sighting is of the face, position and object of its own slot, and of no other slot's
+--   zeros_within                      the numbers of an empty table are within any bound
 --   tallied                           the table after the first m sightings; tallied_none, tallied_more: before the first, and after one more
 --   stored                            the same of a table that is so far
 --   tallied_size                      how large its numbers are; tallied_all: at the end it is the whole table
---   counts_within, readings_within    how large the numbers of the two whole tables are
+--   counts_so_far, readings_so_far    how large the numbers of the two tables are, after m sightings of a list in range
 --   table_at                          what the whole table has of a face, a position and an object
 use mathlib.Core.Path.{◌≡◌, refl, sym, ◌∙◌, ap, subst}
 use mathlib.Core.Bool.{Bool, true, false}
 use mathlib.Core.List.{List}
-use Prim.Native.Nat.{ℕ, ◌+◌, ◌*◌, ◌-◌, ◌/◌, ◌%◌, ◌<◌, ◌≤◌}
+use Prim.Native.Nat.{ℕ, zero, suc, ◌+◌, ◌*◌, ◌-◌, ◌/◌, ◌%◌, ◌<◌, ◌≤◌}
 use native.Mathlib.Decide.{dec_lt}
 use native.Mathlib.Omega.{arith}
 use borrow.Author.Tests.{ltb-false}
@@ -27,7 +28,7 @@ use Rattle.exact.proofs.Sameness.{same_yes, same_true}
 use Rattle.station.specs.Bounds.{InRange}
 use Rattle.station.specs.Sightings.{Book, sightings, position_at, object_at, face_at, reading_at, out_of_range, field_fault, is_of}
 use Rattle.station.specs.SumWhere.{sum_where}
-use Rattle.station.specs.Table.{total, one, slot, entry, table_of, counts, readings}
+use Rattle.station.specs.Table.{total, one, slot, entry, table_of}
 use Rattle.station.proofs.Tests.{and_true}
 use Rattle.station.proofs.Selecting.{where_none, where_taken, where_passed, where_size}
 
@@ -116,6 +117,12 @@ tabulate_set n f g q x l e o =
     pick k m (no a) (no c) = subst (λ (k : ℕ). get_or (set (tabulate n f) q x) k (pos 0) ≡ get_or (tabulate n g) k (pos 0)) (omega arith) same
 
 -- ---- the table so far
+-- before the first sighting
+pub zeros_within : (B n : ℕ) → Within B (replicate n (pos 0))
+zeros_within B zero h = omega arith
+zeros_within B (suc n) zero = omega arith
+zeros_within B (suc n) (suc h) = zeros_within B n h
+
 module _ (b : Book) (v : ℕ → ℤ) where
   -- of the first m sightings
   abbrev pub so_far : ℕ → ℕ → ℤ
@@ -169,10 +176,11 @@ module _ (b : Book) (v : ℕ → ℤ) where
 
 -- how large the numbers of the two tables are, for a list in range
 module _ (b : Book) (s : InRange b) where
-  pub counts_within : Within 512 (counts b)
-  counts_within k = subst (λ (l : List ℤ). nat_abs (get_or l k (pos 0)) ≤ 512) (tallied_all b one) (omega (arith, tallied_size b one (sightings b) 1 (λ i l. omega arith) k, s.few))
+  module _ (m : ℕ) (l : m ≤ sightings b) {xs : List ℤ} where
+    pub counts_so_far : xs ≡ tallied b one m → Within 512 xs
+    counts_so_far e = rw e (λ k. omega (arith, tallied_size b one m 1 (λ i l. omega arith) k, s.few))
 
-  pub readings_within : Within 663552000000 (readings b)
-  readings_within k =
-      subst (λ (l : List ℤ). nat_abs (get_or l k (pos 0)) ≤ 663552000000) (tallied_all b (reading_at b))
-      (omega (arith, tallied_size b (reading_at b) (sightings b) 1295999999 (λ i l. (in_fields b i (s.sound i l)).readings.1.1) k, s.few))
+    pub readings_so_far : xs ≡ tallied b (reading_at b) m → Within 663552000000 xs
+    readings_so_far e =
+        let each : (i : ℕ) → i < m → nat_abs (reading_at b i) ≤ 1295999999 = λ i q. (in_fields b i (s.sound i (omega arith))).readings.1.1 in
+        rw e (λ k. omega (arith, tallied_size b (reading_at b) m 1295999999 each k, s.few))

@@ -1,7 +1,12 @@
 -- What the inner functions ask of a list and of its tables. No rule: a caller outside sees none of it.
 use Rattle.std.specs.Prelude.{◌≡◌, false, List, ℕ, ◌<◌, ◌≤◌, ℤ, length}
 use Rattle.exact.specs.Within.{Within}
-use Rattle.station.specs.Sightings.{Book, sightings, field_fault}
+use Rattle.station.specs.declared.fields.Sightings.{Sightings}
+use Rattle.station.specs.Sightings.{Book, book, sightings, field_fault}
+
+-- lists of one length
+abbrev pub OneLength : Book → Type 0
+OneLength b = (length b.object ≡ sightings b) × ((length b.face ≡ sightings b) × (length b.reading ≡ sightings b))
 
 -- lists of one length, at most 512, and every field in its range
 pub record InRange (b : Book) : Type 0 where
@@ -18,3 +23,7 @@ CountTable n = Within 512 n
 -- a table of sums, of at most 512 readings: 512 circles
 abbrev pub SumTable : List ℤ → Type 0
 SumTable r = Within 663552000000 r
+
+-- the sightings that the code's four lists have
+abbrev pub book_of : Sightings → Book
+book_of s = book s.position.now s.object.now s.face.now s.reading.now

@@ -1,7 +1,6 @@
 -- What the rescue of a list of sightings means to its reader, beside the rule in specs/Rescue. Sightings count from 0 here, ordinals from 1.
-use Rattle.std.specs.Prelude.{◌≡◌, ◌⊎◌, ℕ, ◌+◌, ◌-◌, ◌<◌, ◌≤◌, length, get_or}
+use Rattle.std.specs.Prelude.{◌≡◌, ◌⊎◌, ℕ, ◌+◌, ◌-◌, ◌<◌, ◌≤◌, length, get_or, Ok, Err}
 use Rattle.reply.specs.declared.Refusal.TheVariants.{Spread}
-use Rattle.reply.specs.declared.Reply.TheVariants.{Accepted, Refused}
 use Rattle.station.specs.Sightings.{Book, sightings, position_at, object_at, face_at, reading_at}
 use Rattle.station.specs.Rearrangement.{Rearranged}
 use Rattle.station.specs.Replies.{reply_of}
@@ -37,7 +36,7 @@ pub record Parted (b : Book) : Type 0 where
 
 -- a list "sound under 23 to 25": the station accepts it, or refuses it with 26 alone
 abbrev pub Sound : Book → Type 0
-Sound b = (reply_of b 16 16 ≡ Accepted) ⊎ ((p : ℕ) × (o : ℕ) × (reply_of b 16 16 ≡ Refused (Spread p o)))
+Sound b = (reply_of b 16 16 ≡ Ok tt) ⊎ ((p : ℕ) × (o : ℕ) × (reply_of b 16 16 ≡ Err (Spread p o)))
 
 -- "the order of arrival does not decide": of two orders of the same sightings the same ones are dropped, each with its reason. Its ordinal says where it
 -- stands in the order that is given

@@ -4,7 +4,7 @@ use Rattle.reply.specs.Checks.{refuse_if, refuse_first, ◌and_then◌, leaves}
 use Rattle.reply.specs.Verdicts.{verdict_of}
 use Rattle.reply.specs.declared.Refusal.{Refusal}
 use Rattle.reply.specs.declared.Refusal.TheVariants.{Sightings, Field, Faces, Initial, FacesApart, Spread}
-use Rattle.reply.specs.declared.Reply.{Reply}
+use Rattle.reply.specs.Reply.{Reply}
 use Rattle.station.specs.declared.checks.Check.{Check}
 use Rattle.station.specs.declared.checks.Check.TheVariants.{PairsWhole, InitialSeen, FacesClose, PositionsAgree}
 use Rattle.station.specs.Sightings.{Book, sightings, lengths_fit, field_fault}

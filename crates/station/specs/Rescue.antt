@@ -2,21 +2,22 @@
 -- position and object whose face is missing or doubled, then every position left without object 1, then pairs with faces over 60,000 apart, then
 -- positions left without object 1 again. It returns the kept sightings in their old order, and for each dropped one its ordinal and which of these
 -- reasons came first."
-use Rattle.std.specs.Prelude.{◌≡◌, Bool, true, not, cond, ◌&&◌, List, ℕ, zero, suc, ◌+◌, ◌-◌, eqb, ℤ, pos, nat_abs, length, get_or}
+use Rattle.std.specs.Prelude.{◌≡◌, Bool, true, not, cond, ◌&&◌, List, ℕ, zero, suc, ◌+◌, ◌-◌, eqb, ℤ, pos, nat_abs, length, get_or, Result}
 use Rattle.std.proofs.lemmas.List.Edits.{sets}
 use Rattle.exact.specs.First.{first, some_below}
 use Rattle.exact.specs.Gather.{gather}
 use Rattle.exact.specs.Tabulate.{tabulate}
-use Rattle.reply.specs.Checks.{refuse_if, ◌and_then◌, leaves}
+use Rattle.reply.specs.Checks.{refuse_if, ◌and_then◌, leaves, figure_reply, figure_of}
 use Rattle.reply.specs.Verdicts.{verdict_of}
 use Rattle.reply.specs.declared.Refusal.TheVariants.{Sightings, NothingLeft}
-use Rattle.reply.specs.declared.Reply.{Reply}
+use Rattle.reply.specs.Reply.{Reply}
 use Rattle.station.specs.declared.Rescued.{Rescued}
 use Rattle.station.specs.declared.checks.Check.{Check}
 use Rattle.station.specs.declared.checks.Check.TheVariants.{PairsWhole, InitialSeen, FacesClose}
 use Rattle.station.specs.Sightings.{Book, book, sightings, position_at, object_at, face_at, reading_at}
 use Rattle.station.specs.Table.{slot, counts, readings}
 use Rattle.station.specs.Replies.{fault, lengths_reply, fields_reply}
+use Rattle.reply.specs.declared.Refusal.{Refusal}
 
 -- the sightings that a test leaves of a list, in their old order
 abbrev pub left : Book → (ℕ → Bool) → Book
@@ -98,13 +99,11 @@ filled b l =
     (sets l.ordinal 0 (ordinals b)) (sets l.reason 0 (reasons b))
 
 -- everything that the rescue must leave: the reply, how many are kept and dropped, and the six lent lists, which held `before`
-pub record Rescues (b : Book) (before : Lent) (rescued : Rescued) (after : Lent) : Type 0 where
-  pub replied : rescued.reply ≡ rescue_reply b (rooms b before)
+pub record Rescues (b : Book) (before : Lent) (rescued : Result Rescued Refusal) (after : Lent) : Type 0 where
+  pub answer : rescued ≡ figure_of (rescue_reply b (rooms b before)) (record { kept = sightings (kept b); dropped = length (ordinals b) })
   -- in the rules' numbers: number and place
-  pub verdict : verdict_of rescued.reply ≡ verdict_of (rescue_reply b (rooms b before))
-  pub kept_are : rescued.kept ≡ leaves rescued.reply (sightings (kept b)) 0
-  pub dropped_are : rescued.dropped ≡ leaves rescued.reply (length (ordinals b)) 0
-  pub lists_are : after ≡ leaves rescued.reply (filled b before) before
+  pub verdict : verdict_of (figure_reply rescued) ≡ verdict_of (rescue_reply b (rooms b before))
+  pub lists_are : after ≡ leaves (rescue_reply b (rooms b before)) (filled b before) before
 
 -- the same of the operation for layers above that tells of each sighting why it is dropped, into one lent list, which held `before`
 pub record Judges (b : Book) (before : List ℕ) (reply : Reply) (after : List ℕ) : Type 0 where

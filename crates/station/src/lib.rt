@@ -13,20 +13,28 @@ mod steps;
 mod table;
 
 ghost use Rattle.std.specs.Prelude.{◌≡◌, true, length};
-ghost use Rattle.reply.specs.declared.Reply.TheVariants.{Refused};
 ghost use Rattle.station.specs.Sightings.{book};
 ghost use Rattle.station.specs.Replies.{Answers};
 ghost use Rattle.station.specs.Rescue.{lent, rooms, Rescues, Judges};
 
-use reply::{Refusal, Reply};
+use crate::fields::Sightings;
+use crate::table::Table;
+use reply::Refusal;
 
 // The most sightings of a station.
 pub const MOST: usize = 512;
 
-// What becomes of a spoiled list: the reply, and how many sightings are kept and dropped where it is accepted.
-#[derive(Clone, Copy)]
+// The positions of a station, and its objects, for each of which an answer list has a place.
+const POSITIONS: usize = 16;
+
+const OBJECTS: usize = 16;
+
+// The positions and objects together, in the order of the checks; a station's table has each of them for either face.
+const PLACES: usize = POSITIONS * OBJECTS;
+
+// How many sightings of a spoiled list are kept and dropped.
+#[derive(Clone, Copy, Debug, PartialEq, Eq)]
 pub struct Rescued {
-    pub reply: Reply,
     pub kept: usize,
     pub dropped: usize,
 }
@@ -39,33 +47,24 @@ pub fn means(
     reading: &[i64],
     direction: &mut [i64],
     pairs: &mut [i64],
-) -> Reply
+) -> Result<(), Refusal>
     ensures { Answers (book position.now object.now face.now reading.now) direction.old pairs.old result direction.new pairs.new }
 {
-    let n = position.len();
-    if !fields::lengths_fit(
-        n,
-        object.len(),
-        face.len(),
-        reading.len(),
-        direction.len(),
-        pairs.len(),
-    ) {
-        return Reply::Refused(Refusal::Sightings);
+    let sightings = Sightings {
+        position,
+        object,
+        face,
+        reading,
+    };
+    if !sightings.fit(direction.len(), pairs.len()) {
+        return Err(Refusal::Sightings);
     }
-    let h = fields::first_out_of_range(position, object, face, reading);
-    if h < n {
-        return Reply::Refused(Refusal::Field((h + 1) as u64));
-    }
-    let mut count = [0i64; 512];
-    let mut sums = [0i64; 512];
-    table::tally(position, object, face, reading, &mut count, &mut sums);
-    let reply = checks::table_reply(&count, &sums);
-    if let Reply::Refused(why) = reply {
-        return Reply::Refused(why);
-    }
-    answer::write(&count, &sums, direction, pairs);
-    Reply::Accepted
+    sightings.check()?;
+    let mut table = Table::new();
+    table.tally(&sightings);
+    checks::make_all(&table)?;
+    answer::write(&table, direction, pairs);
+    Ok(())
 }
 
 // Why each sighting of a spoiled list is dropped, 1 to 4 by the step that drops it, and 0 where it is kept, into a lent list of as many places; or why the
@@ -76,78 +75,27 @@ pub fn judge(
     face: &[i64],
     reading: &[i64],
     reason: &mut [u8],
-) -> Reply
+) -> Result<(), Refusal>
     ensures { Judges (book position.now object.now face.now reading.now) reason.old result reason.new }
 {
-    let n = position.len();
-    if !fields::lengths_fit(n, object.len(), face.len(), reading.len(), 16, 16) {
-        return Reply::Refused(Refusal::Sightings);
+    let sightings = Sightings {
+        position,
+        object,
+        face,
+        reading,
+    };
+    if !sightings.fit(OBJECTS, OBJECTS) || reason.len() != position.len() {
+        return Err(Refusal::Sightings);
     }
-    if reason.len() != n {
-        return Reply::Refused(Refusal::Sightings);
+    sightings.check()?;
+    let mut table = Table::new();
+    table.tally(&sightings);
+    let why = steps::all(&mut table);
+    if !steps::any_kept(&sightings, &why) {
+        return Err(Refusal::NothingLeft);
     }
-    let h = fields::first_out_of_range(position, object, face, reading);
-    if h < n {
-        return Reply::Refused(Refusal::Field((h + 1) as u64));
-    }
-    let mut count = [0i64; 512];
-    let mut sums = [0i64; 512];
-    table::tally(position, object, face, reading, &mut count, &mut sums);
-    let mut why = [0u8; 256];
-    steps::all(&mut count, &mut sums, &mut why);
-    if n <= steps::first_kept(position, object, &why) {
-        return Reply::Refused(Refusal::NothingLeft);
-    }
-    steps::write_reasons(position, object, &why, reason);
-    Reply::Accepted
-}
-
-// Nothing is kept and nothing dropped.
-fn refused(why: Refusal) -> Rescued
-    ensures { result ≡ record { reply = Refused why; kept = 0; dropped = 0 } }
-{
-    Rescued {
-        reply: Reply::Refused(why),
-        kept: 0,
-        dropped: 0,
-    }
-}
-
-// The rescue of lists that have the room that is due, with one more to note the reasons in.
-fn part(
-    reason: &mut [u8],
-    position: &[i64],
-    object: &[i64],
-    face: &[i64],
-    reading: &[i64],
-    kept_position: &mut [i64],
-    kept_object: &mut [i64],
-    kept_face: &mut [i64],
-    kept_reading: &mut [i64],
-    ordinals: &mut [u64],
-    reasons: &mut [u64],
-) -> Rescued
-    requires { (rooms (book position.now object.now face.now reading.now)
-        (lent kept_position.old kept_object.old kept_face.old kept_reading.old ordinals.old reasons.old) ≡ true) × (length reason.old ≡ length position.now) }
-    ensures { Rescues (book position.now object.now face.now reading.now)
-        (lent kept_position.old kept_object.old kept_face.old kept_reading.old ordinals.old reasons.old)
-        result
-        (lent kept_position.new kept_object.new kept_face.new kept_reading.new ordinals.new reasons.new) }
-{
-    let reply = judge(position, object, face, reading, reason);
-    if let Reply::Refused(why) = reply {
-        return refused(why);
-    }
-    parting::keep(reason, position, kept_position);
-    parting::keep(reason, object, kept_object);
-    parting::keep(reason, face, kept_face);
-    let kept = parting::keep(reason, reading, kept_reading);
-    let dropped = parting::list_dropped(reason, ordinals, reasons);
-    Rescued {
-        reply: Reply::Accepted,
-        kept,
-        dropped,
-    }
+    steps::write_reasons(&sightings, &why, reason);
+    Ok(())
 }
 
 // The rescue of a spoiled list: the kept sightings in their old order, into four lent lists, and for each dropped one its ordinal and its reason, into two
@@ -163,39 +111,31 @@ pub fn rescue(
     kept_reading: &mut [i64],
     ordinals: &mut [u64],
     reasons: &mut [u64],
-) -> Rescued
+) -> Result<Rescued, Refusal>
     ensures { Rescues (book position.now object.now face.now reading.now)
         (lent kept_position.old kept_object.old kept_face.old kept_reading.old ordinals.old reasons.old)
         result
         (lent kept_position.new kept_object.new kept_face.new kept_reading.new ordinals.new reasons.new) }
 {
     let n = position.len();
-    if !parting::rooms_fit(
-        n,
+    let rooms = [
         kept_position.len(),
         kept_object.len(),
         kept_face.len(),
         kept_reading.len(),
         ordinals.len(),
         reasons.len(),
-    ) {
-        return refused(Refusal::Sightings);
+    ];
+    if !parting::rooms_fit(n, rooms) || MOST < n {
+        return Err(Refusal::Sightings);
     }
-    if MOST < n {
-        return refused(Refusal::Sightings);
-    }
-    let mut reason = [0u8; MOST];
-    part(
-        &mut reason[..n],
-        position,
-        object,
-        face,
-        reading,
-        kept_position,
-        kept_object,
-        kept_face,
-        kept_reading,
-        ordinals,
-        reasons,
-    )
+    let mut noted = [0u8; MOST];
+    let reason = &mut noted[..n];
+    judge(position, object, face, reading, reason)?;
+    parting::keep(reason, position, kept_position);
+    parting::keep(reason, object, kept_object);
+    parting::keep(reason, face, kept_face);
+    let kept = parting::keep(reason, reading, kept_reading);
+    let dropped = parting::list_dropped(reason, ordinals, reasons);
+    Ok(Rescued { kept, dropped })
 }

@@ -1,9 +1,9 @@
 // The figures of a pair, in the rules' letters: s, g, b and e.
-ghost use Rattle.std.specs.Prelude.{◌≡◌, ◌<◌, ◌≤◌, pos, nat_abs, ◌-ℤ◌, ◌<ℤ◌};
-ghost use Rattle.station.specs.Means.{centred, s, g, lowest, seen, base};
-ghost use Rattle.station.specs.Bounds.{CountTable, SumTable};
+ghost use Rattle.std.specs.Prelude.{◌≡◌, ◌<◌, ◌≤◌, pos, nat_abs, ◌<ℤ◌, MatchOption};
+ghost use Rattle.station.specs.Means.{centred, s, g, lowest, base, e};
 
-use crate::table::{entry, seen};
+use crate::POSITIONS;
+use crate::table::Table;
 use direction::CIRCLE;
 
 // Half of the circle, and its double.
@@ -20,45 +20,45 @@ fn centred(z: i64, half: i64) -> i64
 }
 
 // s: how far the two faces of a pair are from half a circle apart.
-pub fn faces_differ(sums: &[i64; 512], i: usize, j: usize) -> i64
-    requires { SumTable sums.now × ((i < 16) × (j < 16)) }
-    ensures { result ≡ s sums.now i j }
+pub fn faces_differ(table: &Table, i: usize, j: usize) -> i64
+    requires { (i < 16) × (j < 16) }
+    ensures { result ≡ s table.now.sums i j }
 {
     centred(
-        entry(sums, 1, i, j) - entry(sums, 0, i, j) - HALF_CIRCLE,
+        table.right_reading(i, j) - table.left_reading(i, j) - HALF_CIRCLE,
         HALF_CIRCLE,
     )
 }
 
 // g: twice the direction from the initial, by the pair of a position and an object.
-pub fn doubled_direction(sums: &[i64; 512], i: usize, j: usize) -> i64
-    requires { SumTable sums.now × ((i < 16) × (j < 16)) }
-    ensures { result ≡ g sums.now i j }
+fn doubled_direction(table: &Table, i: usize, j: usize) -> i64
+    requires { (i < 16) × (j < 16) }
+    ensures { result ≡ g table.now.sums i j }
 {
-    let turned = 2 * (entry(sums, 0, i, j) - entry(sums, 0, i, 0));
+    let turned = 2 * (table.left_reading(i, j) - table.left_reading(i, 0));
     exact::modulo(
-        turned + faces_differ(sums, i, j) - faces_differ(sums, i, 0),
+        turned + faces_differ(table, i, j) - faces_differ(table, i, 0),
         DOUBLE_CIRCLE,
     )
 }
 
-// The lowest position in which the object was sighted; 16 where there is none.
-pub fn lowest(count: &[i64; 512], j: usize) -> usize
-    requires { CountTable count.now × (j < 16) }
-    ensures { result ≡ lowest count.now j }
+// b: g of the lowest position in which the object was sighted.
+pub fn base(table: &Table, j: usize) -> Option<i64>
+    requires { j < 16 }
+    ensures { MatchOption result (16 ≤ lowest table.now.count j) (λ b. (lowest table.now.count j < 16) × (b ≡ base table.now.count table.now.sums j)) }
 {
-    for i in 0..16 {
-        if seen(count, i, j) {
-            return i;
+    for i in 0..POSITIONS {
+        if table.seen(i, j) {
+            return Some(doubled_direction(table, i, j));
         }
     }
-    16
+    None
 }
 
 // e: how far g of a position is from the base b of its object.
-pub fn from_base(sums: &[i64; 512], i: usize, j: usize, base: i64) -> i64
-    requires { SumTable sums.now × ((i < 16) × ((j < 16) × (nat_abs base ≤ 2592000000))) }
-    ensures { result ≡ centred (g sums.now i j -ℤ base) (pos 1296000000) }
+pub fn from_base(table: &Table, i: usize, j: usize, b: i64) -> i64
+    requires { (i < 16) × ((j < 16) × (b ≡ base table.now.count table.now.sums j)) }
+    ensures { result ≡ e table.now.count table.now.sums i j }
 {
-    centred(doubled_direction(sums, i, j) - base, CIRCLE)
+    centred(doubled_direction(table, i, j) - b, CIRCLE)
 }

@@ -1,38 +1,15 @@
 // The sightings of a spoiled list parted, by their reasons, into those that are kept and those that are dropped.
-ghost use Rattle.std.specs.Prelude.{◌≡◌, not, ◌+◌, pos, length, get_or};
+ghost use Rattle.std.specs.Prelude.{◌≡◌, ◌==◌, not, ◌+◌, pos, length, get_or};
+ghost use Rattle.std.specs.List.{list_all};
 ghost use Rattle.std.proofs.lemmas.List.Edits.{sets};
 ghost use Rattle.exact.specs.Gather.{gather};
-ghost use Rattle.station.specs.Rescue.{rooms_fit};
 ghost use Rattle.station.specs.Steps.{free};
 
 // Each lent answer list has a place for each of the n sightings.
-pub fn rooms_fit(
-    n: usize,
-    positions: usize,
-    objects: usize,
-    faces: usize,
-    readings: usize,
-    ordinals: usize,
-    reasons: usize,
-) -> bool
-    ensures { result ≡ rooms_fit n positions objects faces readings ordinals reasons }
+pub fn rooms_fit(n: usize, rooms: [usize; 6]) -> bool
+    ensures { result ≡ list_all (λ room. room == n) rooms }
 {
-    if positions != n {
-        return false;
-    }
-    if objects != n {
-        return false;
-    }
-    if faces != n {
-        return false;
-    }
-    if readings != n {
-        return false;
-    }
-    if ordinals != n {
-        return false;
-    }
-    reasons == n
+    rooms.iter().all(|room| *room == n)
 }
 
 // One field of the sightings that have no reason, in their order, into the first places of a lent list. Answers how many they are.
@@ -42,22 +19,13 @@ pub fn keep(reason: &[u8], field: &[i64], kept: &mut [i64]) -> usize
     ensures count { result ≡ length (gather (length reason.now) (free reason.now) (λ h. get_or field.now h (pos 0))) }
 {
     let mut n = 0;
-    let mut h = 0;
-    while h < reason.len() {
-        if reason[h] == 0 {
+    for (h, why) in reason.iter().enumerate() {
+        if *why == 0 {
             kept[n] = field[h];
             n += 1;
         }
-        h += 1;
     }
     n
-}
-
-// A reason as the lent lists have it. (In the loop itself the cast would ask for a bound of each byte of the list.)
-fn wide(reason: u8) -> u64
-    ensures { result ≡ reason }
-{
-    reason as u64
 }
 
 // The ordinals and the reasons of the others, in the same way.
@@ -68,15 +36,12 @@ pub fn list_dropped(reason: &[u8], ordinals: &mut [u64], reasons: &mut [u64]) ->
     ensures count { result ≡ length (gather (length reason.now) (λ h. not (free reason.now h)) (λ h. h + 1)) }
 {
     let mut n = 0;
-    let mut h = 0;
-    while h < reason.len() {
-        let why = reason[h];
-        if why != 0 {
-            ordinals[n] = (h + 1) as u64;
-            reasons[n] = wide(why);
+    for (h, why) in reason.iter().enumerate() {
+        if *why != 0 {
+            ordinals[n] = h as u64 + 1;
+            reasons[n] = u64::from(*why);
             n += 1;
         }
-        h += 1;
     }
     n
 }

@@ -1,55 +1,123 @@
 // The station's table: a count and a sum of readings for each face, position and object, filled in one pass over the list.
 // Positions and objects count from 0 here: i for position i + 1, j for object j + 1.
-ghost use Rattle.std.specs.Prelude.{◌≡◌, ◌+◌, ◌*◌, ◌-◌, ◌<◌, ◌≤◌, pos, nat_abs, replicate};
-ghost use Rattle.station.specs.Sightings.{book};
+ghost use Rattle.std.specs.Prelude.{◌≡◌, ◌-◌, ◌<◌, ◌≤◌, pos, nat_abs, replicate};
 ghost use Rattle.station.specs.Table.{slot, entry, counts, readings};
-ghost use Rattle.station.specs.Means.{seen};
-ghost use Rattle.station.specs.Bounds.{InRange, CountTable};
+ghost use Rattle.station.specs.Means.{L, R, seen};
+ghost use Rattle.station.specs.Steps.{cleared};
+ghost use Rattle.station.specs.Bounds.{book_of, InRange, CountTable, SumTable};
+
+use crate::fields::Sightings;
+use crate::{OBJECTS, PLACES};
+
+// The places of a table: those of the left face, and then those of the right.
+const SLOTS: usize = 2 * PLACES;
+
+// The counts are of at most 512 sightings, and so are the readings that are summed.
+// Two lists and no list of pairs: the rules' tables of counts and of sums are two, and `clear` and `entry` serve both.
+#[derive(Drop)]
+pub struct Table {
+    pub count: [i64; SLOTS],
+    pub sums: [i64; SLOTS],
+    ghost few: { CountTable count },
+    ghost small: { SumTable sums },
+}
 
 // The place in a table of a face, a position and an object as the list has them.
 pub fn slot_of(face: i64, position: i64, object: i64) -> usize
     requires { (nat_abs face ≤ 1) × (((1 ≤ nat_abs position) × (nat_abs position ≤ 16)) × ((1 ≤ nat_abs object) × (nat_abs object ≤ 16))) }
-    ensures { result ≡ slot (nat_abs face) (nat_abs position - 1) (nat_abs object - 1) }
+    ensures place { result ≡ slot (nat_abs face) (nat_abs position - 1) (nat_abs object - 1) }
+    ensures inside { result < 512 }
 {
     let f = exact::magnitude(face) as usize;
     let p = exact::magnitude(position) as usize;
     let o = exact::magnitude(object) as usize;
-    256 * f + 16 * (p - 1) + (o - 1)
+    PLACES * f + OBJECTS * (p - 1) + (o - 1)
 }
 
-// The two tables of a list whose fields are in range, from tables of zeros. A sighting is counted where its own face, position and object say.
-pub fn tally(
-    position: &[i64],
-    object: &[i64],
-    face: &[i64],
-    reading: &[i64],
-    count: &mut [i64; 512],
-    sums: &mut [i64; 512],
-)
-    requires { InRange (book position.now object.now face.now reading.now) × ((count.old ≡ replicate 512 (pos 0)) × (sums.old ≡ replicate 512 (pos 0))) }
-    ensures { (count.new ≡ counts (book position.now object.now face.now reading.now)) × (sums.new ≡ readings (book position.now object.now face.now reading.now)) }
+// What a part of the table has of a face, a position and an object.
+fn entry(part: &[i64; SLOTS], f: usize, i: usize, j: usize) -> i64
+    requires { (f < 2) × ((i < 16) × (j < 16)) }
+    ensures { result ≡ entry part.now f i j }
 {
-    let mut h = 0;
-    while h < position.len() {
-        let k = slot_of(face[h], position[h], object[h]);
-        count[k] = count[k] + 1;
-        sums[k] = sums[k] + reading[h];
-        h += 1;
+    part[PLACES * f + OBJECTS * i + j]
+}
+
+// Clears from a part of the table what has a reason.
+fn clear(why: &[u8; PLACES], part: &mut [i64; SLOTS])
+    ensures { part.new ≡ cleared why.now part.old }
+{
+    for k in 0..SLOTS {
+        if why[k % PLACES] != 0 {
+            part[k] = 0;
+        }
     }
 }
 
-// What a table has of a face, a position and an object.
-pub fn entry(table: &[i64; 512], f: usize, i: usize, j: usize) -> i64
-    requires { (f < 2) × ((i < 16) × (j < 16)) }
-    ensures { result ≡ entry table.now f i j }
-{
-    table[256 * f + 16 * i + j]
-}
+impl Table {
+    pub fn new() -> Table
+        ensures { (result.count ≡ replicate 512 (pos 0)) × (result.sums ≡ replicate 512 (pos 0)) }
+    {
+        Table {
+            count: [0; SLOTS],
+            sums: [0; SLOTS],
+        }
+    }
 
-// The object was sighted in the position, by either face.
-pub fn seen(count: &[i64; 512], i: usize, j: usize) -> bool
-    requires { CountTable count.now × ((i < 16) × (j < 16)) }
-    ensures { result ≡ seen count.now i j }
-{
-    0 < entry(count, 0, i, j) + entry(count, 1, i, j)
+    // Fills an empty table from a list whose fields are in range. A sighting is counted where its own face, position and object say.
+    pub fn tally(&mut self, sightings: &Sightings)
+        requires { InRange (book_of sightings.now) × ((self.old.count ≡ replicate 512 (pos 0)) × (self.old.sums ≡ replicate 512 (pos 0))) }
+        ensures { (self.new.count ≡ counts (book_of sightings.now)) × (self.new.sums ≡ readings (book_of sightings.now)) }
+    {
+        for (h, position) in sightings.position.iter().enumerate() {
+            let k = slot_of(sightings.face[h], *position, sightings.object[h]);
+            self.count[k] += 1;
+            self.sums[k] += sightings.reading[h];
+        }
+    }
+
+    // How many left sightings there are of a position and an object, and how many right ones.
+    pub fn left_count(&self, i: usize, j: usize) -> i64
+        requires { (i < 16) × (j < 16) }
+        ensures { result ≡ entry self.now.count 0 i j }
+    {
+        entry(&self.count, 0, i, j)
+    }
+
+    pub fn right_count(&self, i: usize, j: usize) -> i64
+        requires { (i < 16) × (j < 16) }
+        ensures { result ≡ entry self.now.count 1 i j }
+    {
+        entry(&self.count, 1, i, j)
+    }
+
+    // What they read: L and R, where there is one of each.
+    pub fn left_reading(&self, i: usize, j: usize) -> i64
+        requires { (i < 16) × (j < 16) }
+        ensures { result ≡ L self.now.sums i j }
+    {
+        entry(&self.sums, 0, i, j)
+    }
+
+    pub fn right_reading(&self, i: usize, j: usize) -> i64
+        requires { (i < 16) × (j < 16) }
+        ensures { result ≡ R self.now.sums i j }
+    {
+        entry(&self.sums, 1, i, j)
+    }
+
+    // The object was sighted in the position, by either face.
+    pub fn seen(&self, i: usize, j: usize) -> bool
+        requires { (i < 16) × (j < 16) }
+        ensures { result ≡ seen self.now.count i j }
+    {
+        0 < self.left_count(i, j) + self.right_count(i, j)
+    }
+
+    // Clears what has a reason: the table is then that of the list without it.
+    pub fn clear(&mut self, why: &[u8; PLACES])
+        ensures { (self.new.count ≡ cleared why.now self.old.count) × (self.new.sums ≡ cleared why.now self.old.sums) }
+    {
+        clear(why, &mut self.count);
+        clear(why, &mut self.sums);
+    }
 }

@@ -1,6 +1,5 @@
 -- `direction::weight_out_of_range` meets its contract. Assumes nothing.
 use mathlib.Core.Path.{◌∙◌}
-use borrow.Author.Rules.{rules}
 use mir.ValLaws.{to_z-of_z}
 use Rattle.direction.proofs.weight_out_of_range.Goals as goal
 

@@ -1,25 +1,21 @@
 -- `station::judge` meets its contract: each return is one step of the fixed order of checks, and the list is written only after the last. Assumes nothing.
-use mathlib.Core.Path.{◌≡◌, refl, sym, ◌∙◌, ap, subst}
-use mathlib.Core.Bool.{Bool, true}
-use mathlib.Core.List.{List}
-use Prim.Native.Nat.{ℕ}
+use Rattle.std.proofs.Common.{◌≡◌, ◌∙◌, refl, sym, ap, length, true, Bool, ℕ, List, eqb, get_or, not}
+use Rattle.std.proofs.lemmas.Result.{err_from_is_err_and}
 use borrow.Author.Tests.{eq-eqb, ne_eqb}
-use lib.Dec.{eqb}
-use lib.ListN.{length, get_or}
-use Rattle.exact.specs.First.{first}
-use Rattle.exact.specs.Within.{Within}
+use Rattle.exact.specs.First.{some_below}
 use Rattle.exact.proofs.Filling.{tabulate_length, tabulate_ext}
+use Rattle.reply.specs.Checks.{refuse_if, ◌and_then◌}
+use Rattle.reply.specs.declared.Refusal.TheVariants.{NothingLeft}
 use Rattle.station.specs.Bounds.{InRange}
 use Rattle.station.specs.Sightings.{Book, book, sightings}
 use Rattle.station.specs.Table.{counts, readings}
-use Rattle.station.specs.Rescue.{place_of, is_kept, reason}
+use Rattle.station.specs.Rescue.{place_of, reason, nothing_left, rescue_reply}
 use Rattle.station.specs.Steps.{free, why_after}
 use Rattle.station.proofs.Deciding.{LengthsFit, lengths_fit_lem, fit, in_range}
-use Rattle.station.proofs.Tallying.{counts_within, readings_within}
-use Rattle.station.proofs.Judging.{rescue_lengths, rescue_room, rescue_field, rescue_nothing, rescue_accepted, placed, kept_first, none_kept, some_kept}
+use Rattle.station.proofs.Judging.{rescue_lengths, rescue_room, rescue_fields, placed, left_lem}
 use Rattle.station.proofs.Sifting.{why_reason}
 use Rattle.station.proofs.judge.Goals as goal
-use Rattle.station.proofs.judge.Goals.{After-all, After-first_kept, After-tally, Else-h-n, Else-not-lengths_fit, Else-reason-n, Start}
+use Rattle.station.proofs.judge.Goals.{After-all-why, After-any_kept, After-check, In_ok-check, Else-not-fit, Start, then-not-fit-via-then-not-fit, then-not-fit-via-else-not-fit+then-reason-position}
 
 -- the sightings, and whether the answer list has a place for each
 abbrev sighted : Start → Book
@@ -28,98 +24,74 @@ sighted s = book s.args.position.now s.args.object.now s.args.face.now s.args.re
 abbrev room : Start → Bool
 room s = eqb (length s.args.reason.now) (sightings (sighted s))
 
-pub returns-then-not-lengths_fit : goal.returns-then-not-lengths_fit
-returns-then-not-lengths_fit c =
-    let s = (goal.at.returns-then-not-lengths_fit c).Start in
-    record { replied = sym (rescue_lengths (sighted s) (room s) (sym c.lengths_fit.ensures ∙ c.if-not-lengths_fit.true)); reasons_are = refl }
+pub returns-then-not-fit : goal.returns-then-not-fit
+returns-then-not-fit c =
+    let s = (goal.at.returns-then-not-fit c).Start in let b = sighted s in
+    elim c.then-not-fit.branch [
+      | then-not-fit-via-then-not-fit w ↦ record { replied = sym (rescue_lengths b (room s) (sym c.fit.ensures ∙ w.if-not-fit.true)); reasons_are = refl }
+      | then-not-fit-via-else-not-fit+then-reason-position w ↦ record { replied = sym (rescue_room b (room s) (ne_eqb _ _ w.if-reason-position.true)); reasons_are = refl }
+    ]
 
-fit_true : (c : Else-not-lengths_fit) → fit (sighted (goal.at.Else-not-lengths_fit c).Start) 16 16 ≡ true
-fit_true c = sym c.lengths_fit.ensures ∙ c.if-not-lengths_fit.false
+module _ (c : Else-not-fit) where
+  abbrev start : Start
+  start = (goal.at.Else-not-fit c).Start
 
--- what the test of the lengths told
-lengths : (c : Else-not-lengths_fit) → let a = c.args in LengthsFit (length a.position.now) (length a.object.now) (length a.face.now) (length a.reading.now) 16 16
-lengths c = lengths_fit_lem _ _ _ _ _ _ (fit_true c)
+  fits : fit (sighted start) 16 16 ≡ true
+  fits = sym c.fit.ensures ∙ c.if-not-fit.false
 
-pub returns-then-reason-n : goal.returns-then-reason-n
-returns-then-reason-n c =
-    let s = (goal.at.returns-then-reason-n c).Start in
-    record { replied = sym (rescue_room (sighted s) (room s) (ne_eqb _ _ c.if-reason-n.true)); reasons_are = refl }
+  -- what the test of the lengths told
+  lengths : let a = c.args in LengthsFit (length a.position.now) (length a.object.now) (length a.face.now) (length a.reading.now) 16 16
+  lengths = lengths_fit_lem _ _ _ _ _ _ fits
 
-pub first_out_of_range-h-requires : goal.first_out_of_range-h-requires
-first_out_of_range-h-requires c = let f = lengths (goal.at.first_out_of_range-h-requires c).Else-not-lengths_fit in (f.objects_fit, (f.faces_fit, f.readings_fit))
+pub check-requires : goal.check-requires
+check-requires c = let f = lengths (goal.at.check-requires c).Else-not-fit in (f.objects_fit, (f.faces_fit, f.readings_fit))
 
-room_true : (c : Else-reason-n) → room (goal.at.Else-reason-n c).Start ≡ true
-room_true c = eq-eqb _ _ c.if-reason-n.false
+-- past 21 the reply is that of the fields, and then whether something is left
+replied : (c : After-check) → let s = (goal.at.After-check c).Start in
+    (c.check.result and_then refuse_if (nothing_left (sighted s)) NothingLeft) ≡ rescue_reply (sighted s) (room s)
+replied c =
+    let at = goal.at.After-check c in let s = at.Start in
+    rw c.check.ensures (sym (rescue_fields (sighted s) (room s) (fits at.Else-not-fit) (eq-eqb _ _ c.if-reason-position.false)))
 
-pub returns-then-h-n : goal.returns-then-h-n
-returns-then-h-n c =
-    let at = goal.at.returns-then-h-n c in let s = at.Start in
-    record {
-      replied = sym (rescue_field (sighted s) (room s) (fit_true at.Else-not-lengths_fit) (room_true at.Else-reason-n) c.first_out_of_range-h.result c.first_out_of_range-h.ensures c.if-h-n.true);
-      reasons_are = refl;
-    }
+pub returns-in_err-check : goal.returns-in_err-check
+returns-in_err-check c =
+    let p = err_from_is_err_and c.from_residual.result c.from_residual.ensures.1 in
+    rw (p.1, p.2) (record { replied = rw c.in_err-check.was at (replied (goal.at.returns-in_err-check c).After-check); reasons_are = refl })
 
 -- lists that pass both checks are in range
-sound : (c : Else-h-n) → InRange (sighted (goal.at.Else-h-n c).Start)
-sound c =
-    let at = goal.at.Else-h-n c in
-    in_range (sighted at.Start) 16 16 (fit_true at.Else-not-lengths_fit) c.first_out_of_range-h.result c.first_out_of_range-h.ensures c.if-h-n.false
+sound : (c : In_ok-check) → InRange (sighted (goal.at.In_ok-check c).Start)
+sound c = in_range (sighted (goal.at.In_ok-check c).Start) 16 16 (fits (goal.at.In_ok-check c).Else-not-fit) (sym c.check.ensures ∙ c.in_ok-check.was)
 
 pub tally-requires : goal.tally-requires
-tally-requires c = (sound (goal.at.tally-requires c).Else-h-n, (refl, refl))
+tally-requires c = (sound (goal.at.tally-requires c).In_ok-check, c.new-table.ensures)
 
--- the two tables, as the tally left them
-module _ (c : After-tally) where
-  abbrev spoiled : Book
-  spoiled = sighted (goal.at.After-tally c).Start
-
-  in_ranges : InRange spoiled
-  in_ranges = sound (goal.at.After-tally c).Else-h-n
-
-  counts_are : c.tally.new.count ≡ counts spoiled
-  counts_are = c.tally.ensures.0
-
-  sums_are : c.tally.new.sums ≡ readings spoiled
-  sums_are = c.tally.ensures.1
-
-pub all-requires : goal.all-requires
-all-requires c =
-    let k = (goal.at.all-requires c).After-tally in let b = spoiled k in (
-      subst (Within 512) (sym (counts_are k)) (counts_within b (in_ranges k)),
-      subst (Within 663552000000) (sym (sums_are k)) (readings_within b (in_ranges k)),
-      ap length (counts_are k) ∙ tabulate_length 512 _,
-      ap length (sums_are k) ∙ tabulate_length 512 _,
-      refl,
-    )
+pub all-why-requires : goal.all-why-requires
+all-why-requires c = (ap length c.tally.ensures.0 ∙ tabulate_length 512 _, ap length c.tally.ensures.1 ∙ tabulate_length 512 _)
 
 -- the reasons, as the four steps left them
-why_is : (c : After-all) → let b = spoiled (goal.at.After-all c).After-tally in c.all.new.why ≡ why_after 4 (counts b) (readings b)
-why_is c = let k = (goal.at.After-all c).After-tally in c.all.ensures ∙ (λ t. why_after 4 (counts_are k t) (sums_are k t))
+why_is : (c : After-all-why) → let b = sighted (goal.at.After-all-why c).Start in c.all-why.result ≡ why_after 4 (counts b) (readings b)
+why_is c = c.all-why.ensures ∙ (λ t. why_after 4 (c.tally.ensures.0 t) (c.tally.ensures.1 t))
 
-pub first_kept-requires : goal.first_kept-requires
-first_kept-requires c = let k = (goal.at.first_kept-requires c).After-tally in placed (spoiled k) (in_ranges k)
+pub any_kept-requires : goal.any_kept-requires
+any_kept-requires c = let at = goal.at.any_kept-requires c in placed (sighted at.Start) (sound at.In_ok-check)
 
--- the first sighting that stays
-found : (c : After-first_kept) → let b = spoiled (goal.at.After-first_kept c).After-tally in c.first_kept.result ≡ first (sightings b) (is_kept b)
-found c =
-    let at = goal.at.After-first_kept c in let k = at.After-tally in let b = spoiled k in
-    c.first_kept.ensures ∙ (λ t. first (sightings b) (λ h. free (why_is at.After-all t) (place_of b h))) ∙ kept_first b (in_ranges k)
+-- whether something is left, and so the reply
+left_is : (c : After-any_kept) → refuse_if (not c.any_kept.result) NothingLeft ≡ rescue_reply (sighted (goal.at.After-any_kept c).Start) (room (goal.at.After-any_kept c).Start)
+left_is c =
+    let at = goal.at.After-any_kept c in let b = sighted at.Start in
+    let e = c.any_kept.ensures ∙ (λ t. some_below (sightings b) (λ h. free (why_is at.After-all-why t) (place_of b h))) in
+    (λ t. refuse_if (not (e t)) NothingLeft) ∙ (λ t. refuse_if (sym (left_lem b (sound at.In_ok-check)) t) NothingLeft) ∙ rw c.in_ok-check.was at (replied at.After-check)
 
-pub returns-then-n-first_kept : goal.returns-then-n-first_kept
-returns-then-n-first_kept c =
-    let at = goal.at.returns-then-n-first_kept c in let s = at.Start in
-    record {
-      replied = sym (rescue_nothing (sighted s) (room s) (fit_true at.Else-not-lengths_fit) (room_true at.Else-reason-n) c.first_out_of_range-h.result c.first_out_of_range-h.ensures c.if-h-n.false (none_kept (sighted s) c.first_kept.result (found at.After-first_kept) c.if-n-first_kept.true));
-      reasons_are = refl;
-    }
+pub returns-then-not-any_kept : goal.returns-then-not-any_kept
+returns-then-not-any_kept c = record { replied = rw c.if-not-any_kept.true at (left_is (goal.at.returns-then-not-any_kept c).After-any_kept); reasons_are = refl }
 
 pub write_reasons-requires : goal.write_reasons-requires
-write_reasons-requires c = let k = (goal.at.write_reasons-requires c).After-tally in (placed (spoiled k) (in_ranges k), c.if-reason-n.false)
+write_reasons-requires c = let at = goal.at.write_reasons-requires c in (placed (sighted at.Start) (sound at.In_ok-check), c.if-reason-position.false)
 
 pub returns : goal.returns
 returns c =
-    let at = goal.at.returns c in let s = at.Start in let b = sighted s in
+    let at = goal.at.returns c in let b = sighted at.Start in
     record {
-      replied = sym (rescue_accepted b (room s) (fit_true at.Else-not-lengths_fit) (room_true at.Else-reason-n) c.first_out_of_range-h.result c.first_out_of_range-h.ensures c.if-h-n.false (some_kept b c.first_kept.result (found at.After-first_kept) c.if-n-first_kept.false));
-      reasons_are = c.write_reasons.ensures ∙ tabulate_ext (sightings b) _ (reason b) (λ h l. ap (λ (why : List ℕ). get_or why (place_of b h) 0) (why_is at.After-all) ∙ why_reason b (in_ranges at.After-tally) h l);
+      replied = rw c.if-not-any_kept.false at (left_is at.After-any_kept);
+      reasons_are = c.write_reasons.ensures ∙ tabulate_ext (sightings b) _ (reason b) (λ h l. ap (λ (why : List ℕ). get_or why (place_of b h) 0) (why_is at.After-all-why) ∙ why_reason b (sound at.In_ok-check) h l);
     }

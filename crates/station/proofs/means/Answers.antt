@@ -1,83 +1,70 @@
 -- `station::means` meets its contract: each return is one step of the fixed order of checks, and lists are written only after the last. Assumes nothing.
-use mathlib.Core.Path.{◌≡◌, refl, sym, ◌∙◌, subst}
-use mathlib.Core.Bool.{Bool, true}
-use lib.ListN.{length}
-use Rattle.exact.specs.Within.{Within}
+use Rattle.std.proofs.Common.{◌≡◌, ◌∙◌, refl, sym, length, true}
+use Rattle.std.proofs.lemmas.Result.{err_from_is_err_and}
+use Rattle.reply.specs.Checks.{◌and_then◌}
 use Rattle.station.specs.Bounds.{InRange}
 use Rattle.station.specs.Sightings.{Book, book}
+use Rattle.station.specs.Table.{counts, readings}
 use Rattle.station.specs.Means.{directions, pair_counts}
 use Rattle.station.specs.Replies.{table_reply, reply_of}
-use Rattle.station.proofs.Deciding.{LengthsFit, lengths_fit_lem, fit, reply_lengths, reply_field, reply_table, in_range}
+use Rattle.station.proofs.Deciding.{LengthsFit, lengths_fit_lem, fit, reply_lengths, reply_fields, in_range}
 use Rattle.station.proofs.Answering.{answers_kept}
-use Rattle.station.proofs.Tallying.{counts_within, readings_within}
 use Rattle.station.proofs.means.Goals as goal
-use Rattle.station.proofs.means.Goals.{After-table_reply-reply, After-tally, Else-h-n, Else-not-lengths_fit, Start}
+use Rattle.station.proofs.means.Goals.{After-make_all, After-check, In_ok-check, Else-not-fit, Start}
 
--- the sightings, and the lengths of the answer lists
 abbrev sighted : Start → Book
 sighted s = book s.args.position.now s.args.object.now s.args.face.now s.args.reading.now
 
-abbrev fits : Start → Bool
-fits s = fit (sighted s) (length s.args.direction.now) (length s.args.pairs.now)
+pub returns-then-not-fit : goal.returns-then-not-fit
+returns-then-not-fit c =
+    answers_kept (sym (reply_lengths (sighted (goal.at.returns-then-not-fit c).Start) _ _ (sym c.fit.ensures ∙ c.if-not-fit.true))) refl refl
 
-pub returns-then-not-lengths_fit : goal.returns-then-not-lengths_fit
-returns-then-not-lengths_fit c =
-    answers_kept (sym (reply_lengths (sighted (goal.at.returns-then-not-lengths_fit c).Start) _ _ (sym c.lengths_fit.ensures ∙ c.if-not-lengths_fit.true))) refl refl
+module _ (c : Else-not-fit) where
+  abbrev start : Start
+  start = (goal.at.Else-not-fit c).Start
 
-fit_true : (c : Else-not-lengths_fit) → fits (goal.at.Else-not-lengths_fit c).Start ≡ true
-fit_true c = sym c.lengths_fit.ensures ∙ c.if-not-lengths_fit.false
+  fits : fit (sighted start) (length c.args.direction.now) (length c.args.pairs.now) ≡ true
+  fits = sym c.fit.ensures ∙ c.if-not-fit.false
 
--- what the test of the lengths told
-lengths : (c : Else-not-lengths_fit) → let a = c.args in
-    LengthsFit (length a.position.now) (length a.object.now) (length a.face.now) (length a.reading.now) (length a.direction.now) (length a.pairs.now)
-lengths c = lengths_fit_lem _ _ _ _ _ _ (fit_true c)
+  -- what the test of the lengths told
+  lengths : let a = c.args in LengthsFit (length a.position.now) (length a.object.now) (length a.face.now) (length a.reading.now) (length a.direction.now) (length a.pairs.now)
+  lengths = lengths_fit_lem _ _ _ _ _ _ fits
 
-pub first_out_of_range-h-requires : goal.first_out_of_range-h-requires
-first_out_of_range-h-requires c = let f = lengths (goal.at.first_out_of_range-h-requires c).Else-not-lengths_fit in (f.objects_fit, (f.faces_fit, f.readings_fit))
+pub check-requires : goal.check-requires
+check-requires c = let f = lengths (goal.at.check-requires c).Else-not-fit in (f.objects_fit, (f.faces_fit, f.readings_fit))
 
-pub returns-then-h-n : goal.returns-then-h-n
-returns-then-h-n c =
-    let at = goal.at.returns-then-h-n c in
-    answers_kept (sym (reply_field (sighted at.Start) _ _ (fit_true at.Else-not-lengths_fit) c.first_out_of_range-h.result c.first_out_of_range-h.ensures c.if-h-n.true)) refl refl
+-- past 21 the reply is that of the fields, and then of the table
+replied : (c : After-check) → let s = (goal.at.After-check c).Start in
+    (c.check.result and_then table_reply (counts (sighted s)) (readings (sighted s))) ≡ reply_of (sighted s) (length s.args.direction.now) (length s.args.pairs.now)
+replied c = rw c.check.ensures (sym (reply_fields (sighted (goal.at.After-check c).Start) _ _ (fits (goal.at.After-check c).Else-not-fit)))
+
+pub returns-in_err-check : goal.returns-in_err-check
+returns-in_err-check c =
+    let p = err_from_is_err_and c.from_residual.result c.from_residual.ensures.1 in
+    rw (p.1, p.2) (answers_kept (rw c.in_err-check.was at (replied (goal.at.returns-in_err-check c).After-check)) refl refl)
 
 -- lists that pass both checks are in range
-sound : (c : Else-h-n) → InRange (sighted (goal.at.Else-h-n c).Start)
-sound c =
-    let at = goal.at.Else-h-n c in
-    in_range (sighted at.Start) _ _ (fit_true at.Else-not-lengths_fit) c.first_out_of_range-h.result c.first_out_of_range-h.ensures c.if-h-n.false
+sound : (c : In_ok-check) → InRange (sighted (goal.at.In_ok-check c).Start)
+sound c = in_range (sighted (goal.at.In_ok-check c).Start) _ _ (fits (goal.at.In_ok-check c).Else-not-fit) (sym c.check.ensures ∙ c.in_ok-check.was)
 
 pub tally-requires : goal.tally-requires
-tally-requires c = (sound (goal.at.tally-requires c).Else-h-n, (refl, refl))
+tally-requires c = (sound (goal.at.tally-requires c).In_ok-check, c.new-table.ensures)
 
--- the two tables, as the tally left them
-small : (c : After-tally) → Within 512 c.tally.new.count × Within 663552000000 c.tally.new.sums
-small c =
-    let at = goal.at.After-tally c in let list = sighted at.Start in let ok = sound at.Else-h-n in (
-      subst (Within 512) (sym c.tally.ensures.0) (counts_within list ok),
-      subst (Within 663552000000) (sym c.tally.ensures.1) (readings_within list ok),
-    )
+-- and past 22 it is that of the table's checks
+checked : (c : After-make_all) → let s = (goal.at.After-make_all c).Start in c.make_all.result ≡ reply_of (sighted s) (length s.args.direction.now) (length s.args.pairs.now)
+checked c =
+    c.make_all.ensures ∙ (λ i. table_reply (c.tally.ensures.0 i) (c.tally.ensures.1 i)) ∙ rw c.in_ok-check.was at (replied (goal.at.After-make_all c).After-check)
 
-pub table_reply-reply-requires : goal.table_reply-reply-requires
-table_reply-reply-requires c = small (goal.at.table_reply-reply-requires c).After-tally
-
--- past 21 and 22 the reply is that of the table's checks
-replied_as : (c : After-table_reply-reply) →
-    let s = (goal.at.After-table_reply-reply c).Start in c.table_reply-reply.result ≡ reply_of (sighted s) (length s.args.direction.now) (length s.args.pairs.now)
-replied_as c =
-    let at = goal.at.After-table_reply-reply c in
-    c.table_reply-reply.ensures ∙ (λ i. table_reply (c.tally.ensures.0 i) (c.tally.ensures.1 i))
-    ∙ sym (reply_table (sighted at.Start) _ _ (fit_true at.Else-not-lengths_fit) c.first_out_of_range-h.result c.first_out_of_range-h.ensures c.if-h-n.false)
-
-pub returns-in-Refused : goal.returns-in-Refused
-returns-in-Refused c = answers_kept (sym c.in-Refused.is ∙ replied_as (goal.at.returns-in-Refused c).After-table_reply-reply) refl refl
+pub returns-in_err-make_all : goal.returns-in_err-make_all
+returns-in_err-make_all c =
+    let p = err_from_is_err_and c.from_residual-in_err-make_all.result c.from_residual-in_err-make_all.ensures.1 in
+    rw (p.1, p.2) (answers_kept (sym c.in_err-make_all.was ∙ checked (goal.at.returns-in_err-make_all c).After-make_all) refl refl)
 
 pub write-requires : goal.write-requires
-write-requires c =
-    let at = goal.at.write-requires c in let f = lengths at.Else-not-lengths_fit in let t = small at.After-tally in
-    (t.0, (t.1, (f.directions_fit, f.pairs_fit)))
+write-requires c = let f = lengths (goal.at.write-requires c).Else-not-fit in (f.directions_fit, f.pairs_fit)
 
 pub returns : goal.returns
 returns c =
-    answers_kept (sym c.in_default.is ∙ replied_as (goal.at.returns c).After-table_reply-reply)
+    answers_kept (sym c.in_ok-make_all.was ∙ checked (goal.at.returns c).After-make_all)
     (c.write.ensures.0 ∙ (λ i. directions (c.tally.ensures.0 i) (c.tally.ensures.1 i)))
     (c.write.ensures.1 ∙ (λ i. pair_counts (c.tally.ensures.0 i)))

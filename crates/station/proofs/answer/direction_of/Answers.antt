@@ -1,108 +1,83 @@
 -- `answer::direction_of` meets its contract: at most 16 pairs, g within two circles and e within one, so t + P fits. Assumes nothing.
-use mathlib.Core.Path.{◌≡◌, refl, sym, ◌∙◌, ap}
-use Prim.Native.Nat.{ℕ, ◌≤◌}
-use lib.IntN.{ℤ, pos, nat_abs, ◌+ℤ◌, ◌*ℤ◌}
-use lib.Signed.{lt_z, ◌<ℤ◌}
-use mir.Syntax.{w64}
-use mir.Val.{to_z, of_z}
-use Rattle.exact.specs.Circle.{C, floor, modulo}
+use Rattle.std.proofs.Common.{◌≡◌, ◌∙◌, ap, List, ℕ, ℤ, pos, ◌+ℤ◌, ◌*ℤ◌, to_z, of_z, w64, FitsSigned}
+use Rattle.exact.specs.Circle.{C, modulo}
 use Rattle.exact.proofs.Bound.{Bounded, bounded, bounds, fits_in, read}
-use Rattle.exact.proofs.Order.{lt_true}
-use Rattle.station.specs.Means.{g, base, P, sum_of_e, direction}
-use Rattle.station.proofs.Figures.{told, twice_above, g_size}
-use Rattle.station.proofs.Positions.{lowest_in, P_size, sum_of_e_size}
+use Rattle.station.specs.Means.{base, lowest, P, sum_of_e, direction}
+use Rattle.station.proofs.Figures.{told, twice_above, g_size, g_read}
+use Rattle.station.proofs.Positions.{P_none, P_above, P_test, P_size, sum_of_e_size}
 use Rattle.station.proofs.answer.direction_of.Goals as goal
-use Rattle.station.proofs.answer.direction_of.Goals.{After-doubled_direction-base, After-pairs_of-p, After-sum_from_base, Start, Then-p-gt0}
+use Rattle.station.proofs.answer.direction_of.Goals.{After-sum_from_base}
 
--- P, b and the sum of e
-module _ (s : Start) where
+-- P*b, t, t + P and 2P fit
+module _ (n r : List ℤ) (j : ℕ) where
   abbrev p : ℤ
-  p = P s.args.count.now s.args.j
+  p = P n j
 
   abbrev b : ℤ
-  b = base s.args.count.now s.args.sums.now s.args.j
+  b = base n r j
 
   abbrev es : ℤ
-  es = sum_of_e s.args.count.now s.args.sums.now s.args.j
+  es = sum_of_e n r j
 
   abbrev sizes : Bounded p × Bounded b × Bounded es
-  sizes = (
-    bounded p (P_size s.args.count.now s.args.j),
-    bounded b (g_size s.args.sums.now _ s.args.j),
-    bounded es (sum_of_e_size s.args.count.now s.args.sums.now s.args.j),
-  )
+  sizes = (bounded p (P_size n j), bounded b (g_size r _ j), bounded es (sum_of_e_size n r j))
 
-p_read : (c : After-pairs_of-p) → to_z w64 (of_z w64 c.pairs_of-p.result) ≡ p c.before
-p_read c = told c.pairs_of-p.type_inv c.pairs_of-p.ensures
+  product_fits : FitsSigned w64 (p *ℤ b)
+  product_fits = let z = sizes in fits_in (search bounds) tt
 
-p_above : (c : Then-p-gt0) → pos 0 <ℤ p c.before.before
-p_above c = lt_true c.if-p-gt0.true refl (p_read c.before)
+  t_fits : FitsSigned w64 (p *ℤ b +ℤ es)
+  t_fits = let z = sizes in fits_in (search bounds) tt
 
-pub doubled_direction-base-requires : goal.doubled_direction-base-requires
-doubled_direction-base-requires c =
-    (c.requires.1.0, (rw c.lowest.ensures (lowest_in c.args.count.now c.args.j (p_above c.before)), c.requires.1.1))
+  with_p_fits : FitsSigned w64 (p *ℤ b +ℤ es +ℤ p)
+  with_p_fits = let z = sizes in fits_in (search bounds depth 8) tt
 
-b_read : (c : After-doubled_direction-base) → to_z w64 (of_z w64 c.doubled_direction-base.result) ≡ b c.before.before.before.before
-b_read c =
-    let a = c.args in
-    told c.doubled_direction-base.type_inv c.doubled_direction-base.ensures ∙ ap (λ (i : ℕ). g a.sums.now i a.j) c.lowest.ensures
+  twice_fits : FitsSigned w64 (pos 2 *ℤ p)
+  twice_fits = let z = sizes in fits_in (search bounds) tt
 
--- what the machine has of P*b, of t, of t + P and of 2P
-product : (c : After-doubled_direction-base) → let s = c.before.before.before.before in
-    to_z w64 (of_z w64 c.pairs_of-p.result) *ℤ to_z w64 (of_z w64 c.doubled_direction-base.result) ≡ p s *ℤ b s
-product c = λ u. p_read c.before.before.before u *ℤ b_read c u
+pub returns-in_default : goal.returns-in_default
+unfolding direction
+returns-in_default c = rw (P_none _ _ c.in_default.ensures)
+
+-- what the machine reads of P, b and the sum of e
+module _ (c : After-sum_from_base) where
+  abbrev n : List ℤ
+  n = c.args.table.now.count
+
+  abbrev r : List ℤ
+  r = c.args.table.now.sums
+
+  abbrev j : ℕ
+  j = c.args.j
+
+  p_read : to_z w64 (of_z w64 c.pairs_of-p.result) ≡ p n r j
+  p_read = told c.pairs_of-p.type_inv c.pairs_of-p.ensures
+
+  b_read : to_z w64 (of_z w64 c.in-Some.b) ≡ b n r j
+  b_read = g_read r (lowest n j) j c.in-Some.ensures.1
+
+  es_read : to_z w64 (of_z w64 c.sum_from_base.result) ≡ es n r j
+  es_read = told c.sum_from_base.type_inv c.sum_from_base.ensures
 
 pub overflow_mul-t : goal.overflow_mul-t
-overflow_mul-t c = rw (product c) (let z = sizes c.before.before.before.before in fits_in (search bounds) tt)
-
-pub sum_from_base-requires : goal.sum_from_base-requires
-sum_from_base-requires c =
-    (c.requires.0, (c.requires.1.0, (c.requires.1.1, b_read c)))
-
-module _ (c : After-sum_from_base) where
-  abbrev start : Start
-  start = c.before.before.before.before.before
-
-  abbrev machine_p : ℤ
-  machine_p = to_z w64 (of_z w64 c.pairs_of-p.result)
-
-  abbrev machine_t : ℤ
-  machine_t = to_z w64 (of_z w64 (machine_p *ℤ to_z w64 (of_z w64 c.doubled_direction-base.result))) +ℤ to_z w64 (of_z w64 c.sum_from_base.result)
-
-  t_is : machine_t ≡ p start *ℤ b start +ℤ es start
-  t_is = λ u. (read (overflow_mul-t c.before) ∙ product c.before) u +ℤ told c.sum_from_base.type_inv c.sum_from_base.ensures u
+overflow_mul-t c =
+    let a = c.args in let t = a.table.now in
+    rw (told c.pairs_of-p.type_inv c.pairs_of-p.ensures, g_read t.sums (lowest t.count a.j) a.j c.in-Some.ensures.1) (product_fits t.count t.sums a.j)
 
 pub overflow_add-t : goal.overflow_add-t
-overflow_add-t c = rw (t_is c) (let z = sizes (start c) in fits_in (search bounds) tt)
+overflow_add-t c = rw (p_read c, b_read c, read (product_fits (n c) (r c) (j c)), es_read c) (t_fits (n c) (r c) (j c))
 
-t_read : (c : After-sum_from_base) → to_z w64 (of_z w64 (machine_t c)) ≡ p (start c) *ℤ b (start c) +ℤ es (start c)
-t_read c = read (overflow_add-t c) ∙ t_is c
-
-with_p : (c : After-sum_from_base) → to_z w64 (of_z w64 (machine_t c)) +ℤ machine_p c ≡ p (start c) *ℤ b (start c) +ℤ es (start c) +ℤ p (start c)
-with_p c = λ u. t_read c u +ℤ p_read c.before.before.before.before u
-
-p_size : (c : After-sum_from_base) → nat_abs (machine_p c) ≤ 16
-p_size c = rw (p_read c.before.before.before.before) (P_size (start c).args.count.now (start c).args.j)
-
-pub overflow_add-t-then-p-gt0 : goal.overflow_add-t-then-p-gt0
-overflow_add-t-then-p-gt0 c = rw (t_read c) (let z = sizes (start c) in let y = bounded (machine_p c) (p_size c) in fits_in (search bounds depth 8) tt)
+pub overflow_add-t-2 : goal.overflow_add-t-2
+overflow_add-t-2 c = rw (p_read c, b_read c, read (product_fits (n c) (r c) (j c)), es_read c, read (t_fits (n c) (r c) (j c))) (with_p_fits (n c) (r c) (j c))
 
 pub overflow_mul-p : goal.overflow_mul-p
-overflow_mul-p c = rw (p_read c.before.before.before.before) (let z = sizes (start c) in fits_in (search bounds) tt)
-
-twice_p : (c : After-sum_from_base) → to_z w64 (of_z w64 (pos 2 *ℤ machine_p c)) ≡ pos 2 *ℤ p (start c)
-twice_p c = read (overflow_mul-p c) ∙ (λ u. pos 2 *ℤ p_read c.before.before.before.before u)
+overflow_mul-p c = rw (p_read c) (twice_fits (n c) (r c) (j c))
 
 pub floor-requires : goal.floor-requires
-floor-requires c = rw (twice_p c) (twice_above (p (start c)) (p_above c.before.before.before))
-
-pub returns-then-p-gt0 : goal.returns-then-p-gt0
-unfolding direction
-returns-then-p-gt0 c =
-    let d = c.before.before in rw (ap (lt_z (pos 0)) (sym (p_read d.before.before.before.before)) ∙ d.if-p-gt0.true)
-    (told c.modulo.type_inv c.modulo.ensures
-    ∙ (λ u. modulo ((told c.floor.type_inv c.floor.ensures ∙ (λ v. floor ((read (overflow_add-t-then-p-gt0 d) ∙ with_p d) v) (twice_p d v))) u) C))
+floor-requires c = rw (p_read c, read (twice_fits (n c) (r c) (j c))) (twice_above (P (n c) (j c)) (P_above (n c) (j c) c.in-Some.ensures.0))
 
 pub returns : goal.returns
 unfolding direction
-returns c = rw (ap (lt_z (pos 0)) (sym (p_read c.before)) ∙ c.if-p-gt0.false)
+returns c =
+    let d = (goal.at.returns c).After-sum_from_base in
+    let f = rw (p_read d, b_read d, read (product_fits (n d) (r d) (j d)), es_read d, read (t_fits (n d) (r d) (j d)), read (with_p_fits (n d) (r d) (j d)), read (twice_fits (n d) (r d) (j d))) at c.floor.ensures in
+    rw (P_test (n d) (j d) c.in-Some.ensures.0) (told c.modulo.type_inv (c.modulo.ensures ∙ ap (λ (z : ℤ). modulo z C) (told c.floor.type_inv f)))

@@ -1,12 +1,11 @@
--- `answer::write` meets its contract: both lists are filled from the front. Assumes nothing.
-use Prim.Native.Nat.{◌≤◌, ◌-◌}
-use lib.IntN.{pos}
+-- `answer::write`: both lists are filled up to object j.
+use Rattle.std.proofs.Common.{pos}
 use Rattle.exact.proofs.Filling.{Filled}
-use Rattle.station.specs.Means.{P, direction as directionOf}
+use Rattle.station.specs.Means.{P, direction}
 use Rattle.station.proofs.answer.write.Given as goal
 
 abbrev pub invariant-loop-j : goal.invariant-loop-j
-invariant-loop-j l = (l.j ≤ 16) × (Filled (pos 0) (directionOf l.count l.sums) 0 l.j l.initial.direction l.direction × Filled (pos 0) (P l.count) 0 l.j l.initial.pairs l.pairs)
-
-abbrev pub decreases-loop-j : goal.decreases-loop-j
-decreases-loop-j l = 16 - l.j
+invariant-loop-j l = record {
+  directions : Filled (pos 0) (direction l.table.count l.table.sums) 0 l.j l.initial.direction l.direction;
+  counts : Filled (pos 0) (P l.table.count) 0 l.j l.initial.pairs l.pairs;
+}

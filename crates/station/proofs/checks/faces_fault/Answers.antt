@@ -1,34 +1,25 @@
--- `checks::faces_fault` meets its contract. Assumes nothing.
-use mathlib.Core.Path.{◌≡◌, sym, ◌∙◌, ap}
-use mathlib.Core.Bool.{not}
+-- `checks::faces_fault` meets its contract: the machine's tests against 1 are the rule's. Assumes nothing.
+use Rattle.std.proofs.Common.{◌≡◌, ◌∙◌, ap, sym, ◌<◌, ◌^◌, ℤ, pos, eqb, not, ◌&&◌, of_z, w64}
 use borrow.Author.Tests.{eq-eqb, ne_eqb}
-use lib.Dec.{eqb}
-use lib.IntN.{ℤ, pos}
 use lib.Signed.{mag}
-use mir.Syntax.{w64}
-use mir.Val.{of_z}
-use Prim.Native.Nat.{◌<◌, ◌^◌}
 use Rattle.exact.specs.Same.{same}
 use Rattle.exact.proofs.Bound.{fits_of_mag, numeral_fits}
 use Rattle.exact.proofs.Sameness.{bits_test}
+use Rattle.station.specs.Table.{entry}
 use Rattle.station.specs.Means.{faces_fault}
 use Rattle.station.proofs.checks.faces_fault.Goals as goal
-
-pub returns-then-not-seen : goal.returns-then-not-seen
-unfolding faces_fault
-returns-then-not-seen c = rw (sym c.seen.ensures ∙ c.if-not-seen.true)
+use Rattle.station.proofs.checks.faces_fault.Goals.{then-left_count-eq1, else-left_count-eq1}
 
 -- the machine's test of a result, which is v, against 1
 is_one : {x v : ℤ} → mag x < 2 ^ 63 → x ≡ v → eqb (of_z w64 x) 1 ≡ same v (pos 1)
 is_one {x} ok p = bits_test (fits_of_mag x ok) (numeral_fits 1 tt) ∙ ap (λ (z : ℤ). same z (pos 1)) p
 
-pub returns-then-entry-ne1 : goal.returns-then-entry-ne1
+pub returns-after-left_count-eq1 : goal.returns-after-left_count-eq1
 unfolding faces_fault
-returns-then-entry-ne1 c =
-    rw (sym c.seen.ensures ∙ c.if-not-seen.false, sym (is_one c.entry.type_inv c.entry.ensures) ∙ ne_eqb _ _ c.if-entry-ne1.true)
-
-pub returns : goal.returns
-unfolding faces_fault
-returns c =
-    rw (sym c.seen.ensures ∙ c.if-not-seen.false, sym (is_one c.entry.type_inv c.entry.ensures) ∙ eq-eqb _ _ c.if-entry-ne1.false)
-    (ap not (is_one c.entry-2.type_inv c.entry-2.ensures))
+returns-after-left_count-eq1 c = rw (sym c.seen.ensures ∙ c.if-seen.true) (ap not both)
+  where
+    both : c.if-left_count-eq1.result ≡ (same (entry c.args.table.now.count 0 c.args.i c.args.j) (pos 1) && same (entry c.args.table.now.count 1 c.args.i c.args.j) (pos 1))
+    both = elim c.if-left_count-eq1.branch [
+      | then-left_count-eq1 w ↦ rw (← is_one c.left_count.type_inv c.left_count.ensures, eq-eqb (of_z w64 c.left_count.result) 1 w.if-left_count-eq1.true) (w.result-is ∙ is_one w.right_count.type_inv w.right_count.ensures)
+      | else-left_count-eq1 w ↦ rw (← is_one c.left_count.type_inv c.left_count.ensures, ne_eqb (of_z w64 c.left_count.result) 1 w.if-left_count-eq1.false) (w.result-is ∙ ne_eqb (of_z w64 c.left_count.result) 1 w.if-left_count-eq1.false)
+    ]

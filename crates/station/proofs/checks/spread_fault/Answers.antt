@@ -1,47 +1,17 @@
--- `checks::spread_fault` meets its contract: an object that was sighted has a lowest position, whose g is the base. Assumes nothing.
-use mathlib.Core.Path.{◌≡◌, ◌∙◌, ap, sym}
-use mathlib.Core.Bool.{true}
-use Prim.Native.Nat.{ℕ, ◌<◌}
-use native.Mathlib.Omega.{arith}
-use lib.Dec.{ltb}
-use lib.IntN.{nat_abs, ◌-ℤ◌}
-use mir.Syntax.{w64}
-use mir.Val.{to_z, of_z}
-use Rattle.exact.specs.Circle.{C}
-use Rattle.station.specs.Means.{centred, seen, g, base, e, spread_fault}
-use Rattle.station.proofs.Figures.{told, g_size}
-use Rattle.station.proofs.Positions.{lowest_least}
+-- `checks::spread_fault` meets its contract: an object without a base was not sighted. Assumes nothing.
+use Rattle.std.proofs.Common.{◌∙◌, ap, sym, ltb, nat_abs}
+use Rattle.station.specs.Means.{spread_fault}
+use Rattle.station.proofs.Figures.{told, g_read}
+use Rattle.station.proofs.Positions.{lowest_none}
 use Rattle.station.proofs.checks.spread_fault.Goals as goal
-use Rattle.station.proofs.checks.spread_fault.Goals.{After-doubled_direction-base, After-lowest, Else-not-seen}
 
-pub returns-then-not-seen : goal.returns-then-not-seen
+pub returns-in_default : goal.returns-in_default
 unfolding spread_fault
-returns-then-not-seen c = rw (sym c.seen.ensures ∙ c.if-not-seen.true)
-
-sighted : (c : Else-not-seen) → let a = c.args in seen a.count.now a.i a.j ≡ true
-sighted c = sym c.seen.ensures ∙ c.if-not-seen.false
-
-lowest_in : (c : After-lowest) → c.lowest.result < 16
-lowest_in c =
-    let a = c.args in
-    omega (arith, c.lowest.ensures, lowest_least a.count.now a.i a.j (sighted c.before))
-
-pub doubled_direction-base-requires : goal.doubled_direction-base-requires
-doubled_direction-base-requires c = (c.requires.1.0, (lowest_in c, c.requires.1.1.1))
-
-base_read : (c : After-doubled_direction-base) →
-    let a = c.args in to_z w64 (of_z w64 c.doubled_direction-base.result) ≡ base a.count.now a.sums.now a.j
-base_read c =
-    let a = c.args in
-    told c.doubled_direction-base.type_inv c.doubled_direction-base.ensures ∙ ap (λ (i : ℕ). g a.sums.now i a.j) c.lowest.ensures
+returns-in_default c = rw (lowest_none _ _ c.in_default.ensures _ c.requires.0)
 
 pub from_base-requires : goal.from_base-requires
-from_base-requires c =
-    (c.requires.1.0, (c.requires.1.1.0, (c.requires.1.1.1, rw (base_read c) (g_size c.args.sums.now _ c.args.j))))
+from_base-requires c = (c.requires.0, (c.requires.1, g_read _ _ _ c.in-Some.ensures.1))
 
-pub returns : goal.returns
-unfolding spread_fault e
-returns c =
-    let b = c.before.before in let a = b.args in
-    rw (sighted b.before.before)
-    (ap (ltb 120000) (c.magnitude.ensures ∙ ap nat_abs (told c.from_base.type_inv c.from_base.ensures ∙ (λ t. centred (g a.sums.now a.i a.j -ℤ base_read b t) C))))
+pub returns-then-seen : goal.returns-then-seen
+unfolding spread_fault
+returns-then-seen c = rw (sym c.seen.ensures ∙ c.if-seen.true) (ap (ltb 120000) (c.magnitude.ensures ∙ ap nat_abs (told c.from_base.type_inv c.from_base.ensures)))

@@ -1,49 +1,22 @@
 -- `pair::centred` meets its contract: the machine forms z + half, twice the half and the difference, which fit. Assumes nothing.
-use mathlib.Core.Path.{◌≡◌, ◌∙◌}
-use Prim.Native.Nat.{◌≤◌}
-use native.Mathlib.Nat.{le_trans}
-use lib.IntN.{pos, nat_abs, ◌+ℤ◌, ◌*ℤ◌, ◌-ℤ◌}
-use mir.Syntax.{w64}
-use mir.Val.{to_z, of_z}
-use Rattle.exact.specs.Circle.{modulo}
-use Rattle.exact.proofs.Bound.{bounded, bounds, fits_in, abs_in, read}
+use Rattle.std.proofs.Common.{◌≡◌, ◌≤◌, arith, pos, nat_abs, ◌+ℤ◌, ◌*ℤ◌, ◌<ℤ◌, to_z, of_z, w64}
+use Rattle.std.proofs.lemmas.Int.{ints, to_z-of_z}
 use Rattle.exact.proofs.Circles.{modulo_size}
 use Rattle.station.specs.Means.{centred}
-use Rattle.station.proofs.Figures.{told, twice_above}
 use Rattle.station.proofs.pair.centred.Goals as goal
-use Rattle.station.proofs.pair.centred.Goals.{After-modulo, Start}
+use Rattle.station.proofs.pair.centred.Goals.{After-modulo}
 
-pub overflow_add-z : goal.overflow_add-z
-overflow_add-z c = let z = bounded c.args.z c.requires.0 in let h = bounded c.args.half c.requires.1.1 in fits_in (search bounds) tt
-
-pub overflow_mul-half : goal.overflow_mul-half
-overflow_mul-half c = let h = bounded c.args.half c.requires.1.1 in fits_in (search bounds) tt
-
--- what the machine reads of the sum and of the whole circle
-sum_read : (c : Start) → to_z w64 (of_z w64 (to_z w64 (of_z w64 c.args.z) +ℤ to_z w64 (of_z w64 c.args.half))) ≡ c.args.z +ℤ c.args.half
-sum_read c = read (overflow_add-z c) ∙ (λ t. read c.ranges.z t +ℤ read c.ranges.half t)
-
-circle_read : (c : Start) → to_z w64 (of_z w64 (pos 2 *ℤ to_z w64 (of_z w64 c.args.half))) ≡ pos 2 *ℤ c.args.half
-circle_read c = read (overflow_mul-half c) ∙ (λ t. pos 2 *ℤ read c.ranges.half t)
-
-pub modulo-requires : goal.modulo-requires
-modulo-requires c = rw (circle_read c) (twice_above c.args.half c.requires.1.0)
-
--- what is left of the sum
-module _ (c : After-modulo) where
-  left : c.modulo.result ≡ modulo (c.args.z +ℤ c.args.half) (pos 2 *ℤ c.args.half)
-  left = c.modulo.ensures ∙ (λ t. modulo (sum_read c.before t) (circle_read c.before t))
-
-  left_size : nat_abs c.modulo.result ≤ 2592000000
-  left_size =
-      let h = bounded c.args.half c.requires.1.1 in
-      rw left (le_trans (modulo_size (c.args.z +ℤ c.args.half) (pos 2 *ℤ c.args.half) (twice_above c.args.half c.requires.1.0)) (abs_in {z = pos 2 *ℤ c.args.half} (search bounds) tt))
+-- what is left lies within the circle
+left_size : (c : After-modulo) → nat_abs c.modulo.result ≤ 2592000000
+left_size c =
+    let h = c.args.half in
+    let circle : to_z w64 (of_z w64 (pos 2 *ℤ to_z w64 (of_z w64 h))) ≡ pos 2 *ℤ h = omega (arith, ints) in
+    let above : pos 0 <ℤ to_z w64 (of_z w64 (pos 2 *ℤ to_z w64 (of_z w64 h))) = grind (arith, ints) in
+    omega (arith, ints, modulo_size (to_z w64 (of_z w64 (to_z w64 (of_z w64 c.args.z) +ℤ to_z w64 (of_z w64 h)))) _ above)
 
 pub overflow_sub-result : goal.overflow_sub-result
-overflow_sub-result c =
-    let m = bounded c.modulo.result (left_size c) in let h = bounded c.args.half c.requires.1.1 in
-    fits_in (search bounds) tt
+overflow_sub-result c = omega (arith, ints, left_size c)
 
 pub returns : goal.returns
 unfolding centred
-returns c = read (overflow_sub-result c) ∙ (λ t. told c.modulo.type_inv (left c) t -ℤ read c.ranges.half t)
+returns c = grind (arith, to_z-of_z, left_size c)

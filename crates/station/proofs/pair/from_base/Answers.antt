@@ -1,39 +1,17 @@
 -- `pair::from_base` meets its contract: g and the base lie within two circles. Assumes nothing.
-use mathlib.Core.Path.{◌≡◌, ◌∙◌}
-use borrow.Author.Rules.{rules}
-use lib.IntN.{ℤ, ◌-ℤ◌}
-use mir.Syntax.{w64}
-use mir.Val.{to_z, of_z}
-use Rattle.exact.specs.Circle.{C}
-use Rattle.exact.proofs.Bound.{Bounded, bounded, bounds, fits_in, abs_in, read}
-use Rattle.station.specs.Means.{centred, g}
-use Rattle.station.proofs.Figures.{told, g_size}
+use Rattle.std.proofs.Common.{arith, rules}
+use Rattle.std.proofs.lemmas.Int.{ints, to_z-of_z}
+use Rattle.station.specs.Means.{lowest, e}
+use Rattle.station.proofs.Figures.{g_size}
 use Rattle.station.proofs.pair.from_base.Goals as goal
-use Rattle.station.proofs.pair.from_base.Goals.{After-doubled_direction, Start}
-
-module _ (c : Start) where
-  abbrev here : ℤ
-  here = g c.args.sums.now c.args.i c.args.j
-
-  abbrev sizes : Bounded here × Bounded c.args.base
-  sizes = (bounded here (g_size c.args.sums.now c.args.i c.args.j), bounded c.args.base c.requires.1.1.1)
-
--- what the machine has of g - b
-apart : (c : After-doubled_direction) →
-    to_z w64 (of_z w64 c.doubled_direction.result) -ℤ to_z w64 (of_z w64 c.args.base) ≡ here c.before -ℤ c.args.base
-apart c = λ t. told c.doubled_direction.type_inv c.doubled_direction.ensures t -ℤ read c.ranges.base t
 
 pub overflow_sub-doubled_direction : goal.overflow_sub-doubled_direction
-overflow_sub-doubled_direction c = rw (apart c) (let b = sizes c.before in fits_in (search bounds) tt)
-
-apart_read : (c : After-doubled_direction) →
-    to_z w64 (of_z w64 (to_z w64 (of_z w64 c.doubled_direction.result) -ℤ to_z w64 (of_z w64 c.args.base))) ≡ here c.before -ℤ c.args.base
-apart_read c = read (overflow_sub-doubled_direction c) ∙ apart c
+overflow_sub-doubled_direction c = let a = c.args in let r = a.table.now.sums in omega (arith, ints, g_size r a.i a.j, g_size r (lowest a.table.now.count a.j) a.j)
 
 pub centred-requires : goal.centred-requires
 centred-requires c =
-    let b = sizes c.before in
-    (rw (apart_read c) (abs_in {z = here c.before -ℤ c.args.base} (search bounds) tt), search rules)
+    let a = c.args in let r = a.table.now.sums in (omega (arith, ints, g_size r a.i a.j, g_size r (lowest a.table.now.count a.j) a.j), search rules)
 
 pub returns : goal.returns
-returns c = told c.centred.type_inv c.centred.ensures ∙ (λ t. centred (apart_read c.before t) C)
+unfolding e
+returns c = let a = c.args in let r = a.table.now.sums in grind (arith, to_z-of_z, g_size r a.i a.j, g_size r (lowest a.table.now.count a.j) a.j)

@@ -1,41 +1,13 @@
--- `steps::note` meets its contract: below k the reasons are noted, from k on they are as they were. Assumes nothing.
-use mathlib.Core.Path.{◌≡◌, sym, ◌∙◌, subst}
-use mathlib.Core.Bool.{Bool, true, false, cond}
-use mathlib.Core.List.{List}
-use Prim.Native.Nat.{ℕ, ◌+◌}
-use native.Mathlib.Omega.{arith}
-use lib.IntN.{ℤ}
-use lib.ListN.{get_or}
-use Rattle.exact.proofs.Filling.{Filled, filled_none, filled_more, filled_same, filled_all}
-use Rattle.station.specs.declared.checks.Check.{Check}
+-- `steps::note` meets its contract: all 256 reasons are noted. Assumes nothing.
+use Rattle.std.proofs.Common.{◌≡◌, arith, subst, cond, get_or, ℕ}
+use Rattle.exact.proofs.Filling.{Filled, filled_all}
 use Rattle.station.specs.Replies.{fault}
 use Rattle.station.specs.Steps.{noted}
 use Rattle.station.proofs.steps.note.Goals as goal
-use Rattle.station.proofs.steps.note.Goals.{then-fault_at, else-fault_at}
-
--- the reason at place i afterwards
-abbrev after : Check → ℕ → List ℤ → List ℤ → List ℕ → ℕ → ℕ
-after check step count sums why i = cond (fault check count sums i) step (get_or why i 0)
-
-pub loop-k-init : goal.loop-k-init
-loop-k-init c = (omega arith, filled_none 0 _ 0 c.args.why.now)
-
-pub loop-k-preserved : goal.loop-k-preserved
-loop-k-preserved c =
-    let a = c.args in let k = c.loop-k.k in
-    let g = after a.check a.step a.count.now a.sums.now a.why.now in
-    let test = sym c.fault_at.ensures in
-    let told : (t : Bool) → fault a.check a.count.now a.sums.now k ≡ t → cond t a.step (get_or a.why.now k 0) ≡ g k = λ t e i. cond (sym e i) a.step (get_or a.why.now k 0) in (
-      omega arith,
-      elim c.if-fault_at.branch [
-        | then-fault_at w ↦ subst (Filled 0 g 0 (k + 1) a.why.now) (sym w.why-is) (filled_more 0 g 0 k a.why.now c.loop-k.why a.step (omega (arith, c.requires.2)) c.loop-k.invariant.1 (told true (test ∙ w.if-fault_at.true)))
-        | else-fault_at w ↦ subst (Filled 0 g 0 (k + 1) a.why.now) (sym w.why-is) (filled_same 0 g 0 k a.why.now c.loop-k.why c.loop-k.invariant.1 (told false (test ∙ w.if-fault_at.false)))
-      ],
-    )
 
 pub returns : goal.returns
 unfolding noted
 returns c =
-    let a = c.args in let e : c.loop-k.k ≡ 256 = omega arith in
-    filled_all 0 (after a.check a.step a.count.now a.sums.now a.why.now) 256 a.why.now c.loop-k.why c.requires.2
-    (subst (λ (k : ℕ). Filled 0 (after a.check a.step a.count.now a.sums.now a.why.now) 0 k a.why.now c.loop-k.why) e c.loop-k.invariant.1)
+    let a = c.args in let t = a.table.now in let e : c.loop-k.k ≡ 256 = omega arith in
+    filled_all 0 _ 256 a.why.now c.loop-k.why c.told-why
+    (subst (λ (k : ℕ). Filled 0 (λ i. cond (fault a.check t.count t.sums i) a.step (get_or a.why.now i 0)) 0 k a.why.now c.loop-k.why) e c.loop-k.invariant)
