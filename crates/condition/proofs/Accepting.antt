@@ -1,5 +1,6 @@
 -- What follows for the numbers that the checks accept. Assumes nothing.
 --   Counts, counted          the counts and lengths
+--   as_many_q, terms_counted those of the directions alone, and of the terms
 --   not_outside, number      a number in its range; a direction number
 --   sound                    a term that its check accepts is sound
 --   Accepts, accepted        all of it, of what is lent
@@ -20,18 +21,18 @@ use Rattle.exact.specs.Within.{Within}
 use Rattle.exact.proofs.Linear.{unknowns, linear, orders, one_sided, abs_by}
 use Rattle.exact.proofs.Order.{lt_false}
 use Rattle.reply.specs.declared.Refusal.TheVariants.{Malformed, Count, OutOfRange}
-use Rattle.reply.specs.declared.Reply.TheVariants.{Accepted}
 use Rattle.reply.specs.Checks.{refuse_if}
 use Rattle.reply.proofs.Checking.{both_accepted, if_accepted, none_refused, turn_each}
 use Rattle.direction.specs.Ranges.{out_of_range, fault_at, directions_reply}
 use Rattle.condition.specs.declared.Kind.{Kind}
 use Rattle.condition.specs.declared.Kind.TheVariants.{Angle, Side}
 use Rattle.condition.specs.declared.term.Letter.{Letter}
-use Rattle.condition.specs.declared.term.Letter.TheVariants.{P, F, L, R, Unknown}
+use Rattle.condition.specs.declared.term.Letter.TheVariants.{P, F, L, R}
 use Rattle.condition.specs.declared.term.Term.{Term}
 use Rattle.condition.specs.Terms.{suits, astray, side_fault, fault_of}
 use Rattle.condition.specs.Rules.{Lent, term, unequal, directions_miscounted, terms_miscounted, counts_fault, target_check, term_check, terms_check, checks}
 use Rattle.condition.specs.Sound.{Number, Ends, SideTerm, SoundOf, Sound, Fields, AllSound}
+use Rattle.std.specs.Prelude.{Ok, Option, Some, None}
 
 -- ---- counts and lengths
 pub record Counts (l : Lent) : Type 0 where
@@ -44,30 +45,40 @@ pub record Counts (l : Lent) : Type 0 where
 alike : (a b : ℕ) → unequal a b ≡ false → a ≡ b
 alike a b e = eqb-true a b (not-false (eqb a b) e)
 
+pub as_many_q : (m q : ℕ) → directions_miscounted m q ≡ false → q ≡ m
+unfolding directions_miscounted
+as_many_q m q e = alike q m (neither _ _ e).1
+
+pub terms_counted : (kinds values d i k : List ℤ) → terms_miscounted (length kinds) (length values) (length d) (length i) (length k) ≡ false
+    → Fields kinds values d i k
+unfolding terms_miscounted
+terms_counted kinds values d i k e =
+    let n = length kinds in
+    let on_k = neither _ _ e in
+    let on-i = neither _ _ on_k.0 in
+    let on-d = neither _ _ on-i.0 in
+    let on_values = neither _ _ on-d.0 in
+    record {
+      few = ltb-false 12 n (neither _ _ on_values.0).1;
+      as_values = alike (length values) n on_values.1;
+      as_d = alike (length d) n on-d.1;
+      as_i = alike (length i) n on-i.1;
+      as_k = alike (length k) n on_k.1;
+    }
+
 pub counted : (l : Lent) → counts_fault l ≡ false → Counts l
 unfolding directions_miscounted terms_miscounted
 counted l e =
     let n = length l.kinds in let m = length l.directions in
     let parts = neither _ _ e in
-    let on-q = neither _ _ parts.0 in
-    let on-m = neither _ _ on-q.0 in
-    let on_k = neither _ _ parts.1 in
-    let on-i = neither _ _ on_k.0 in
-    let on-d = neither _ _ on-i.0 in
-    let on_values = neither _ _ on-d.0 in
-    let on-n = neither _ _ on_values.0 in
+    let on-m = neither _ _ (neither _ _ parts.0).0 in
+    let on-n = neither _ _ (neither _ _ (neither _ _ (neither _ _ (neither _ _ parts.1).0).0).0).0 in
     record {
       some_directions = ltb-false m 1 on-m.0;
       few_directions = ltb-false 64 m on-m.1;
-      as_directions = alike (length l.q) m on-q.1;
+      as_directions = as_many_q m (length l.q) parts.0;
       some_terms = ltb-false n 1 on-n.0;
-      fields = record {
-        few = ltb-false 12 n on-n.1;
-        as_values = alike (length l.values) n on_values.1;
-        as_d = alike (length l.d) n on-d.1;
-        as_i = alike (length l.i) n on-i.1;
-        as_k = alike (length l.k) n on_k.1;
-      };
+      fields = terms_counted l.kinds l.values l.d l.i l.k parts.1;
     }
 
 -- ---- ranges
@@ -94,14 +105,14 @@ module _ (m : ℕ) (t : Term) where
       let on-ends = neither _ _ (neither _ _ e).0 in let on-d = neither _ _ on-ends.0 in
       record { value = (number 200000000 t.value on-d.0).high; d = within_2000 t.d on-d.1; ends = ends on-ends.1 }
 
-  of_kind : (letter : Letter) → fault_of letter (pos m) t ≡ false → SoundOf letter m t
-  of_kind P e = ends (neither _ _ e).0
-  of_kind F e = omega (arith, (number 1295999999 t.value e).high)
-  of_kind L e = side e
-  of_kind R e = side e
-  of_kind Unknown e = tt
+  of_kind : (letter : Option Letter) → fault_of letter (pos m) t ≡ false → SoundOf letter m t
+  of_kind (Some P) e = ends (neither _ _ e).0
+  of_kind (Some F) e = omega (arith, (number 1295999999 t.value e).high)
+  of_kind (Some L) e = side e
+  of_kind (Some R) e = side e
+  of_kind None e = tt
 
-  pub sound : (kind : Kind) (ordinal : ℕ) → term_check kind (pos m) ordinal t ≡ Accepted → Sound m t
+  pub sound : (kind : Kind) (ordinal : ℕ) → term_check kind (pos m) ordinal t ≡ Ok tt → Sound m t
   sound kind ordinal e =
       of_kind t.letter (if_accepted _ (OutOfRange ordinal) (both_accepted (refuse_if (not (suits kind t.letter)) (Malformed ordinal)) _ e).1)
 
@@ -115,19 +126,21 @@ pub record Accepts (l : Lent) : Type 0 where
 direction_size : (direction q : ℤ) → out_of_range direction q ≡ false → nat_abs direction ≤ 1296000000
 direction_size direction q e = omega (arith, (number 1295999999 direction (neither _ _ e).0).high)
 
-directions_within : (directions q : List ℤ) → directions_reply directions q ≡ Accepted → Within 1296000000 directions
+directions_within : (directions q : List ℤ) → directions_reply directions q ≡ Ok tt → Within 1296000000 directions
 unfolding directions_reply
 directions_within directions q e h = by_place (dec_lt h (length directions))
   where
     by_place : Dec (h < length directions) → nat_abs (get_or directions h (pos 0)) ≤ 1296000000
-    by_place (yes l) = direction_size (get_or directions h (pos 0)) (get_or q h (pos 0)) (none_refused (length directions) (fault_at directions q) (λ h. OutOfRange (h + 1)) e h l)
+    by_place (yes l) =
+        direction_size (get_or directions h (pos 0)) (get_or q h (pos 0))
+        (none_refused (length directions) (fault_at directions q) (λ h. OutOfRange (h + 1)) e h l)
     by_place (no l) = rw (get_or-eq_default directions (pos 0) {n = h} (omega arith)) (omega arith)
 
-target_size : (kind : Kind) (target : ℤ) → target_check kind target ≡ Accepted → kind ≡ Angle → nat_abs target ≤ 15552000000
+target_size : (kind : Kind) (target : ℤ) → target_check kind target ≡ Ok tt → kind ≡ Angle → nat_abs target ≤ 15552000000
 target_size Angle target e k = (number 15552000000 target (if_accepted _ (OutOfRange 0) e)).high
 target_size Side target e k = absurd (let z : ◌≡◌ {A = ℕ} 0 1 = cc in omega arith)
 
-pub accepted : (l : Lent) → checks l ≡ Accepted → Accepts l
+pub accepted : (l : Lent) → checks l ≡ Ok tt → Accepts l
 unfolding checks terms_check
 accepted l e =
     let m = length l.directions in

@@ -11,13 +11,12 @@ use Rattle.exact.specs.Same.{same}
 use Rattle.exact.specs.Sum.{sum}
 use Rattle.exact.specs.Tabulate.{tabulate}
 use Rattle.reply.specs.declared.Refusal.TheVariants.{OutOfRange}
-use Rattle.reply.specs.declared.Reply.TheVariants.{Accepted, Refused}
-use Rattle.reply.specs.declared.Figure.TheVariants.{Value, Refused as NoFigure}
 use Rattle.reply.specs.Checks.{in_turn}
 use Rattle.direction.specs.Ranges.{directions_reply}
 use Rattle.condition.specs.declared.Kind.TheVariants.{Angle, Side}
 use Rattle.condition.specs.Terms.{letter_of, share, angle, part}
 use Rattle.condition.specs.Rules.{Lent, lent, directions_miscounted, terms_miscounted, terms_check, checks, coefficient, coefficients_reply, coefficients_list, misclosure, misclosure_figure}
+use Rattle.std.specs.Prelude.{Ok, Err}
 
 abbrev directions : List ℤ
 directions = pos 216000000 ∷ pos 216003000 ∷ pos 215997000 ∷ []
@@ -39,18 +38,18 @@ side =
     lent directions ones Side (pos 0) (pos 76 ∷ pos 82 ∷ pos 82 ∷ []) (pos 98000000 ∷ pos 97000000 ∷ pos 999000 ∷ [])
     (pos 105 ∷ neg_ℤ (pos 212) ∷ pos 0 ∷ []) (pos 0 ∷ pos 1 ∷ pos 0 ∷ []) (pos 1 ∷ pos 2 ∷ pos 0 ∷ [])
 
-pub first_misclosure : misclosure_figure (triangle (pos 1) (pos 2)) ≡ Value (pos 3000)
+pub first_misclosure : misclosure_figure (triangle (pos 1) (pos 2)) ≡ Ok (pos 3000)
 unfolding directions_miscounted terms_miscounted directions_reply in_turn terms_check checks misclosure misclosure_figure same letter_of part angle first sum floor modulo
 first_misclosure = refl
 
-pub side_coefficients : (coefficients_reply side 3 ≡ Accepted) × (coefficients_list side zeros ≡ neg_ℤ (pos 107) ∷ pos 212 ∷ pos 0 ∷ [])
+pub side_coefficients : (coefficients_reply side 3 ≡ Ok tt) × (coefficients_list side zeros ≡ neg_ℤ (pos 107) ∷ pos 212 ∷ pos 0 ∷ [])
 unfolding directions_miscounted terms_miscounted directions_reply in_turn terms_check checks coefficient coefficients_reply coefficients_list same letter_of share first sum tabulate
 side_coefficients = (refl, refl)
 
-pub side_misclosure : misclosure_figure side ≡ Value (pos 100000)
+pub side_misclosure : misclosure_figure side ≡ Ok (pos 100000)
 unfolding directions_miscounted terms_miscounted directions_reply in_turn terms_check checks misclosure misclosure_figure same letter_of part angle first sum floor modulo
 side_misclosure = refl
 
-pub refused_reply : (coefficients_reply (triangle (pos 1) (pos 4)) 3 ≡ Refused (OutOfRange 2)) × (misclosure_figure (triangle (pos 1) (pos 4)) ≡ NoFigure (OutOfRange 2))
+pub refused_reply : (coefficients_reply (triangle (pos 1) (pos 4)) 3 ≡ Err (OutOfRange 2)) × (misclosure_figure (triangle (pos 1) (pos 4)) ≡ Err (OutOfRange 2))
 unfolding directions_miscounted terms_miscounted directions_reply in_turn terms_check checks coefficient coefficients_reply misclosure misclosure_figure same letter_of share part angle first sum floor modulo
 refused_reply = (refl, refl)

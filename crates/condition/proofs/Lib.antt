@@ -1,3 +1,4 @@
+pub mod Turning
 pub mod Testing
 pub mod Accepting
 pub mod Parts

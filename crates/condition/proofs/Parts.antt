@@ -1,15 +1,13 @@
 -- Laws of what a term adds to w. Assumes nothing.
---   direction_next                  the value of direction number n above 0 stands at place n - 1 of the list
 --   direction_size, angle_size      a direction's value and an angle are within the circle
 --   angle_low, angle_high           an angle lies from 0 to C - 1
 --   part_size, total_size           what a term adds, and what n terms add
-use mathlib.Core.Path.{◌≡◌, refl, ap}
 use mathlib.Core.List.{List}
-use Prim.Native.Nat.{ℕ, zero, suc, ◌-◌, ◌≤◌}
+use Prim.Native.Nat.{ℕ, zero, suc, ◌≤◌}
 use native.Mathlib.Omega.{arith}
 use lib.IntN.{ℤ, pos, nat_abs, ◌-ℤ◌}
-use lib.ListN.{get_or}
 use lib.Signed.{◌≤ℤ◌, ◌<ℤ◌}
+use Rattle.std.specs.Prelude.{Option, Some, None}
 use Rattle.exact.specs.Sum.{sum}
 use Rattle.exact.specs.Circle.{C}
 use Rattle.exact.specs.Within.{Within}
@@ -17,16 +15,12 @@ use Rattle.exact.proofs.Bound.{abs_neg}
 use Rattle.exact.proofs.Circles.{modulo_low, modulo_high, modulo_size}
 use Rattle.exact.proofs.Sum.{sum_abs}
 use Rattle.condition.specs.declared.term.Letter.{Letter}
-use Rattle.condition.specs.declared.term.Letter.TheVariants.{P, F, L, R, Unknown}
+use Rattle.condition.specs.declared.term.Letter.TheVariants.{P, F, L, R}
 use Rattle.condition.specs.declared.term.Term.{Term}
 use Rattle.condition.specs.Terms.{direction_at, angle, part_of, part}
 use Rattle.condition.specs.Sound.{SoundOf, Sound, AllSound}
 
 module _ (directions : List ℤ) where
-  pub direction_next : (n : ℕ) → (n ≡ 0 → ⊥) → direction_at directions n ≡ get_or directions (n - 1) (pos 0)
-  direction_next zero h = absurd (h refl)
-  direction_next (suc n) h = ap (λ (i : ℕ). get_or directions i (pos 0)) (omega arith)
-
   pub direction_size : Within 1296000000 directions → (n : ℕ) → nat_abs (direction_at directions n) ≤ 1296000000
   direction_size w zero = omega arith
   direction_size w (suc n) = w n
@@ -49,12 +43,12 @@ module _ (directions : List ℤ) where
     angle_size = modulo_size (direction_at directions (nat_abs t.k) -ℤ direction_at directions (nat_abs t.i)) C above_zero
 
     -- ---- what it adds to w
-    of_kind : (letter : Letter) (m : ℕ) → SoundOf letter m t → nat_abs (part_of letter directions t) ≤ 1296000000
-    of_kind P m s = angle_size
-    of_kind F m s = s
-    of_kind L m s = omega (arith, s.value)
-    of_kind R m s = omega (arith, abs_neg t.value, s.value)
-    of_kind Unknown m s = omega arith
+    of_kind : (letter : Option Letter) (m : ℕ) → SoundOf letter m t → nat_abs (part_of letter directions t) ≤ 1296000000
+    of_kind (Some P) m s = angle_size
+    of_kind (Some F) m s = s
+    of_kind (Some L) m s = omega (arith, s.value)
+    of_kind (Some R) m s = omega (arith, abs_neg t.value, s.value)
+    of_kind None m s = omega arith
 
     pub part_size : (m : ℕ) → Sound m t → nat_abs (part directions t) ≤ 1296000000
     unfolding part

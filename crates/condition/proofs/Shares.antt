@@ -1,37 +1,60 @@
 -- Laws of what a term adds to the coefficients. Assumes nothing.
 --   tally_none, placed_more               a tally to which nothing was added; one number of a list raised by x
+--   tally_of, any_below                   what a tally holds of directions 1 to m, and the test of it
 --   placed_size, share_size, tally_size   sizes: a number at one place, what a term adds to one direction, and what n terms add
 --   placed_sum, turned_sum                a number added at one place alone; an angle's two parts cancel
 --   share_sum                             over all directions, number 0 counted in, a term adds nothing
 --   coefficients_sum                      and so do the coefficients of a whole condition
 --   sound_among                           a term that is sound among m directions is sound among more
 use mathlib.Core.Path.{◌≡◌, refl, sym, ◌∙◌, subst}
-use mathlib.Core.Bool.{Bool, true, false, cond}
+use mathlib.Core.Bool.{Bool, true, false, cond, ◌||◌}
 use mathlib.Core.List.{List}
 use Prim.Native.Nat.{ℕ, zero, suc, ◌<◌, ◌≤◌}
 use native.Mathlib.Omega.{arith}
 use borrow.Author.Tests.{eq-eqb, ne_eqb, eqb-true, eqb-false}
-use lib.Dec.{eqb}
+use lib.Dec.{eqb, ltb}
 use lib.IntN.{ℤ, pos, neg_ℤ, nat_abs, ◌+ℤ◌, +ℤ_idr, +ℤ_invl}
 use lib.ListN.{length, get_or, set, replicate}
 use lib.Seq.{get_or-set_same, get_or-set_other}
+use Rattle.std.proofs.Common.{take, drop, ◌+◌, ◌-◌}
+use Rattle.std.specs.List.{list_any}
+use Rattle.std.proofs.lemmas.Grind.{common_steps}
+use Rattle.std.proofs.lemmas.Bool.Decides.{nat_tests}
+use Rattle.exact.specs.First.{first, some_below}
+use Rattle.exact.specs.Tabulate.{tabulate}
 use Rattle.exact.specs.Sum.{sum}
+use Rattle.exact.proofs.Filling.{tabulate_is}
 use Rattle.exact.proofs.Bound.{abs_add, abs_neg}
 use Rattle.exact.proofs.Sum.{sum_ext, sum_add, sum_zero, sum_only, sum_swap, sum_abs}
-use Rattle.reply.specs.declared.Reply.TheVariants.{Accepted}
 use Rattle.condition.specs.declared.term.Letter.{Letter}
-use Rattle.condition.specs.declared.term.Letter.TheVariants.{P, F, L, R, Unknown}
+use Rattle.condition.specs.declared.term.Letter.TheVariants.{P, F, L, R}
 use Rattle.condition.specs.declared.term.Term.{Term}
 use Rattle.condition.specs.Terms.{placed, turned, share_of, share}
 use Rattle.condition.specs.Rules.{Lent, term, checks, coefficient}
 use Rattle.condition.specs.Sound.{Number, Ends, SideTerm, SoundOf, Sound, AllSound}
 use Rattle.condition.proofs.Accepting.{accepted}
+use Rattle.std.specs.Prelude.{Ok, Option, Some, None}
 
 -- ---- a tally
 pub tally_none : (m n : ℕ) → get_or (replicate m (pos 0)) n (pos 0) ≡ pos 0
 tally_none zero n = refl
 tally_none (suc m) zero = refl
 tally_none (suc m) (suc n) = tally_none m n
+
+-- what it holds of directions 1 to m
+pub tally_of : (tally : List ℤ) (m : ℕ) (f : ℕ → ℤ) → m < length tally → ((n : ℕ) → get_or tally n (pos 0) ≡ f n)
+    → take (m + 1 - 1) (drop 1 tally) ≡ tabulate m (λ h. f (h + 1))
+tally_of tally m f l is = tabulate_is (pos 0) m _ _ (grind (arith, common_steps)) (λ h k. grind (arith, common_steps, is (h + 1)))
+
+pub any_below : (p : ℤ → Bool) (n : ℕ) (f : ℕ → ℤ) → list_any p (tabulate n f) ≡ some_below n (λ h. p (f h))
+unfolding tabulate first
+any_below p zero f = refl
+any_below p (suc n) f = by_test (p (f 0)) (any_below p n (λ h. f (suc h)))
+  where
+    by_test : (b : Bool) → list_any p (tabulate n (λ h. f (suc h))) ≡ some_below n (λ h. p (f (suc h)))
+        → (b || list_any p (tabulate n (λ h. f (suc h)))) ≡ ltb (cond b 0 (suc (first n (λ h. p (f (suc h)))))) (suc n)
+    by_test true e = grind (arith, nat_tests)
+    by_test false e = e ∙ grind (arith, nat_tests)
 
 -- one number raised
 pub placed_more : (xs : List ℤ) (h : ℕ) (x : ℤ) → h < length xs → (n : ℕ) →
@@ -60,12 +83,12 @@ module _ (t : Term) where
       let k-part = placed_size 2000 (nat_abs t.k) x l n in
       omega (arith, abs_add (placed (nat_abs t.i) (neg_ℤ x) n) (placed (nat_abs t.k) x n))
 
-  of_kind : (letter : Letter) (m : ℕ) → SoundOf letter m t → (n : ℕ) → nat_abs (share_of letter t n) ≤ 4000
-  of_kind P m s n = turned_size (pos 100) (omega arith) n
-  of_kind F m s n = omega arith
-  of_kind L m s n = turned_size t.d s.d n
-  of_kind R m s n = turned_size (neg_ℤ t.d) (omega (arith, abs_neg t.d, s.d)) n
-  of_kind Unknown m s n = omega arith
+  of_kind : (letter : Option Letter) (m : ℕ) → SoundOf letter m t → (n : ℕ) → nat_abs (share_of letter t n) ≤ 4000
+  of_kind (Some P) m s n = turned_size (pos 100) (omega arith) n
+  of_kind (Some F) m s n = omega arith
+  of_kind (Some L) m s n = turned_size t.d s.d n
+  of_kind (Some R) m s n = turned_size (neg_ℤ t.d) (omega (arith, abs_neg t.d, s.d)) n
+  of_kind None m s n = omega arith
 
   pub share_size : (m : ℕ) → Sound m t → (n : ℕ) → nat_abs (share t n) ≤ 4000
   unfolding share
@@ -87,18 +110,18 @@ module _ (m : ℕ) (t : Term) where
       ∙ (λ d. placed_sum (nat_abs t.i) (neg_ℤ x) (suc m) (omega (arith, e.i.high)) d +ℤ placed_sum (nat_abs t.k) x (suc m) (omega (arith, e.k.high)) d)
       ∙ +ℤ_invl x
 
-  none_of_kind : (letter : Letter) → SoundOf letter m t → sum (suc m) (share_of letter t) ≡ pos 0
-  none_of_kind P s = turned_sum (pos 100) s
-  none_of_kind F s = sum_zero (suc m)
-  none_of_kind L s = turned_sum t.d s.ends
-  none_of_kind R s = turned_sum (neg_ℤ t.d) s.ends
-  none_of_kind Unknown s = sum_zero (suc m)
+  none_of_kind : (letter : Option Letter) → SoundOf letter m t → sum (suc m) (share_of letter t) ≡ pos 0
+  none_of_kind (Some P) s = turned_sum (pos 100) s
+  none_of_kind (Some F) s = sum_zero (suc m)
+  none_of_kind (Some L) s = turned_sum t.d s.ends
+  none_of_kind (Some R) s = turned_sum (neg_ℤ t.d) s.ends
+  none_of_kind None s = sum_zero (suc m)
 
   pub share_sum : Sound m t → sum (suc m) (share t) ≡ pos 0
   unfolding share
   share_sum s = none_of_kind t.letter s
 
-pub coefficients_sum : (l : Lent) → checks l ≡ Accepted → sum (suc (length l.directions)) (coefficient l) ≡ pos 0
+pub coefficients_sum : (l : Lent) → checks l ≡ Ok tt → sum (suc (length l.directions)) (coefficient l) ≡ pos 0
 unfolding coefficient
 coefficients_sum l e =
     let m = length l.directions in let n = length l.kinds in
@@ -117,12 +140,12 @@ module _ (m r : ℕ) (t : Term) (more : m ≤ r) where
   wider_side : SideTerm m t → SideTerm r t
   wider_side s = record { value = s.value; d = s.d; ends = wider_ends s.ends }
 
-  wider_of_kind : (letter : Letter) → SoundOf letter m t → SoundOf letter r t
-  wider_of_kind P s = wider_ends s
-  wider_of_kind F s = s
-  wider_of_kind L s = wider_side s
-  wider_of_kind R s = wider_side s
-  wider_of_kind Unknown s = tt
+  wider_of_kind : (letter : Option Letter) → SoundOf letter m t → SoundOf letter r t
+  wider_of_kind (Some P) s = wider_ends s
+  wider_of_kind (Some F) s = s
+  wider_of_kind (Some L) s = wider_side s
+  wider_of_kind (Some R) s = wider_side s
+  wider_of_kind None s = tt
 
   pub sound_among : Sound m t → Sound r t
   sound_among s = wider_of_kind t.letter s

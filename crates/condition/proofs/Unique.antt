@@ -8,8 +8,8 @@ use mathlib.Core.List.{List}
 use Prim.Native.Nat.{ℕ}
 use lib.IntN.{ℤ}
 use Rattle.exact.proofs.Unique.{only}
-use Rattle.reply.specs.declared.Reply.{Reply}
-use Rattle.reply.specs.declared.Figure.{Figure}
+use Rattle.reply.specs.Reply.{Reply}
+use Rattle.reply.specs.Reply.{Figure}
 use Rattle.condition.specs.Terms.{term_fault}
 use Rattle.condition.specs.Rules.{Lent, target_fault}
 use Rattle.condition.specs.Promise.{Coefficients, Misclosed}

@@ -7,6 +7,7 @@ use mathlib.Core.Path.{◌≡◌, refl}
 use mathlib.Core.List.{List}
 use Prim.Native.Nat.{ℕ}
 use lib.IntN.{ℤ}
+use Rattle.std.specs.Prelude.{Some}
 use Rattle.condition.specs.declared.Kind.TheVariants.{Side}
 use Rattle.condition.specs.declared.term.Letter.{Letter}
 use Rattle.condition.specs.declared.term.Letter.TheVariants.{P, F}
@@ -15,7 +16,7 @@ use Rattle.condition.specs.Terms.{fault, share, angle, part}
 use Rattle.condition.specs.Rules.{lent, checks, coefficient, coefficients_reply, misclosure, misclosure_figure}
 
 abbrev term : Letter → ℤ → ℤ → ℤ → ℤ → Term
-term letter value d i k = record { letter = letter; value = value; d = d; i = i; k = k }
+term letter value d i k = record { letter = Some letter; value = value; d = d; i = i; k = k }
 
 -- two terms that no check and neither answer tells apart
 pub record Alike (t u : Term) : Type 0 where

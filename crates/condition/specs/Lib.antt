@@ -2,3 +2,4 @@ pub mod Terms
 pub mod Rules
 pub mod Promise
 pub mod Sound
+pub mod Listed

@@ -1,7 +1,6 @@
 -- The promises of the two operations on one condition's lent terms: everything that each must answer and leave, for every input.
 use Rattle.std.specs.Prelude.{◌≡◌, List, ℤ, length}
-use Rattle.reply.specs.declared.Reply.{Reply}
-use Rattle.reply.specs.declared.Figure.{Figure}
+use Rattle.reply.specs.Reply.{Reply, Figure}
 use Rattle.reply.specs.Checks.{figure_reply, figure_value}
 use Rattle.reply.specs.Verdicts.{verdict_of}
 use Rattle.condition.specs.Rules.{Lent, coefficients_reply, coefficients_list, misclosure_figure}

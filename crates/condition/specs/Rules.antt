@@ -1,14 +1,12 @@
 -- The two operations on one condition's lent terms: the checks that both make, the coefficients and the misclosure.
-use Rattle.std.specs.Prelude.{Bool, not, ◌||◌, List, ℕ, ◌+◌, eqb, ltb, ℤ, pos, nat_abs, ◌-ℤ◌, ◌*ℤ◌, length, get_or}
+use Rattle.std.specs.Prelude.{Bool, not, ◌||◌, List, ℕ, ◌+◌, eqb, ltb, ℤ, pos, nat_abs, ◌-ℤ◌, ◌*ℤ◌, length, get_or, Ok}
 use Rattle.exact.specs.First.{some_below}
 use Rattle.exact.specs.Circle.{C}
 use Rattle.exact.specs.Outside.{outside}
 use Rattle.exact.specs.Sum.{sum}
 use Rattle.exact.specs.Tabulate.{tabulate}
 use Rattle.reply.specs.declared.Refusal.TheVariants.{Malformed, Count, OutOfRange, Coefficient, Misclosure}
-use Rattle.reply.specs.declared.Reply.{Reply}
-use Rattle.reply.specs.declared.Reply.TheVariants.{Accepted}
-use Rattle.reply.specs.declared.Figure.{Figure}
+use Rattle.reply.specs.Reply.{Reply, Figure}
 use Rattle.reply.specs.Checks.{refuse_if, ◌and_then◌, in_turn, leaves, figure_of}
 use Rattle.direction.specs.Ranges.{directions_reply}
 use Rattle.condition.specs.declared.Kind.{Kind}
@@ -69,7 +67,7 @@ target_fault target = outside (pos 0) (pos 12 *ℤ C) target
 
 abbrev pub target_check : Kind → ℤ → Reply
 target_check Angle target = refuse_if (target_fault target) (OutOfRange 0)
-target_check Side target = Accepted
+target_check Side target = Ok tt
 
 -- one term: "1 for a kind that doesn't fit and 3 for a range or i = k (place: its ordinal [..])"
 abbrev pub term_check : Kind → ℤ → ℕ → Term → Reply

@@ -1,7 +1,7 @@
 -- What the checks leave of the numbers that they accept: the bounds that the steps after them ask.
-use Rattle.std.specs.Prelude.{◌≡◌, List, ℕ, ◌<◌, ◌≤◌, ℤ, pos, nat_abs, length, ◌≤ℤ◌}
+use Rattle.std.specs.Prelude.{◌≡◌, List, ℕ, ◌<◌, ◌≤◌, ℤ, pos, nat_abs, length, ◌≤ℤ◌, Option, Some, None}
 use Rattle.condition.specs.declared.term.Letter.{Letter}
-use Rattle.condition.specs.declared.term.Letter.TheVariants.{P, F, L, R, Unknown}
+use Rattle.condition.specs.declared.term.Letter.TheVariants.{P, F, L, R}
 use Rattle.condition.specs.declared.term.Term.{Term}
 
 -- z is a direction number, from 0 to m
@@ -18,12 +18,12 @@ pub record SideTerm (m : ℕ) (t : Term) : Type 0 where
   pub d : nat_abs t.d ≤ 2000
   pub ends : Ends m t
 
-abbrev pub SoundOf : Letter → ℕ → Term → Type 0
-SoundOf P m t = Ends m t
-SoundOf F m t = nat_abs t.value ≤ 1296000000
-SoundOf L m t = SideTerm m t
-SoundOf R m t = SideTerm m t
-SoundOf Unknown m t = Unit {0}
+abbrev pub SoundOf : Option Letter → ℕ → Term → Type 0
+SoundOf (Some P) m t = Ends m t
+SoundOf (Some F) m t = nat_abs t.value ≤ 1296000000
+SoundOf (Some L) m t = SideTerm m t
+SoundOf (Some R) m t = SideTerm m t
+SoundOf None m t = Unit {0}
 
 -- a term that the checks accept among m directions
 abbrev pub Sound : ℕ → Term → Type 0

@@ -1,32 +1,32 @@
 -- One term of a condition: its kind, the ranges of its fields, what it adds to the coefficients and what it adds to w.
-use Rattle.std.specs.Prelude.{Bool, true, false, not, cond, ◌&&◌, ◌||◌, List, ℕ, zero, suc, eqb, ℤ, pos, neg_ℤ, nat_abs, ◌+ℤ◌, ◌-ℤ◌, get_or}
+use Rattle.std.specs.Prelude.{Bool, true, false, not, cond, ◌&&◌, ◌||◌, List, ℕ, zero, suc, eqb, ℤ, pos, neg_ℤ, nat_abs, ◌+ℤ◌, ◌-ℤ◌, get_or, Option, Some, None}
 use Rattle.exact.specs.Circle.{C, modulo}
 use Rattle.exact.specs.Outside.{outside}
 use Rattle.exact.specs.Same.{same}
 use Rattle.condition.specs.declared.Kind.{Kind}
 use Rattle.condition.specs.declared.Kind.TheVariants.{Angle, Side}
 use Rattle.condition.specs.declared.term.Letter.{Letter}
-use Rattle.condition.specs.declared.term.Letter.TheVariants.{P, F, L, R, Unknown}
+use Rattle.condition.specs.declared.term.Letter.TheVariants.{P, F, L, R}
 use Rattle.condition.specs.declared.term.Term.{Term}
 
 -- ---- the kind of a term
 -- "Under A: P i k, and F fixed angle [..]. Under S: L or R, logarithm, d, i, k." A kind is lent as the code of its letter: P is 80, F 70,
 -- L 76 and R 82; any other number is no kind
-unfoldable pub letter_of : ℤ → Letter
+unfoldable pub letter_of : ℤ → Option Letter
 letter_of code =
-    cond (same code (pos 80)) P (cond (same code (pos 70)) F (cond (same code (pos 76)) L (cond (same code (pos 82)) R Unknown)))
+    cond (same code (pos 80)) (Some P) (cond (same code (pos 70)) (Some F) (cond (same code (pos 76)) (Some L) (cond (same code (pos 82)) (Some R) None)))
 
-abbrev pub suits : Kind → Letter → Bool
-suits Angle P = true
-suits Angle F = true
-suits Angle L = false
-suits Angle R = false
-suits Angle Unknown = false
-suits Side P = false
-suits Side F = false
-suits Side L = true
-suits Side R = true
-suits Side Unknown = false
+abbrev pub suits : Kind → Option Letter → Bool
+suits Angle (Some P) = true
+suits Angle (Some F) = true
+suits Angle (Some L) = false
+suits Angle (Some R) = false
+suits Angle None = false
+suits Side (Some P) = false
+suits Side (Some F) = false
+suits Side (Some L) = true
+suits Side (Some R) = true
+suits Side None = false
 
 -- ---- the ranges of its fields; a field that the kind doesn't use is not read
 -- "i and k run from 0 to m."
@@ -45,12 +45,12 @@ side_fault m t =
     || astray m t
     || (same t.i t.k && not (fixed_length t))
 
-abbrev pub fault_of : Letter → ℤ → Term → Bool
-fault_of P m t = astray m t || same t.i t.k
-fault_of F m t = outside (pos 0) (C -ℤ pos 1) t.value
-fault_of L m t = side_fault m t
-fault_of R m t = side_fault m t
-fault_of Unknown m t = false
+abbrev pub fault_of : Option Letter → ℤ → Term → Bool
+fault_of (Some P) m t = astray m t || same t.i t.k
+fault_of (Some F) m t = outside (pos 0) (C -ℤ pos 1) t.value
+fault_of (Some L) m t = side_fault m t
+fault_of (Some R) m t = side_fault m t
+fault_of None m t = false
 
 abbrev pub fault : ℤ → Term → Bool
 fault m t = fault_of t.letter m t
@@ -69,12 +69,12 @@ abbrev pub turned : ℤ → Term → ℕ → ℤ
 turned x t h = placed (nat_abs t.i) (neg_ℤ x) h +ℤ placed (nat_abs t.k) x h
 
 -- An angle "adds -100 to the coefficient of i and +100 to that of k". A side term "on the left [..] adds -d to i and +d to k; on the right the reverse"
-abbrev pub share_of : Letter → Term → ℕ → ℤ
-share_of P t h = turned (pos 100) t h
-share_of F t h = pos 0
-share_of L t h = turned t.d t h
-share_of R t h = turned (neg_ℤ t.d) t h
-share_of Unknown t h = pos 0
+abbrev pub share_of : Option Letter → Term → ℕ → ℤ
+share_of (Some P) t h = turned (pos 100) t h
+share_of (Some F) t h = pos 0
+share_of (Some L) t h = turned t.d t h
+share_of (Some R) t h = turned (neg_ℤ t.d) t h
+share_of None t h = pos 0
 
 unfoldable pub share : Term → ℕ → ℤ
 share t h = share_of t.letter t h
@@ -90,12 +90,12 @@ unfoldable pub angle : List ℤ → Term → ℤ
 angle directions t = modulo (direction_at directions (nat_abs t.k) -ℤ direction_at directions (nat_abs t.i)) C
 
 -- an angle, a fixed angle, a left logarithm, a right one with its sign turned
-abbrev pub part_of : Letter → List ℤ → Term → ℤ
-part_of P directions t = angle directions t
-part_of F directions t = t.value
-part_of L directions t = t.value
-part_of R directions t = neg_ℤ t.value
-part_of Unknown directions t = pos 0
+abbrev pub part_of : Option Letter → List ℤ → Term → ℤ
+part_of (Some P) directions t = angle directions t
+part_of (Some F) directions t = t.value
+part_of (Some L) directions t = t.value
+part_of (Some R) directions t = neg_ℤ t.value
+part_of None directions t = pos 0
 
 unfoldable pub part : List ℤ → Term → ℤ
 part directions t = part_of t.letter directions t

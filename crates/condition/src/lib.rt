@@ -7,15 +7,17 @@ ghost use Rattle.condition.specs.Promise.{Coefficients, Misclosed};
 ghost use Rattle.condition.specs.Terms.{term_fault};
 
 use crate::term::Term;
-use reply::{Figure, Refusal, Reply};
+use crate::terms::Terms;
+use reply::Refusal;
 
 mod checks;
 mod closing;
 mod tally;
 mod term;
+mod terms;
 
 // The kind of a condition. An angle condition has a target; a side condition has none.
-#[derive(Clone, Copy)]
+#[derive(Clone, Copy, Debug, PartialEq, Eq)]
 pub enum Kind {
     Angle,
     Side,
@@ -34,27 +36,32 @@ pub fn coefficients(
     i: &[i64],
     k: &[i64],
     a: &mut [i64],
-) -> Reply
+) -> Result<(), Refusal>
     ensures { Coefficients
         (lent directions.now q.now kind target
         kinds.now values.now d.now i.now k.now)
         a.old result a.new }
 {
     if a.len() != directions.len() {
-        return Reply::Refused(Refusal::Count(0));
+        return Err(Refusal::Count(0));
     }
-    let checked = checks::all(directions, q, kind, target, kinds, values, d, i, k);
-    match checked {
-        Reply::Accepted => {}
-        Reply::Refused(why) => return Reply::Refused(why),
+    checks::all(directions, q, kind, target, kinds, values, d, i, k)?;
+    let terms = Terms {
+        kinds,
+        values,
+        d,
+        i,
+        k,
+    };
+    let mut tally = [0; 65];
+    tally::add_terms(&mut tally, terms);
+    // Number 0 is the fixed initial, and what it gets is dropped.
+    let found = &tally[1..=directions.len()];
+    if tally::beyond(found) {
+        return Err(Refusal::Coefficient(1));
     }
-    let mut tally = [0i64; 65];
-    tally::add_terms(&mut tally, kinds, values, d, i, k);
-    if tally::beyond(&tally, directions.len()) {
-        return Reply::Refused(Refusal::Coefficient(1));
-    }
-    tally::hand_over(&tally, a);
-    Reply::Accepted
+    a.copy_from_slice(found);
+    Ok(())
 }
 
 // The largest target of an angle condition.
@@ -68,14 +75,15 @@ pub fn target_fault(target: i64) -> bool
 }
 
 // Whether a term with this letter, in a net of m directions, has a number out of range, or i = k where that is not allowed.
+// The letter as the file has it: `Letter` is this crate's own, and a code that is none is no fault here.
+#[tactic(auto, unfolding(crate::specs::Terms::term_fault))]
 pub fn term_fault(m: i64, letter: u8, value: i64, d: i64, i: i64, k: i64) -> bool
     ensures { result ≡ term_fault m letter value d i k }
 {
-    let letter = term::read(letter as i64);
     term::fault(
         m,
         Term {
-            letter,
+            letter: term::read(i64::from(letter)),
             value,
             d,
             i,
@@ -95,17 +103,20 @@ pub fn misclosure(
     d: &[i64],
     i: &[i64],
     k: &[i64],
-) -> Figure
+) -> Result<i64, Refusal>
     ensures { Misclosed
         (lent directions.now q.now kind target
         kinds.now values.now d.now i.now k.now) result }
 {
-    let checked = checks::all(directions, q, kind, target, kinds, values, d, i, k);
-    match checked {
-        Reply::Accepted => {}
-        Reply::Refused(why) => return Figure::Refused(why),
-    }
-    let total = closing::total(directions, kinds, values, d, i, k);
+    checks::all(directions, q, kind, target, kinds, values, d, i, k)?;
+    let terms = Terms {
+        kinds,
+        values,
+        d,
+        i,
+        k,
+    };
+    let total = closing::total(directions, terms);
     match kind {
         Kind::Angle => closing::judged(total - target),
         Kind::Side => closing::judged(100 * total),

@@ -1,11 +1,11 @@
-// One term of a condition: read from the field lists, and checked.
-ghost use Rattle.std.specs.Prelude.{◌≡◌, ◌<◌, length};
-ghost use Rattle.condition.specs.Terms.{letter_of, suits, astray, side_fault, fault};
-ghost use Rattle.condition.specs.Rules.{term_at, term_check};
-ghost use Rattle.condition.specs.Sound.{Fields};
+// One term of a condition, and its checks.
+ghost use Rattle.std.specs.Prelude.{◌≡◌, ◌&&◌, not};
+ghost use Rattle.exact.specs.Same.{same};
+ghost use Rattle.condition.specs.Terms.{letter_of, suits, astray, fixed_length, side_fault, fault};
+ghost use Rattle.condition.specs.Rules.{term_check};
 
 use crate::Kind;
-use reply::{Refusal, Reply};
+use reply::Refusal;
 
 // The codes of the letters by which kinds of terms are lent.
 const P: i64 = b'P' as i64;
@@ -17,151 +17,104 @@ const L: i64 = b'L' as i64;
 const R: i64 = b'R' as i64;
 
 // The kind of a term, by its letter in the network file: an angle, a fixed angle, a left and a right side term.
-#[derive(Clone, Copy)]
+#[derive(Clone, Copy, Debug, PartialEq, Eq)]
 pub enum Letter {
     P,
     F,
     L,
     R,
-    Unknown,
 }
 
-#[derive(Clone, Copy)]
+// A term that has no letter suits no condition.
+#[derive(Clone, Copy, Debug, PartialEq, Eq)]
 pub struct Term {
-    pub letter: Letter,
+    pub letter: Option<Letter>,
     pub value: i64,
     pub d: i64,
     pub i: i64,
     pub k: i64,
 }
 
+// A match and no TryFrom: a code that is no letter is no error, and None is what a term then has.
 // The kind of a term, by the code of its letter.
-pub fn read(code: i64) -> Letter
+#[tactic(auto, unfolding(crate::specs::Terms::letter_of))]
+pub fn read(code: i64) -> Option<Letter>
     ensures { result ≡ letter_of code }
 {
-    if code == P {
-        return Letter::P;
-    }
-    if code == F {
-        return Letter::F;
-    }
-    if code == L {
-        return Letter::L;
-    }
-    if code == R {
-        return Letter::R;
-    }
-    Letter::Unknown
-}
-
-// The term at place j of the field lists.
-pub fn at(kinds: &[i64], values: &[i64], d: &[i64], i: &[i64], k: &[i64], j: usize) -> Term
-    requires lists { Fields kinds.now values.now d.now i.now k.now }
-    requires place { j < length kinds.now }
-    ensures { result ≡ term_at kinds.now values.now d.now i.now k.now j }
-{
-    let letter = read(kinds[j]);
-    Term {
-        letter,
-        value: values[j],
-        d: d[j],
-        i: i[j],
-        k: k[j],
+    match code {
+        P => Some(Letter::P),
+        F => Some(Letter::F),
+        L => Some(Letter::L),
+        R => Some(Letter::R),
+        _ => None,
     }
 }
 
 // Whether a kind of term belongs under a kind of condition.
-pub fn suits(kind: Kind, letter: Letter) -> bool
+pub fn suits(kind: Kind, letter: Option<Letter>) -> bool
     ensures { result ≡ suits kind letter }
 {
-    match kind {
-        Kind::Angle => match letter {
-            Letter::P => true,
-            Letter::F => true,
-            Letter::L => false,
-            Letter::R => false,
-            Letter::Unknown => false,
-        },
-        Kind::Side => match letter {
-            Letter::P => false,
-            Letter::F => false,
-            Letter::L => true,
-            Letter::R => true,
-            Letter::Unknown => false,
-        },
-    }
+    matches!(
+        (kind, letter),
+        (Kind::Angle, Some(Letter::P | Letter::F)) | (Kind::Side, Some(Letter::L | Letter::R))
+    )
 }
 
 // Whether i or k is no direction number, from 0 to m.
 fn astray(m: i64, t: Term) -> bool
     ensures { result ≡ astray m t }
 {
-    let i = t.i;
-    if exact::outside(0, m, i) {
-        return true;
-    }
-    let k = t.k;
-    exact::outside(0, m, k)
+    exact::outside(0, m, t.i) || exact::outside(0, m, t.k)
+}
+
+// Whether a term's i, k and d are those of a fixed length.
+#[tactic(auto, using(exact::proofs::Sameness::bits_test, exact::proofs::Sameness::bits_other))]
+fn fixed_length(t: Term) -> bool
+    ensures { result ≡ fixed_length t }
+{
+    t.i == 0 && t.k == 0 && t.d == 0
+}
+
+// Whether i = k where it is no fixed length.
+#[tactic(auto, using(exact::proofs::Sameness::bits_same, exact::proofs::Sameness::bits_other))]
+fn no_angle(t: Term) -> bool
+    ensures { result ≡ (same t.i t.k && not (fixed_length t)) }
+{
+    t.i == t.k && !fixed_length(t)
 }
 
 // Whether a side term has a number out of range, or i = k where it is no fixed length.
 fn side_fault(m: i64, t: Term) -> bool
     ensures { result ≡ side_fault m t }
 {
-    let value = t.value;
-    let d = t.d;
-    let i = t.i;
-    let k = t.k;
-    if exact::outside(0, 200_000_000, value) {
-        return true;
-    }
-    if exact::outside(-2000, 2000, d) {
-        return true;
-    }
-    if astray(m, t) {
-        return true;
-    }
-    if i != k {
-        return false;
-    }
-    if i != 0 {
-        return true;
-    }
-    d != 0
+    exact::outside(0, 200_000_000, t.value)
+        || exact::outside(-2000, 2000, t.d)
+        || astray(m, t)
+        || no_angle(t)
 }
 
 // Whether a term has a number out of range, or i = k where that is not allowed. Only the fields of its kind are read.
+#[tactic(auto, using(exact::proofs::Sameness::bits_test))]
 pub fn fault(m: i64, t: Term) -> bool
     ensures { result ≡ fault m t }
 {
-    let letter = t.letter;
-    match letter {
-        Letter::P => {
-            if astray(m, t) {
-                return true;
-            }
-            t.i == t.k
-        }
-        Letter::F => {
-            let value = t.value;
-            exact::outside(0, direction::LAST, value)
-        }
-        Letter::L => side_fault(m, t),
-        Letter::R => side_fault(m, t),
-        Letter::Unknown => false,
+    match t.letter {
+        Some(Letter::P) => astray(m, t) || t.i == t.k,
+        Some(Letter::F) => exact::outside(0, direction::LAST, t.value),
+        Some(Letter::L | Letter::R) => side_fault(m, t),
+        None => false,
     }
 }
 
 // The check of one term: its kind first, then its numbers.
-pub fn check(kind: Kind, m: i64, ordinal: u64, t: Term) -> Reply
+pub fn check(kind: Kind, m: i64, ordinal: u64, t: Term) -> Result<(), Refusal>
     ensures { result ≡ term_check kind m ordinal t }
 {
-    let letter = t.letter;
-    if !suits(kind, letter) {
-        return Reply::Refused(Refusal::Malformed(ordinal));
+    if !suits(kind, t.letter) {
+        return Err(Refusal::Malformed(ordinal));
     }
     if fault(m, t) {
-        return Reply::Refused(Refusal::OutOfRange(ordinal));
+        return Err(Refusal::OutOfRange(ordinal));
     }
-    Reply::Accepted
+    Ok(())
 }

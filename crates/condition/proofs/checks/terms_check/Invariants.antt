@@ -1,13 +1,8 @@
--- `condition::checks::terms_check` meets its contract: the terms passed are accepted in turn. Assumes nothing.
-use mathlib.Core.Path.{◌≡◌}
-use Prim.Native.Nat.{◌-◌, ◌≤◌}
-use lib.ListN.{length}
-use Rattle.reply.specs.declared.Reply.TheVariants.{Accepted}
-use Rattle.condition.specs.Rules.{terms_check, term_at}
+-- `condition::checks::terms_check`: the terms before the one it is at are accepted.
+use Rattle.std.specs.Prelude.{◌≡◌, Ok}
+use Rattle.condition.specs.Rules.{terms_check}
+use Rattle.condition.specs.Listed.{listed}
 use Rattle.condition.proofs.checks.terms_check.Given as goal
 
 abbrev pub invariant-loop-j : goal.invariant-loop-j
-invariant-loop-j l = (l.j ≤ length l.kinds) × (terms_check l.kind l.m l.j (term_at l.kinds l.values l.d l.i l.k) ≡ Accepted)
-
-abbrev pub decreases-loop-j : goal.decreases-loop-j
-decreases-loop-j l = length l.kinds - l.j
+invariant-loop-j l = terms_check l.kind l.m l.j (listed l.terms) ≡ Ok tt

@@ -1,82 +1,34 @@
--- `condition::closing::total` meets its contract: after j turns the sum is that of the first j terms. Assumes nothing.
-use mathlib.Core.Path.{◌≡◌, sym, ◌∙◌, ap, subst}
-use mathlib.Core.List.{List}
-use Prim.Native.Nat.{ℕ}
-use native.Mathlib.Omega.{arith}
-use lib.IntN.{ℤ, ◌+ℤ◌}
-use lib.ListN.{length}
-use mir.Syntax.{w64}
-use mir.Val.{SFits, to_z, of_z}
+-- `condition::closing::total`: the terms passed are summed, and their sum is small.
+use Rattle.std.proofs.Common.{◌≡◌, ℕ, ◌+◌, ◌≤◌, ℤ, ◌+ℤ◌, arith, rules}
+use Rattle.std.specs.Prelude.{nat_abs}
+use Rattle.std.proofs.lemmas.Int.{ints}
 use Rattle.exact.specs.Sum.{sum}
-use Rattle.exact.proofs.Bound.{bounds, bounded, fits_in, fits_of_mag, read}
-use Rattle.exact.proofs.Sum.{sum_none, sum_more}
-use Rattle.condition.specs.declared.term.Term.{Term}
+use Rattle.exact.proofs.Sum.{sum_more}
 use Rattle.condition.specs.Terms.{part}
-use Rattle.condition.specs.Rules.{term_at}
-use Rattle.condition.specs.Sound.{Sound}
-use Rattle.condition.proofs.Parts.{part_size, total_size}
+use Rattle.condition.specs.Listed.{listed}
+use Rattle.condition.proofs.Parts.{total_size}
 use Rattle.condition.proofs.closing.total.Goals as goal
-use Rattle.condition.proofs.closing.total.Goals.{After-part-so_far, Start}
+use Rattle.condition.proofs.closing.total.Goals.{After-part-total}
 
-pub loop-j-init : goal.loop-j-init
-loop-j-init c = (omega arith, sym (sum_none _))
+module _ (c : After-part-total) where
+  -- what a term adds
+  abbrev adds : ℕ → ℤ
+  adds j = let a = c.args in part a.directions.now (listed a.terms j)
 
-pub at-t-requires : goal.at-t-requires
-at-t-requires c = record {
-  lists = c.requires.lists;
-  place = omega arith;
-}
+  one : c.part-total.result ≡ adds c.loop-j.j
+  one = rw (← c.at.ensures) c.part-total.ensures
 
--- ---- what is lent
-module _ (c : Start) where
-  abbrev directions : List ℤ
-  directions = c.args.directions.now
+  so_far : c.loop-j.total ≡ sum c.loop-j.j adds
+  so_far = search rules
 
-  abbrev term : ℕ → Term
-  term = let a = c.args in term_at a.kinds.now a.values.now a.d.now a.i.now a.k.now
+  next : c.loop-j.total +ℤ c.part-total.result ≡ sum (c.loop-j.j + 1) adds
+  next = rw (sum_more, ← one) (λ d. so_far d +ℤ c.part-total.result)
 
-pub part-so_far-requires : goal.part-so_far-requires
-part-so_far-requires c =
-    let s = c.before.before.before in
-    record {
-      term = subst (λ (t : Term). Sound (length (directions s)) t) (sym c.at-t.ensures) (s.requires.terms c.loop-j.j (omega arith));
-      small = s.requires.small;
-    }
+  small : nat_abs (c.loop-j.total +ℤ c.part-total.result) ≤ 15552000000
+  small = rw next (total_size c.args.directions.now _ (c.loop-j.j + 1) _ (omega (arith, c.args.terms.lists.few)) (λ i l. c.requires.sound i (omega arith)))
 
--- ---- a turn
-module _ (c : After-part-so_far) where
-  abbrev s : Start
-  s = c.before.before.before.before
-
-  abbrev j : ℕ
-  j = c.loop-j.j
-
-  abbrev so_far : ℤ
-  so_far = sum j (λ j. part (directions s) (term s j))
-
-  abbrev one_more : ℤ
-  one_more = part (directions s) (term s j)
-
-  so_far_is : to_z w64 c.loop-j.so_far-bits ≡ so_far
-  so_far_is = c.loop-j.invariant.1
-
-  one_more_is : to_z w64 (of_z w64 c.part-so_far.result) ≡ one_more
-  one_more_is = read (fits_of_mag c.part-so_far.result c.part-so_far.type_inv) ∙ c.part-so_far.ensures ∙ ap (part (directions s)) c.at-t.ensures
-
-  fits : SFits w64 (so_far +ℤ one_more)
-  fits =
-      let x = bounded so_far (total_size (directions s) (length (directions s)) j (term s) (omega (arith, s.requires.lists.few)) (λ i l. s.requires.terms i (omega arith))) in
-      let y = bounded one_more (part_size (directions s) (term s j) (length (directions s)) (s.requires.terms j (omega arith))) in
-      fits_in (search bounds) tt
-
-pub overflow_add-so_far : goal.overflow_add-so_far
-overflow_add-so_far c = rw (so_far_is c, one_more_is c) (fits c)
+pub overflow_add-total : goal.overflow_add-total
+overflow_add-total c = omega (arith, ints, small c)
 
 pub loop-j-preserved : goal.loop-j-preserved
-loop-j-preserved c =
-    (omega arith, rw (so_far_is c, one_more_is c, read (fits c)) (sym (sum_more (j c) (λ j. part (directions (s c)) (term (s c) j)))))
-
-pub returns : goal.returns
-returns c =
-    let s = c.before.before in let e : c.loop-j.j ≡ length s.args.kinds.now = omega arith in
-    c.loop-j.invariant.1 ∙ ap (λ (n : ℕ). sum n (λ j. part (directions s) (term s j))) e
+loop-j-preserved c = let fits = overflow_add-total c in rw (← next c) (search rules)

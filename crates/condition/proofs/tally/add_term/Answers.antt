@@ -1,89 +1,14 @@
--- `condition::tally::add_term` meets its contract, kind by kind. Assumes nothing.
-use mathlib.Core.Path.{◌≡◌, sym, ◌∙◌, ap, subst}
-use Prim.Native.Nat.{ℕ}
-use native.Mathlib.Omega.{arith}
-use lib.IntN.{ℤ, pos, ◌+ℤ◌, +ℤ_idr}
-use lib.ListN.{get_or}
-use mir.Syntax.{w64}
-use mir.Val.{to_z, of_z}
-use Rattle.exact.proofs.Bound.{fits_within, read}
-use Rattle.condition.specs.declared.term.Letter.{Letter}
-use Rattle.condition.specs.declared.term.Letter.TheVariants.{P, F, L, R, Unknown}
-use Rattle.condition.specs.declared.term.Term.{Term}
-use Rattle.condition.specs.Terms.{turned, share_of, share}
-use Rattle.condition.specs.Sound.{SoundOf, SideTerm}
-use Rattle.condition.proofs.Testing.{negated_small, negated_fits, negated_read}
+-- `condition::tally::add_term`: a right side term turns the other way.
+use Rattle.std.proofs.Common.{◌≡◌, ◌≤◌, ◌-ℤ◌, pos, to_z, of_z, w64, arith, rules}
+use Rattle.std.specs.Prelude.{neg_ℤ, nat_abs}
+use Rattle.std.proofs.lemmas.Int.{ints}
+use Rattle.condition.specs.Terms.{share}
 use Rattle.condition.proofs.tally.add_term.Goals as goal
-use Rattle.condition.proofs.tally.add_term.Goals.{In-L, In-R, Start}
 
--- ---- a term of a known kind
-module _ (c : Start) where
-  abbrev t : Term
-  t = c.args.t
-
-  abbrev before : ℕ → ℤ
-  before n = get_or c.args.tally.now n (pos 0)
-
-  module _ (letter : Letter) (e : t.letter ≡ letter) where
-    sound_as : SoundOf letter 64 t
-    sound_as = subst (λ (l : Letter). SoundOf l 64 t) e c.requires.term
-
-    share_as : (n : ℕ) → before n +ℤ share_of letter t n ≡ before n +ℤ share t n
-    unfolding share
-    share_as n = ap (λ (l : Letter). before n +ℤ share_of l t n) (sym e)
-
-  d_read : SideTerm 64 t → to_z w64 (of_z w64 t.d) ≡ t.d
-  d_read s = read (fits_within t.d s.d tt)
-
-left : (c : In-L) → SideTerm 64 (t c.before.before.before)
-left c = sound_as c.before.before.before L c.in-L.is
-
-right : (c : In-R) → SideTerm 64 (t c.before.before.before)
-right c = sound_as c.before.before.before R c.in-R.is
-
-pub turn-requires : goal.turn-requires
-turn-requires c =
-    let s = c.before.before.before.before in record {
-      ends = sound_as s P c.in-P.is;
-      whole = s.requires.whole;
-      small = (s.requires.small, omega arith);
-    }
-
-pub turn-requires-in-L : goal.turn-requires-in-L
-turn-requires-in-L c =
-    let l = left (record { before = c.before.before; type_inv = record { t = c.struct_told-1.given } }) in let s = c.before.before.before.before in record {
-      ends = l.ends;
-      whole = s.requires.whole;
-      small = (s.requires.small, rw (d_read s l) l.d);
-    }
-
-pub overflow_sub-d : goal.overflow_sub-d
-overflow_sub-d c = negated_fits (t c.before.before.before.before).d (right (record { before = c.before.before; type_inv = record { t = c.struct_told-1.given } })).d tt
-
-pub turn-requires-in-R : goal.turn-requires-in-R
-turn-requires-in-R c =
-    let r = right (record { before = c.before.before; type_inv = record { t = c.struct_told-1.given } }) in let s = c.before.before.before.before in let d = (t s).d in
-    record {
-      ends = r.ends;
-      whole = s.requires.whole;
-      small = (s.requires.small, rw (negated_read d r.d tt) (negated_small d r.d));
-    }
-
-pub returns-in-P : goal.returns-in-P
-returns-in-P c n = c.turn.ensures n ∙ share_as c.before.before.before.before.before P c.in-P.is n
-
-pub returns-in-F : goal.returns-in-F
-returns-in-F c n = let s = c.before.before in sym (+ℤ_idr (before s n)) ∙ share_as s F c.in-F.is n
-
-pub returns-in-L : goal.returns-in-L
-returns-in-L c n =
-    let e : In-L = record { before = c.before.before.before; type_inv = record { t = c.struct_told-1.given } } in let s = e.before.before.before in
-    c.turn-in-L.ensures n ∙ (λ d. before s n +ℤ turned (d_read s (left e) d) (t s) n) ∙ share_as s L e.in-L.is n
-
-pub returns-in-R : goal.returns-in-R
-returns-in-R c n =
-    let e : In-R = record { before = c.before.before.before; type_inv = record { t = c.struct_told-1.given } } in let s = e.before.before.before in
-    c.turn-in-R.ensures n ∙ (λ d. before s n +ℤ turned (negated_read (t s).d (right e).d tt d) (t s) n) ∙ share_as s R e.in-R.is n
-
-pub returns-in-Unknown : goal.returns-in-Unknown
-returns-in-Unknown c n = let s = c.before.before in sym (+ℤ_idr (before s n)) ∙ share_as s Unknown c.in-Unknown.is n
+pub returns-in-Some-R : goal.returns-in-Some-R
+unfolding share
+returns-in-Some-R c n =
+    let d = c.args.t.d in
+    let small : nat_abs d ≤ 2000 = search rules in
+    let turned : to_z w64 (of_z w64 (pos 0 -ℤ to_z w64 (of_z w64 d))) ≡ neg_ℤ d = omega (arith, ints) in
+    search (rules, turned, c.turn-in-Some-R.ensures n)

