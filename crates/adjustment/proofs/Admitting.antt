@@ -1,12 +1,14 @@
--- What the input checks of a lent table reply, and leave known where they accept. Assumes nothing.
---   by_counts, by_lengths, by_directions, by_conditions      the reply of the input checks, each where those before it have accepted
+-- What the input checks of a lent table leave known where they accept. Assumes nothing.
 --   Counts, counts_known          from the counts
 --   Lengths, lengths_known        from the lengths
 --   weight_known                  the range of an inverse weight
 --   InRange, directions_known     the ranges of the directions and of q
 --   sound_table                   all that the solution needs
+--   counts_right, lengths_right, in_ranges, checked      of every lent table that passes them all
+--   told_checked                  the same of a reply that is theirs
+--   admits                        what `table::check` cites
 use mathlib.Core.Path.{◌≡◌, refl, sym, ◌∙◌, ap, subst}
-use mathlib.Core.Bool.{Bool, true, false, ◌||◌, not, cond}
+use mathlib.Core.Bool.{Bool, false, ◌||◌, not, cond}
 use mathlib.Core.List.{List, [], ◌∷◌}
 use Prim.Native.Nat.{ℕ, ◌+◌, ◌*◌, ◌≤◌, ◌<◌}
 use native.Mathlib.Omega.{arith}
@@ -20,37 +22,16 @@ use Rattle.exact.specs.Outside.{outside}
 use Rattle.exact.proofs.Linear.{unknowns, orders, one_sided}
 use Rattle.exact.proofs.Order.{lt_false}
 use Rattle.exact.proofs.Searching.{all_failed, neither}
-use Rattle.reply.specs.declared.Refusal.{Refusal}
 use Rattle.reply.specs.declared.Refusal.TheVariants.{Count, OutOfRange, Coefficient, Misclosure}
-use Rattle.reply.specs.declared.Reply.TheVariants.{Accepted, Refused}
-use Rattle.reply.proofs.Checking.{none_refused}
+use Rattle.reply.specs.Reply.{Reply}
+use Rattle.reply.specs.Checks.{refuse_if, ◌and_then◌}
+use Rattle.reply.proofs.Checking.{none_refused, both_accepted, if_accepted}
 use Rattle.direction.specs.Ranges.{weight_out_of_range, out_of_range, fault_at, directions_reply}
 use Rattle.doolittle.specs.Table.{at, table_of}
 use Rattle.adjustment.specs.Refusals.{counts_amiss, differs, lengths_amiss, coefficient_fault, misclosure_fault, conditions_reply, input_reply}
 use Rattle.doolittle.specs.Inner.{Sound}
-
--- ---- the reply; the six numbers are the lengths of the answer lists
-module _ (ds qs cs ws : List ℤ) (v u adjusted k r Q : ℕ) where
-  abbrev lengths_amiss_lem : Bool
-  lengths_amiss_lem = lengths_amiss (length ds) (length ws) (length qs) (length cs) v u adjusted k r Q
-
-  pub by_counts : counts_amiss (length ds) (length ws) ≡ true → input_reply ds qs cs ws v u adjusted k r Q ≡ Refused (Count 0)
-  unfolding input_reply
-  by_counts e = rw e
-
-  module _ (a : counts_amiss (length ds) (length ws) ≡ false) where
-    pub by_lengths : lengths_amiss_lem ≡ true → input_reply ds qs cs ws v u adjusted k r Q ≡ Refused (Count 0)
-    unfolding input_reply
-    by_lengths e = rw (a, e)
-
-    module _ (b : lengths_amiss_lem ≡ false) where
-      pub by_directions : {why : Refusal} → directions_reply ds qs ≡ Refused why → input_reply ds qs cs ws v u adjusted k r Q ≡ Refused why
-      unfolding input_reply
-      by_directions e = rw (a, b, e)
-
-      pub by_conditions : directions_reply ds qs ≡ Accepted → input_reply ds qs cs ws v u adjusted k r Q ≡ conditions_reply (table_of qs cs ws)
-      unfolding input_reply
-      by_conditions e = rw (a, b, e)
+use Rattle.std.specs.Prelude.{Ok, Err, OnOk}
+use Rattle.adjustment.specs.Inner.{Checked}
 
 -- ---- what is known where they accept
 pub record Counts (m n : ℕ) : Type 0 where
@@ -113,12 +94,12 @@ in_range d q e =
     within : (d : ℤ) → pos 0 ≤ℤ d → d ≤ℤ pos 1295999999 → nat_abs d ≤ 1296000000
     within d a b = let v = unknowns (d ∷ []) in omega (arith, orders, one_sided)
 
-pub directions_known : (ds qs : List ℤ) → directions_reply ds qs ≡ Accepted → (i : ℕ) → i < length ds → InRange (at ds i) (at qs i)
+pub directions_known : (ds qs : List ℤ) → directions_reply ds qs ≡ Ok tt → (i : ℕ) → i < length ds → InRange (at ds i) (at qs i)
 unfolding directions_reply
 directions_known ds qs e i l = in_range (at ds i) (at qs i) (none_refused (length ds) (fault_at ds qs) (λ i. OutOfRange (i + 1)) e i l)
 
 -- ---- the table
-pub sound_table : (ds qs cs ws : List ℤ) → Counts (length ds) (length ws) → length qs ≡ length ds → length cs ≡ length ws * length ds → directions_reply ds qs ≡ Accepted → conditions_reply (table_of qs cs ws) ≡ Accepted → Sound qs cs ws
+pub sound_table : (ds qs cs ws : List ℤ) → Counts (length ds) (length ws) → length qs ≡ length ds → length cs ≡ length ws * length ds → directions_reply ds qs ≡ Ok tt → conditions_reply (table_of qs cs ws) ≡ Ok tt → Sound qs cs ws
 unfolding conditions_reply coefficient_fault misclosure_fault
 sound_table ds qs cs ws c q a d e =
     let t = table_of qs cs ws in
@@ -134,3 +115,45 @@ sound_table ds qs cs ws c q a d e =
       a_most = λ j l i h. ltb-false 2000 (nat_abs (t.a j i)) (all_failed t.m (λ i. ltb 2000 (nat_abs (t.a j i))) (sound j l).0 i h);
       w_most = λ j l. ltb-false 1000000 (nat_abs (t.w j)) (sound j l).1;
     }
+
+-- ---- of every lent table that passes them all; the six numbers are the lengths of the answer lists
+module _ (ds qs cs ws : List ℤ) (v u adjusted k r Q : ℕ) (passed : input_reply ds qs cs ws v u adjusted k r Q ≡ Ok tt) where
+  abbrev amiss : Bool
+  amiss = lengths_amiss (length ds) (length ws) (length qs) (length cs) v u adjusted k r Q
+
+  abbrev by_tables : Reply
+  by_tables = directions_reply ds qs and_then conditions_reply (table_of qs cs ws)
+
+  counted : (refuse_if (counts_amiss (length ds) (length ws)) (Count 0) ≡ Ok tt) × ((refuse_if amiss (Count 0) and_then by_tables) ≡ Ok tt)
+  unfolding input_reply
+  counted = both_accepted (refuse_if (counts_amiss (length ds) (length ws)) (Count 0)) (refuse_if amiss (Count 0) and_then by_tables) passed
+
+  measured : (refuse_if amiss (Count 0) ≡ Ok tt) × (by_tables ≡ Ok tt)
+  measured = both_accepted (refuse_if amiss (Count 0)) by_tables counted.1
+
+  pub counts_right : counts_amiss (length ds) (length ws) ≡ false
+  counts_right = if_accepted (counts_amiss (length ds) (length ws)) (Count 0) counted.0
+
+  pub lengths_right : Lengths (length ds) (length ws) (length qs) (length cs) v u adjusted k r Q
+  lengths_right = lengths_known (length ds) (length ws) (length qs) (length cs) v u adjusted k r Q (if_accepted amiss (Count 0) measured.0)
+
+  pub in_ranges : (directions_reply ds qs ≡ Ok tt) × (conditions_reply (table_of qs cs ws) ≡ Ok tt)
+  in_ranges = both_accepted (directions_reply ds qs) (conditions_reply (table_of qs cs ws)) measured.1
+
+  pub checked : Checked ds qs cs ws v u adjusted k r Q
+  checked =
+      let l = lengths_right in let q = sym l.of_q in
+      record {
+        sound = sound_table ds qs cs ws (counts_known (length ds) (length ws) counts_right) l.of_q l.of_a in_ranges.0 in_ranges.1;
+        directions = q;
+        in_circle = λ i h. (directions_known ds qs in_ranges.0 i (omega (arith, l.of_q))).size;
+        by_direction = (l.by_direction.0 ∙ q, l.by_direction.1 ∙ q, l.by_direction.2 ∙ q);
+        by_condition = l.by_condition;
+      }
+
+pub told_checked : (ds qs cs ws : List ℤ) (v u adjusted k r Q : ℕ) (reply : Reply) → reply ≡ input_reply ds qs cs ws v u adjusted k r Q → OnOk reply (Checked ds qs cs ws v u adjusted k r Q)
+told_checked ds qs cs ws v u adjusted k r Q (Ok _) e = checked ds qs cs ws v u adjusted k r Q (sym e)
+told_checked ds qs cs ws v u adjusted k r Q (Err why) e = tt
+
+-- what `table::check` cites
+pub ruleset admits = (counts_known, lengths_known, told_checked)

@@ -12,14 +12,14 @@ use Rattle.exact.specs.Circle.{floor, modulo}
 use Rattle.exact.specs.First.{first}
 use Rattle.exact.specs.Tabulate.{tabulate}
 use Rattle.reply.specs.declared.Refusal.TheVariants.{WeakRow, Correlate, Remainder}
-use Rattle.reply.specs.declared.Reply.{Reply}
-use Rattle.reply.specs.declared.Reply.TheVariants.{Accepted, Refused}
+use Rattle.reply.specs.Reply.{Reply}
 use Rattle.direction.specs.Ranges.{directions_reply}
 use Rattle.doolittle.specs.Table.{Table, at, table_of}
 use Rattle.doolittle.specs.Solution.{N, reduced, D, L, M, weak_row, weak, back, K}
 use Rattle.adjustment.specs.Corrections.{V_of, R_of, u_of, adjusted_of, Q_of}
 use Rattle.adjustment.specs.Refusals.{counts_amiss, differs, lengths_amiss, coefficient_fault, misclosure_fault, conditions_reply, rows_reply, correlates_reply, remainders_reply, corrections_reply, solution_reply, input_reply}
 use Rattle.adjustment.specs.Promise.{Answers, lists, adjust_reply, answers_of}
+use Rattle.std.specs.Prelude.{Ok, Err}
 
 -- a whole number below 0
 abbrev minus : ℕ → ℤ
@@ -61,7 +61,7 @@ abbrev pub figure1 : Figure
 figure1 = record { m = 3; q = 1; coefficients = minus 306 ∷ pos 694 ∷ minus 1058 ∷ []; misclosures = minus 79200 ∷ [] }
 
 pub figure_1 :
-    (reply_to figure1 ≡ Accepted)
+    (reply_to figure1 ≡ Ok tt)
     × (N (table_in figure1) 0 0 ≡ pos 1694636)
     × (K_in figure1 ≡ pos 467357 ∷ [])
     × (R_in figure1 ≡ minus 2948 ∷ [])
@@ -74,7 +74,7 @@ abbrev pub figure2 : Figure
 figure2 = record { m = 4; q = 1; coefficients = minus 100 ∷ pos 100 ∷ minus 100 ∷ pos 100 ∷ []; misclosures = pos 9300 ∷ [] }
 
 pub figure_2 :
-    (reply_to figure2 ≡ Accepted)
+    (reply_to figure2 ≡ Ok tt)
     × (K_in figure2 ≡ minus 2325000 ∷ [])
     × (u_in figure2 ≡ pos 2325 ∷ minus 2325 ∷ pos 2325 ∷ minus 2325 ∷ [])
     × (R_in figure2 ≡ pos 0 ∷ [])
@@ -85,7 +85,7 @@ figure_2 = (refl, refl, refl, refl)
 abbrev pub figure4 : ℤ → ℤ → Figure
 figure4 w w' = record { m = 2; q = 1; coefficients = replicate 4 (pos 100); misclosures = w ∷ w' ∷ [] }
 
-pub figure_4 : (reply_to (figure4 (pos 500) (pos 500)) ≡ Refused (WeakRow 2)) × (reply_to (figure4 (pos 500) (minus 500)) ≡ Refused (WeakRow 2))
+pub figure_4 : (reply_to (figure4 (pos 500) (pos 500)) ≡ Err (WeakRow 2)) × (reply_to (figure4 (pos 500) (minus 500)) ≡ Err (WeakRow 2))
 unfolding sum nearest first tabulate directions_reply N reduced D L M weak_row weak back K V_of R_of u_of Q_of counts_amiss differs lengths_amiss coefficient_fault misclosure_fault conditions_reply rows_reply correlates_reply remainders_reply corrections_reply solution_reply input_reply adjust_reply
 figure_4 = (refl, refl)
 
@@ -98,26 +98,26 @@ abbrev pub zeros : Answers
 zeros = let zero = pos 0 ∷ [] in lists zero zero zero zero zero zero
 
 pub figure_5 :
-    (reply_to (single (pos 10) (pos 1000)) ≡ Accepted)
+    (reply_to (single (pos 10) (pos 1000)) ≡ Ok tt)
     × (K_in (single (pos 10) (pos 1000)) ≡ minus 100000000 ∷ [])
-    × (reply_to (single (pos 10) (pos 1001)) ≡ Refused (Correlate 1))
+    × (reply_to (single (pos 10) (pos 1001)) ≡ Err (Correlate 1))
 unfolding sum nearest first tabulate directions_reply N reduced D L M weak_row weak back K V_of R_of u_of Q_of counts_amiss differs lengths_amiss coefficient_fault misclosure_fault conditions_reply rows_reply correlates_reply remainders_reply corrections_reply solution_reply input_reply adjust_reply
 figure_5 = (refl, refl, refl)
 
-pub figure_6 : (reply_to (single (pos 9) (pos 0)) ≡ Accepted) × (answers_in (single (pos 9) (pos 0)) ≡ zeros)
+pub figure_6 : (reply_to (single (pos 9) (pos 0)) ≡ Ok tt) × (answers_in (single (pos 9) (pos 0)) ≡ zeros)
 unfolding sum nearest first tabulate directions_reply N reduced D L M weak_row weak back K V_of R_of u_of floor modulo adjusted_of Q_of counts_amiss differs lengths_amiss coefficient_fault misclosure_fault conditions_reply rows_reply correlates_reply remainders_reply corrections_reply solution_reply input_reply adjust_reply
 figure_6 = (refl, refl)
 
 abbrev pub figure7 : Figure
 figure7 = record { m = 4; q = 10; coefficients = replicate 4 (pos 2000); misclosures = pos 200 ∷ [] }
 
-pub figure_7 : (reply_to figure7 ≡ Refused (Remainder 1)) × (K_in figure7 ≡ minus 13 ∷ []) × (R_in figure7 ≡ minus 80000000 ∷ [])
+pub figure_7 : (reply_to figure7 ≡ Err (Remainder 1)) × (K_in figure7 ≡ minus 13 ∷ []) × (R_in figure7 ≡ minus 80000000 ∷ [])
 unfolding sum nearest first tabulate directions_reply N reduced D L M weak_row weak back K V_of R_of u_of Q_of counts_amiss differs lengths_amiss coefficient_fault misclosure_fault conditions_reply rows_reply correlates_reply remainders_reply corrections_reply solution_reply input_reply adjust_reply
 figure_7 = (refl, refl, refl)
 
 abbrev pub figure8 : Figure
 figure8 = record { m = 10; q = 10; coefficients = replicate 10 (pos 1000); misclosures = pos 5 ∷ [] }
 
-pub figure_8 : (reply_to figure8 ≡ Accepted) × (K_in figure8 ≡ minus 1 ∷ []) × (R_in figure8 ≡ minus 50000000 ∷ [])
+pub figure_8 : (reply_to figure8 ≡ Ok tt) × (K_in figure8 ≡ minus 1 ∷ []) × (R_in figure8 ≡ minus 50000000 ∷ [])
 unfolding sum nearest first tabulate directions_reply N reduced D L M weak_row weak back K V_of R_of u_of Q_of counts_amiss differs lengths_amiss coefficient_fault misclosure_fault conditions_reply rows_reply correlates_reply remainders_reply corrections_reply solution_reply input_reply adjust_reply
 figure_8 = (refl, refl, refl)

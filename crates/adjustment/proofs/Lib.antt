@@ -1,8 +1,10 @@
+pub mod Rows
 pub mod Figures
 pub mod Telling
 pub mod Demands
 pub mod Solving
 pub mod Answering
+pub mod Finding
 pub mod Admitting
 pub mod Promising
 pub mod Lone

@@ -12,22 +12,22 @@ use lib.IntN.{ℤ, pos}
 use lib.Signed.{◌<ℤ◌}
 use Rattle.exact.proofs.Searching.{failed_none, failed_more}
 use Rattle.reply.specs.declared.Refusal.TheVariants.{WeakRow}
-use Rattle.reply.specs.declared.Reply.TheVariants.{Accepted, Refused}
 use Rattle.doolittle.specs.Table.{Table, table_of}
 use Rattle.doolittle.specs.Solution.{weak}
 use Rattle.doolittle.proofs.Multiple.{Multiple, Heavy, multiple_weak}
 use Rattle.adjustment.specs.Promise.{Answers, adjust_reply}
 use Rattle.adjustment.proofs.Promising.{input, passed_sound, passed_solved}
 use Rattle.adjustment.proofs.Solving.{first_weak}
+use Rattle.std.specs.Prelude.{Ok, Err}
 
-module _ (ds qs cs ws : List ℤ) (lent : Answers) (passed : input ds qs cs ws lent ≡ Accepted) (two : 1 < length ws) where
+module _ (ds qs cs ws : List ℤ) (lent : Answers) (passed : input ds qs cs ws lent ≡ Ok tt) (two : 1 < length ws) where
   abbrev t : Table
   t = table_of qs cs ws
 
-  pub multiple_table : (c d : ℤ) → pos 0 <ℤ c → Multiple t c d → Heavy t → (adjust_reply ds qs cs ws lent ≡ Refused (WeakRow 1)) ⊎ (adjust_reply ds qs cs ws lent ≡ Refused (WeakRow 2))
+  pub multiple_table : (c d : ℤ) → pos 0 <ℤ c → Multiple t c d → Heavy t → (adjust_reply ds qs cs ws lent ≡ Err (WeakRow 1)) ⊎ (adjust_reply ds qs cs ws lent ≡ Err (WeakRow 2))
   multiple_table c d h p heavy = by_test (weak t 0) refl
     where
-      by_test : (b : Bool) → weak t 0 ≡ b → (adjust_reply ds qs cs ws lent ≡ Refused (WeakRow 1)) ⊎ (adjust_reply ds qs cs ws lent ≡ Refused (WeakRow 2))
+      by_test : (b : Bool) → weak t 0 ≡ b → (adjust_reply ds qs cs ws lent ≡ Err (WeakRow 1)) ⊎ (adjust_reply ds qs cs ws lent ≡ Err (WeakRow 2))
       by_test true e = inl (passed_solved ds qs cs ws lent passed ∙ first_weak t 0 (omega arith) (failed_none (weak t)) e)
       by_test false e =
           inr

@@ -13,10 +13,9 @@
 --   only_reply               two replies that keep the promise are equal, and leave equal lists
 --   only_own                 so are those of a caller with lists of its own, whose lists are equal where the table is accepted
 use mathlib.Core.Path.{◌≡◌, refl, sym, ◌∙◌, ap, subst}
-use mathlib.Core.Bool.{Bool, false}
+use mathlib.Core.Bool.{false}
 use mathlib.Core.List.{List}
 use Prim.Native.Nat.{ℕ, ◌+◌, ◌<◌}
-use native.Mathlib.Omega.{arith}
 use lib.ListN.{length}
 use lib.IntN.{ℤ, pos, ◌-ℤ◌, ◌*ℤ◌}
 use lib.Signed.{◌≤ℤ◌, ◌<ℤ◌}
@@ -25,25 +24,25 @@ use Rattle.exact.specs.Outside.{outside}
 use Rattle.exact.proofs.Filling.{tabulate_at}
 use Rattle.exact.proofs.Searching.{neither}
 use Rattle.reply.specs.declared.Refusal.{Refusal}
-use Rattle.reply.specs.declared.Refusal.TheVariants.{Count, OutOfRange, WeakRow}
-use Rattle.reply.specs.declared.Reply.{Reply}
-use Rattle.reply.specs.declared.Reply.TheVariants.{Accepted, Refused}
-use Rattle.reply.specs.Checks.{refuse_if, ◌and_then◌, leaves}
+use Rattle.reply.specs.declared.Refusal.TheVariants.{OutOfRange, WeakRow}
+use Rattle.reply.specs.Reply.{Reply}
+use Rattle.reply.specs.Checks.{◌and_then◌, leaves}
 use Rattle.reply.specs.Verdicts.{verdict_of}
-use Rattle.reply.proofs.Checking.{never, both_accepted, if_accepted, none_refused}
+use Rattle.reply.proofs.Checking.{never, both_accepted, none_refused}
 use Rattle.direction.specs.Ranges.{weight_out_of_range, fault_at, directions_reply}
 use Rattle.doolittle.specs.Table.{Table, at, table_of}
 use Rattle.doolittle.specs.Solution.{N, D, weak, K}
 use Rattle.adjustment.specs.Corrections.{V_of, R_of, u_of, Q_of}
-use Rattle.adjustment.specs.Refusals.{counts_amiss, lengths_amiss, conditions_reply, rows_reply, correlates_reply, remainders_reply, corrections_reply, solution_reply, input_reply}
+use Rattle.adjustment.specs.Refusals.{counts_amiss, rows_reply, correlates_reply, remainders_reply, corrections_reply, solution_reply, input_reply}
 use Rattle.adjustment.specs.Demand.{Demand3}
 use Rattle.adjustment.specs.Promise.{Answers, adjust_reply, answers_of, WithinMinute, Adjusts}
-use Rattle.adjustment.specs.Inner.{AdjustsOwn}
+use Rattle.adjustment.specs.Inner.{AdjustsOwn, Checked}
 use Rattle.doolittle.specs.Inner.{Small, Sound}
 use Rattle.doolittle.proofs.Reducing.{sound_at}
-use Rattle.adjustment.proofs.Admitting.{counts_known, Lengths, lengths_known, directions_known, sound_table}
+use Rattle.adjustment.proofs.Admitting.{counts_right, lengths_right, in_ranges, checked}
 use Rattle.adjustment.proofs.Demands.{demand_3, demand_ext}
 use Rattle.adjustment.proofs.Solving.{remainders_close, corrections_small}
+use Rattle.std.specs.Prelude.{Ok, Err}
 
 -- what is known of a table that has passed its input checks, and of the six answer lists
 pub record Passed (ds qs cs ws : List ℤ) (lent : Answers) : Type 0 where
@@ -58,24 +57,21 @@ module _ (ds qs cs ws : List ℤ) (lent : Answers) where
   abbrev t : Table
   t = table_of qs cs ws
 
-  abbrev lengths_amiss_lem : Bool
-  lengths_amiss_lem = lengths_amiss (length ds) (length ws) (length qs) (length cs) (length lent.corrections) (length lent.printed) (length lent.adjusted) (length lent.correlates) (length lent.remainders) (length lent.misses)
-
   -- the reply of the input checks
   abbrev pub input : Reply
   input = input_reply ds qs cs ws (length lent.corrections) (length lent.printed) (length lent.adjusted) (length lent.correlates) (length lent.remainders) (length lent.misses)
 
-  pub refused_input : {why : Refusal} → input ≡ Refused why → adjust_reply ds qs cs ws lent ≡ Refused why
+  pub refused_input : {why : Refusal} → input ≡ Err why → adjust_reply ds qs cs ws lent ≡ Err why
   unfolding adjust_reply
   refused_input e = rw e
 
   -- ---- the promise
-  pub refused_adjusts : (why : Refusal) → adjust_reply ds qs cs ws lent ≡ Refused why → Adjusts ds qs cs ws lent (Refused why) lent
+  pub refused_adjusts : (why : Refusal) → adjust_reply ds qs cs ws lent ≡ Err why → Adjusts ds qs cs ws lent (Err why) lent
   refused_adjusts why e = record { answer = sym e; verdict = ap verdict_of (sym e); lists = refl; demand3 = never why; within_minute = never why }
 
-  module _ (e : solution_reply t ≡ Accepted) where
+  module _ (e : solution_reply t ≡ Ok tt) where
     -- 8 and 9 have found nothing
-    last : (remainders_reply t (K t) ≡ Accepted) × (corrections_reply t (K t) ≡ Accepted)
+    last : (remainders_reply t (K t) ≡ Ok tt) × (corrections_reply t (K t) ≡ Ok tt)
     unfolding solution_reply
     last =
         let after-8 = remainders_reply t (K t) and_then corrections_reply t (K t) in
@@ -83,7 +79,7 @@ module _ (ds qs cs ws : List ℤ) (lent : Answers) where
         let correlates = both_accepted (correlates_reply t) after-8 rows.1 in
         both_accepted (remainders_reply t (K t)) (corrections_reply t (K t)) correlates.1
 
-    pub accepted_adjusts : Sound qs cs ws → adjust_reply ds qs cs ws lent ≡ solution_reply t → (left : Answers) → left ≡ answers_of t (K t) (at ds) → Adjusts ds qs cs ws lent Accepted left
+    pub accepted_adjusts : Sound qs cs ws → adjust_reply ds qs cs ws lent ≡ solution_reply t → (left : Answers) → left ≡ answers_of t (K t) (at ds) → Adjusts ds qs cs ws lent (Ok tt) left
     accepted_adjusts s f left g = record { answer = sym (f ∙ e); verdict = ap verdict_of (sym (f ∙ e)); lists = g; demand3 = λ h. demand; within_minute = λ h i l. rw (u_left i l) (corrections_small t (K t) last.1 i l) }
       where
         u_left : (i : ℕ) → i < t.m → at left.printed i ≡ u_of t (K t) i
@@ -99,48 +95,30 @@ module _ (ds qs cs ws : List ℤ) (lent : Answers) where
             (demand_3 t (K t) s.q_least s.q_most (remainders_close t (K t) last.0))
 
   -- ---- of every table that passes the input checks, one after another
-  module _ (passed : input ≡ Accepted) where
-    abbrev by_tables : Reply
-    by_tables = directions_reply ds qs and_then conditions_reply t
-
-    counted : (refuse_if (counts_amiss (length ds) (length ws)) (Count 0) ≡ Accepted) × ((refuse_if lengths_amiss_lem (Count 0) and_then by_tables) ≡ Accepted)
-    unfolding input_reply
-    counted = both_accepted (refuse_if (counts_amiss (length ds) (length ws)) (Count 0)) (refuse_if lengths_amiss_lem (Count 0) and_then by_tables) passed
-
-    measured : (refuse_if lengths_amiss_lem (Count 0) ≡ Accepted) × (by_tables ≡ Accepted)
-    measured = both_accepted (refuse_if lengths_amiss_lem (Count 0)) by_tables counted.1
-
-    counts_sound : counts_amiss (length ds) (length ws) ≡ false
-    counts_sound = if_accepted (counts_amiss (length ds) (length ws)) (Count 0) counted.0
-
-    lengths_sound : Lengths (length ds) (length ws) (length qs) (length cs) (length lent.corrections) (length lent.printed) (length lent.adjusted) (length lent.correlates) (length lent.remainders) (length lent.misses)
-    lengths_sound = lengths_known (length ds) (length ws) (length qs) (length cs) _ _ _ _ _ _ (if_accepted lengths_amiss_lem (Count 0) measured.0)
-
-    ranged : (directions_reply ds qs ≡ Accepted) × (conditions_reply t ≡ Accepted)
-    ranged = both_accepted (directions_reply ds qs) (conditions_reply t) measured.1
+  module _ (passed : input ≡ Ok tt) where
+    found : Checked ds qs cs ws (length lent.corrections) (length lent.printed) (length lent.adjusted) (length lent.correlates) (length lent.remainders) (length lent.misses)
+    found = checked ds qs cs ws _ _ _ _ _ _ passed
 
     pub passed_sound : Sound qs cs ws
-    passed_sound = sound_table ds qs cs ws (counts_known (length ds) (length ws) counts_sound) lengths_sound.of_q lengths_sound.of_a ranged.0 ranged.1
+    passed_sound = found.sound
 
     pub passed_solved : adjust_reply ds qs cs ws lent ≡ solution_reply t
     unfolding adjust_reply
     passed_solved = rw passed
 
     pub passed_table : Passed ds qs cs ws lent
-    passed_table =
-        let l = lengths_sound in let q = sym l.of_q in
-        record {
-          sound = passed_sound;
-          reply = passed_solved;
-          directions = q;
-          in_circle = λ i h. (directions_known ds qs ranged.0 i (omega (arith, l.of_q))).size;
-          by_direction = (l.by_direction.0 ∙ q, l.by_direction.1 ∙ q, l.by_direction.2 ∙ q);
-          by_condition = l.by_condition;
-        }
+    passed_table = record {
+      sound = found.sound;
+      reply = passed_solved;
+      directions = found.directions;
+      in_circle = found.in_circle;
+      by_direction = found.by_direction;
+      by_condition = found.by_condition;
+    }
 
   -- ---- of every table that the rules accept
-  module _ (e : adjust_reply ds qs cs ws lent ≡ Accepted) where
-    both : (input ≡ Accepted) × (solution_reply t ≡ Accepted)
+  module _ (e : adjust_reply ds qs cs ws lent ≡ Ok tt) where
+    both : (input ≡ Ok tt) × (solution_reply t ≡ Ok tt)
     unfolding adjust_reply
     both = both_accepted input (solution_reply t) e
 
@@ -148,13 +126,13 @@ module _ (ds qs cs ws : List ℤ) (lent : Answers) where
     accepted_passed = passed_table both.0
 
     pub accepted_counts : counts_amiss t.m t.n ≡ false
-    accepted_counts = subst (λ (m : ℕ). counts_amiss m (length ws) ≡ false) (sym (lengths_sound both.0).of_q) (counts_sound both.0)
+    accepted_counts = subst (λ (m : ℕ). counts_amiss m (length ws) ≡ false) (sym (lengths_right ds qs cs ws _ _ _ _ _ _ both.0).of_q) (counts_right ds qs cs ws _ _ _ _ _ _ both.0)
 
     pub accepted_weights : (i : ℕ) → i < t.m → weight_out_of_range (t.q i) ≡ false
     unfolding directions_reply
     accepted_weights i l =
         (neither (outside (pos 0) (C -ℤ pos 1) (at ds i)) (weight_out_of_range (t.q i))
-        (none_refused (length ds) (fault_at ds qs) (λ i. OutOfRange (i + 1)) (ranged both.0).0 i (subst (λ (m : ℕ). i < m) (lengths_sound both.0).of_q l))).1
+        (none_refused (length ds) (fault_at ds qs) (λ i. OutOfRange (i + 1)) (in_ranges ds qs cs ws _ _ _ _ _ _ both.0).0 i (subst (λ (m : ℕ). i < m) (lengths_right ds qs cs ws _ _ _ _ _ _ both.0).of_q l))).1
 
     pub accepted_demand3 : Demand3 t (V_of t (K t)) (u_of t (K t)) (R_of t (K t)) (Q_of t (K t))
     accepted_demand3 = let s = passed_sound both.0 in demand_3 t (K t) s.q_least s.q_most (remainders_close t (K t) (last both.1).0)
@@ -170,7 +148,7 @@ module _ (ds qs cs ws : List ℤ) (lent : Answers) where
     accepted_within_minute = corrections_small t (K t) (last both.1).1
 
   -- ---- a refusal leaves the lists alone
-  pub refusal_leaves_lists : (why : Refusal) (left : Answers) → Adjusts ds qs cs ws lent (Refused why) left → left ≡ lent
+  pub refusal_leaves_lists : (why : Refusal) (left : Answers) → Adjusts ds qs cs ws lent (Err why) left → left ≡ lent
   refusal_leaves_lists why left a = a.lists
 
   -- ---- and there is only one
@@ -179,5 +157,5 @@ module _ (ds qs cs ws : List ℤ) (lent : Answers) where
       let e : r ≡ r' = a.answer ∙ sym b.answer in
       (e, a.lists ∙ ap (λ (x : Reply). leaves x (answers_of t (K t) (at ds)) lent) e ∙ sym b.lists)
 
-  pub only_own : (r r' : Reply) (left left' : Answers) → AdjustsOwn ds qs cs ws lent r left → AdjustsOwn ds qs cs ws lent r' left' → (r ≡ r') × (r ≡ Accepted → left ≡ left')
+  pub only_own : (r r' : Reply) (left left' : Answers) → AdjustsOwn ds qs cs ws lent r left → AdjustsOwn ds qs cs ws lent r' left' → (r ≡ r') × (r ≡ Ok tt → left ≡ left')
   only_own r r' left left' a b = let e : r ≡ r' = a.answer ∙ sym b.answer in (e, λ f. a.lists f ∙ sym (b.lists (sym e ∙ f)))

@@ -5,7 +5,7 @@
 --   first_open, first_past           and the first beyond its limit is the same
 --   turned_is, missed_is             a direction and its printed correction are the adjusted direction, and what the printed ones leave is Q
 --   weak_refused, large_refused, open_refused, past_refused      6, 7, 8 and 9 at their places; first_weak: 6 by the tests of the rows
---   none_weak, none_too_large, none_open, none_past              where nothing is found, the check accepts
+--   none_too_large, none_open, none_past              where nothing is found, the check accepts
 --   all_accepted                     where all four accept, so does the solution
 --   remainders_close, corrections_small      what 8 and 9 leave known where they accept, of any correlates
 use mathlib.Core.Path.{◌≡◌, sym, ◌∙◌, ap, subst}
@@ -26,7 +26,6 @@ use Rattle.exact.proofs.Sum.{sum_ext}
 use Rattle.exact.proofs.Searching.{Failed, first_at, first_before, first_ext}
 use Rattle.reply.specs.declared.Refusal.{Refusal}
 use Rattle.reply.specs.declared.Refusal.TheVariants.{WeakRow, Correlate, Remainder, Correction}
-use Rattle.reply.specs.declared.Reply.TheVariants.{Accepted, Refused}
 use Rattle.reply.specs.Checks.{refuse_first}
 use Rattle.reply.proofs.Checking.{refuse_first_lem, accept_first, none_refused}
 use Rattle.doolittle.specs.Table.{Table, at, table_of}
@@ -39,6 +38,7 @@ use Rattle.doolittle.specs.Inner.{Sound}
 use Rattle.adjustment.specs.Inner.{closing, rounding}
 use Rattle.doolittle.proofs.Sizes.{sum_within, product_size}
 use Rattle.adjustment.proofs.Demands.{remainder_forms}
+use Rattle.std.specs.Prelude.{Ok, Err}
 
 pub V_size : (qs cs ws : List ℤ) → Sound qs cs ws → (k : ℕ → ℤ) → ((j : ℕ) → j < length ws → nat_abs (k j) ≤ 100000000) → (i : ℕ) → i < length qs → nat_abs (V_of (table_of qs cs ws) k i) ≤ 48000000000000
 unfolding V_of
@@ -82,35 +82,31 @@ beyond most f i = ltb most (nat_abs (f i))
 same_first : (n most : ℕ) (f g : ℕ → ℤ) → ((i : ℕ) → i < n → f i ≡ g i) → first n (beyond most f) ≡ first n (beyond most g)
 same_first n most f g e = first_ext n (beyond most f) (beyond most g) (λ i l. ap (λ (z : ℤ). ltb most (nat_abs z)) (e i l))
 
-each_within : (n most : ℕ) (f : ℕ → ℤ) (why : ℕ → Refusal) → refuse_first n (beyond most f) why ≡ Accepted → (i : ℕ) → i < n → nat_abs (f i) ≤ most
+each_within : (n most : ℕ) (f : ℕ → ℤ) (why : ℕ → Refusal) → refuse_first n (beyond most f) why ≡ Ok tt → (i : ℕ) → i < n → nat_abs (f i) ≤ most
 each_within n most f why e i l = ltb-false most (nat_abs (f i)) (none_refused n (beyond most f) why e i l)
 
 module _ (t : Table) where
   -- ---- 6
   module _ (sound : ℕ) (e : sound ≡ first t.n (weak t)) where
-    pub weak_refused : sound < t.n → Refused (WeakRow (sound + 1)) ≡ solution_reply t
+    pub weak_refused : sound < t.n → Err (WeakRow (sound + 1)) ≡ solution_reply t
     unfolding solution_reply rows_reply
     weak_refused l = rw (refuse_first_lem t.n (weak t) (λ j. WeakRow (j + 1)) sound e l)
 
-    pub none_weak : t.n ≤ sound → (rows_reply t ≡ Accepted) × Failed (weak t) t.n
-    unfolding rows_reply
-    none_weak l = (accept_first t.n (weak t) (λ j. WeakRow (j + 1)) (omega arith), λ h k. first_before t.n (weak t) h (omega arith))
-
-  pub first_weak : (j : ℕ) → j < t.n → Failed (weak t) j → weak t j ≡ true → solution_reply t ≡ Refused (WeakRow (j + 1))
+  pub first_weak : (j : ℕ) → j < t.n → Failed (weak t) j → weak t j ≡ true → solution_reply t ≡ Err (WeakRow (j + 1))
   first_weak j l f e = sym (weak_refused j (sym (first_at t.n (weak t) j l f e)) l)
 
   -- ---- 7
   abbrev large : ℕ → Bool
   large b = ltb 100000000 (nat_abs (K t (t.n - suc b)))
 
-  module _ (a : rows_reply t ≡ Accepted) (from : ℕ) (f : first t.n large ≡ t.n - from) (g : from ≤ t.n) where
-    pub large_refused : 0 < from → Refused (Correlate from) ≡ solution_reply t
+  module _ (a : rows_reply t ≡ Ok tt) (from : ℕ) (f : first t.n large ≡ t.n - from) (g : from ≤ t.n) where
+    pub large_refused : 0 < from → Err (Correlate from) ≡ solution_reply t
     unfolding solution_reply correlates_reply
     large_refused l =
         let place : t.n - (t.n - from) ≡ from = omega arith in
         rw (a, refuse_first_lem t.n large (λ b. Correlate (t.n - b)) (t.n - from) (sym f) (omega arith), place)
 
-    pub none_too_large : from ≡ 0 → (correlates_reply t ≡ Accepted) × ((j : ℕ) → j < t.n → nat_abs (K t j) ≤ 100000000)
+    pub none_too_large : from ≡ 0 → (correlates_reply t ≡ Ok tt) × ((j : ℕ) → j < t.n → nat_abs (K t j) ≤ 100000000)
     unfolding correlates_reply
     none_too_large z = (accept_first t.n large (λ b. Correlate (t.n - b)) (omega arith), within)
       where
@@ -152,34 +148,34 @@ module _ (t : Table) where
   module _ (vs : List ℤ) (v : (i : ℕ) → i < t.m → at vs i ≡ V_of t (K t) i) where
     -- ---- 8
     module _ (close : ℕ) (e : close ≡ first t.n (beyond 50000000 (closing t (at vs)))) where
-      pub open_refused : rows_reply t ≡ Accepted → correlates_reply t ≡ Accepted → close < t.n → Refused (Remainder (close + 1)) ≡ solution_reply t
+      pub open_refused : rows_reply t ≡ Ok tt → correlates_reply t ≡ Ok tt → close < t.n → Err (Remainder (close + 1)) ≡ solution_reply t
       unfolding solution_reply remainders_reply
       open_refused a b l = rw (a, b, refuse_first_lem t.n (beyond 50000000 (R_of t (K t))) (λ j. Remainder (j + 1)) close (first_open (K t) vs v close e) l)
 
-      pub none_open : t.n ≤ close → remainders_reply t (K t) ≡ Accepted
+      pub none_open : t.n ≤ close → remainders_reply t (K t) ≡ Ok tt
       unfolding remainders_reply
       none_open l = accept_first t.n (beyond 50000000 (R_of t (K t))) (λ j. Remainder (j + 1)) (omega (arith, first_open (K t) vs v close e))
 
     -- ---- 9
     module _ (within : ℕ) (e : within ≡ first t.m (beyond 60000 (rounding (at vs)))) where
-      pub past_refused : rows_reply t ≡ Accepted → correlates_reply t ≡ Accepted → remainders_reply t (K t) ≡ Accepted → within < t.m → Refused (Correction (within + 1)) ≡ solution_reply t
+      pub past_refused : rows_reply t ≡ Ok tt → correlates_reply t ≡ Ok tt → remainders_reply t (K t) ≡ Ok tt → within < t.m → Err (Correction (within + 1)) ≡ solution_reply t
       unfolding solution_reply corrections_reply
       past_refused a b c l = rw (a, b, c, refuse_first_lem t.m (beyond 60000 (u_of t (K t))) (λ i. Correction (i + 1)) within (first_past (K t) vs v within e) l)
 
-      pub none_past : t.m ≤ within → corrections_reply t (K t) ≡ Accepted
+      pub none_past : t.m ≤ within → corrections_reply t (K t) ≡ Ok tt
       unfolding corrections_reply
       none_past l = accept_first t.m (beyond 60000 (u_of t (K t))) (λ i. Correction (i + 1)) (omega (arith, first_past (K t) vs v within e))
 
-  pub all_accepted : rows_reply t ≡ Accepted → correlates_reply t ≡ Accepted → remainders_reply t (K t) ≡ Accepted → corrections_reply t (K t) ≡ Accepted → Accepted ≡ solution_reply t
+  pub all_accepted : rows_reply t ≡ Ok tt → correlates_reply t ≡ Ok tt → remainders_reply t (K t) ≡ Ok tt → corrections_reply t (K t) ≡ Ok tt → (Ok tt) ≡ solution_reply t
   unfolding solution_reply
   all_accepted a b c d = rw (a, b, c, d)
 
   -- ---- of any correlates, where 8 and 9 accept
   module _ (k : ℕ → ℤ) where
-    pub remainders_close : remainders_reply t k ≡ Accepted → (j : ℕ) → j < t.n → nat_abs (R_of t k j) ≤ 50000000
+    pub remainders_close : remainders_reply t k ≡ Ok tt → (j : ℕ) → j < t.n → nat_abs (R_of t k j) ≤ 50000000
     unfolding remainders_reply
     remainders_close = each_within t.n 50000000 (R_of t k) (λ j. Remainder (j + 1))
 
-    pub corrections_small : corrections_reply t k ≡ Accepted → WithinMinute t (u_of t k)
+    pub corrections_small : corrections_reply t k ≡ Ok tt → WithinMinute t (u_of t k)
     unfolding corrections_reply
     corrections_small = each_within t.m 60000 (u_of t k) (λ i. Correction (i + 1))

@@ -19,12 +19,12 @@ use Rattle.exact.specs.Nearest.{nearest}
 use Rattle.exact.specs.Tabulate.{tabulate}
 use Rattle.exact.specs.First.{first}
 use Rattle.reply.specs.declared.Refusal.TheVariants.{WeakRow, Correlate, Remainder, Correction}
-use Rattle.reply.specs.declared.Reply.{Reply}
-use Rattle.reply.specs.declared.Reply.TheVariants.{Accepted, Refused}
+use Rattle.reply.specs.Reply.{Reply}
 use Rattle.doolittle.specs.Table.{Table, table_of}
 use Rattle.doolittle.specs.Solution.{N, reduced, D, L, M, weak_row, weak, back, K}
 use Rattle.adjustment.specs.Corrections.{V_of, R_of, u_of, Q_of}
 use Rattle.adjustment.specs.Refusals.{rows_reply, correlates_reply, remainders_reply, corrections_reply, solution_reply}
+use Rattle.std.specs.Prelude.{Ok, Err}
 
 -- two directions with q = 1 and q = 4, one condition 100, 100 with w = 1,000
 abbrev unequal : Table
@@ -58,10 +58,10 @@ abbrev single : (a w : ℤ) → Table
 single a w = table_of (pos 1 ∷ []) (a ∷ []) (w ∷ [])
 
 pub light_alone :
-    (solution_reply (single (pos 1) (pos 10)) ≡ Accepted)
+    (solution_reply (single (pos 1) (pos 10)) ≡ Ok tt)
     × (K (single (pos 1) (pos 10)) 0 ≡ neg_ℤ (pos 100000000))
-    × (solution_reply (single (pos 1) (pos 11)) ≡ Refused (Correlate 1))
-    × (solution_reply (single (pos 0) (pos 0)) ≡ Refused (WeakRow 1))
+    × (solution_reply (single (pos 1) (pos 11)) ≡ Err (Correlate 1))
+    × (solution_reply (single (pos 0) (pos 0)) ≡ Err (WeakRow 1))
 unfolding sum nearest first N reduced D L M weak_row weak back K V_of R_of u_of rows_reply correlates_reply remainders_reply corrections_reply solution_reply
 light_alone = (refl, refl, refl, refl)
 
@@ -77,9 +77,9 @@ abbrev SecondRow : Table → (entry pivot : ℕ) → Reply → Type 0
 SecondRow t entry pivot reply = (N t 1 1 ≡ pos entry) × (D t 1 1 ≡ pos pivot) × (solution_reply t ≡ reply)
 
 pub beside_a_thousandth :
-    SecondRow (second 1 3 0 0 10) 1001 1 (Refused (WeakRow 2))
-    × SecondRow (second 10 3 1 1 3) 1000 1 Accepted
-    × SecondRow (second 31 6 1 0 1) 999 1 Accepted
+    SecondRow (second 1 3 0 0 10) 1001 1 (Err (WeakRow 2))
+    × SecondRow (second 10 3 1 1 3) 1000 1 (Ok tt)
+    × SecondRow (second 31 6 1 0 1) 999 1 (Ok tt)
 unfolding sum nearest first N reduced D L M weak_row weak back K V_of R_of u_of rows_reply correlates_reply remainders_reply corrections_reply solution_reply
 beside_a_thousandth = ((refl, refl, refl), (refl, refl, refl), (refl, refl, refl))
 
@@ -87,7 +87,7 @@ beside_a_thousandth = ((refl, refl, refl), (refl, refl, refl), (refl, refl, refl
 abbrev repeated : Table
 repeated = table_of (replicate 8 (pos 10)) (replicate 8 (pos 1999) ++ replicate 8 (pos 1997)) (pos 0 ∷ pos 0 ∷ [])
 
-pub only_rounding : SecondRow repeated 319040720 160 (Refused (WeakRow 2))
+pub only_rounding : SecondRow repeated 319040720 160 (Err (WeakRow 2))
 unfolding sum nearest first N reduced D L M weak_row weak back K V_of R_of u_of rows_reply correlates_reply remainders_reply corrections_reply solution_reply
 only_rounding = (refl, refl, refl)
 
@@ -95,7 +95,7 @@ only_rounding = (refl, refl, refl)
 abbrev steep : Table
 steep = table_of (pos 1 ∷ pos 1 ∷ []) (pos 1 ∷ pos 0 ∷ pos 1 ∷ pos 1 ∷ []) (neg_ℤ (pos 1000000) ∷ pos 1000000 ∷ [])
 
-pub small_pivots : (K steep 1 ≡ neg_ℤ (pos 20000000000000)) × (solution_reply steep ≡ Refused (Correlate 2))
+pub small_pivots : (K steep 1 ≡ neg_ℤ (pos 20000000000000)) × (solution_reply steep ≡ Err (Correlate 2))
 unfolding sum nearest first N reduced D L M weak_row weak back K V_of R_of u_of rows_reply correlates_reply remainders_reply corrections_reply solution_reply
 small_pivots = (refl, refl)
 
@@ -104,10 +104,10 @@ abbrev alone : ℤ → Table
 alone = single (pos 100)
 
 pub at_one_minute :
-    (solution_reply (alone (pos 60000)) ≡ Accepted)
-    × (solution_reply (alone (neg_ℤ (pos 60000))) ≡ Accepted)
-    × (solution_reply (alone (pos 60001)) ≡ Refused (Correction 1))
-    × (solution_reply (alone (neg_ℤ (pos 60001))) ≡ Refused (Correction 1))
+    (solution_reply (alone (pos 60000)) ≡ Ok tt)
+    × (solution_reply (alone (neg_ℤ (pos 60000))) ≡ Ok tt)
+    × (solution_reply (alone (pos 60001)) ≡ Err (Correction 1))
+    × (solution_reply (alone (neg_ℤ (pos 60001))) ≡ Err (Correction 1))
 unfolding sum nearest first N reduced D L M weak_row weak back K V_of R_of u_of rows_reply correlates_reply remainders_reply corrections_reply solution_reply
 at_one_minute = (refl, refl, refl, refl)
 
@@ -119,7 +119,7 @@ two_blunders =
     (pos 500 ∷ pos 61000 ∷ neg_ℤ (pos 90000) ∷ [])
 
 pub lowest_direction :
-    (solution_reply two_blunders ≡ Refused (Correction 2)) × (tabulate 3 (u_of two_blunders (K two_blunders)) ≡ neg_ℤ (pos 500) ∷ neg_ℤ (pos 61000) ∷ pos 90000 ∷ [])
+    (solution_reply two_blunders ≡ Err (Correction 2)) × (tabulate 3 (u_of two_blunders (K two_blunders)) ≡ neg_ℤ (pos 500) ∷ neg_ℤ (pos 61000) ∷ pos 90000 ∷ [])
 unfolding sum nearest first tabulate N reduced D L M weak_row weak back K V_of R_of u_of rows_reply correlates_reply remainders_reply corrections_reply solution_reply
 lowest_direction = (refl, refl)
 
@@ -130,6 +130,6 @@ open_and_blunder =
     (pos 2000 ∷ pos 2000 ∷ pos 2000 ∷ pos 2000 ∷ pos 0 ∷ pos 0 ∷ pos 0 ∷ pos 0 ∷ pos 0 ∷ pos 100 ∷ [])
     (pos 200 ∷ pos 70000 ∷ [])
 
-pub remainder_first : (solution_reply open_and_blunder ≡ Refused (Remainder 1)) × (u_of open_and_blunder (K open_and_blunder) 4 ≡ neg_ℤ (pos 70000))
+pub remainder_first : (solution_reply open_and_blunder ≡ Err (Remainder 1)) × (u_of open_and_blunder (K open_and_blunder) 4 ≡ neg_ℤ (pos 70000))
 unfolding sum nearest first N reduced D L M weak_row weak back K V_of R_of u_of rows_reply correlates_reply remainders_reply corrections_reply solution_reply
 remainder_first = (refl, refl)

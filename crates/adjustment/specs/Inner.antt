@@ -1,13 +1,21 @@
 -- What the inner functions hand each other, and `adjust_own` the crate above. No part of the promise.
-use Rattle.std.specs.Prelude.{◌≡◌, List, ℕ, ◌<◌, get_or, ℤ, pos, ◌+ℤ◌, ◌*ℤ◌}
+use Rattle.std.specs.Prelude.{◌≡◌, List, ℕ, ◌<◌, length, get_or, ℤ, pos, ◌+ℤ◌, ◌*ℤ◌, Ok}
 use Rattle.exact.specs.Nearest.{nearest}
-use Rattle.reply.specs.declared.Reply.{Reply}
-use Rattle.reply.specs.declared.Reply.TheVariants.{Accepted}
+use Rattle.reply.specs.Reply.{Reply}
 use Rattle.doolittle.specs.Table.{Table, at, table_of}
 use Rattle.doolittle.specs.Solution.{K}
+use Rattle.doolittle.specs.Inner.{Small, Sound}
 use Rattle.adjustment.specs.Corrections.{V_of, R_of, u_of}
 use Rattle.adjustment.specs.Demand.{seen}
 use Rattle.adjustment.specs.Promise.{Answers, adjust_reply, answers_of, WithinMinute}
+
+-- a lent table that has passed its input checks; the last six numbers are the lengths of the lent answer lists
+pub record Checked (ds qs cs ws : List ℤ) (v u adjusted k r Q : ℕ) : Type 0 where
+  pub sound : Sound qs cs ws
+  pub directions : length ds ≡ length qs
+  pub in_circle : Small 1296000000 ds (length qs)
+  pub by_direction : (v ≡ length qs) × (u ≡ length qs) × (adjusted ≡ length qs)
+  pub by_condition : (k ≡ length ws) × (r ≡ length ws) × (Q ≡ length ws)
 
 -- R(j) by a and V: sum of a*V + 10^7*w(j)
 abbrev pub closing : Table → (ℕ → ℤ) → ℕ → ℤ
@@ -28,4 +36,4 @@ pub record Solved (t : Table) (ks vs us rs : List ℤ) : Type 0 where
 -- the reply to a lent table, and the answers of an accepted one; what a refusal leaves in the lists is not said
 pub record AdjustsOwn (ds qs cs ws : List ℤ) (lent : Answers) (reply : Reply) (left : Answers) : Type 0 where
   pub answer : reply ≡ adjust_reply ds qs cs ws lent
-  pub lists : reply ≡ Accepted → left ≡ answers_of (table_of qs cs ws) (K (table_of qs cs ws)) (at ds)
+  pub lists : reply ≡ Ok tt → left ≡ answers_of (table_of qs cs ws) (K (table_of qs cs ws)) (at ds)

@@ -1,9 +1,8 @@
 -- What the operation promises for every input: its reply, what each lent answer list then holds, and of every accepted table demand 3 and that no
 -- printed correction is past one minute.
-use Rattle.std.specs.Prelude.{◌≡◌, List, ℕ, ◌≤◌, ◌<◌, length, ℤ, nat_abs}
+use Rattle.std.specs.Prelude.{◌≡◌, List, ℕ, ◌≤◌, ◌<◌, length, ℤ, nat_abs, Ok}
 use Rattle.exact.specs.Tabulate.{tabulate}
-use Rattle.reply.specs.declared.Reply.{Reply}
-use Rattle.reply.specs.declared.Reply.TheVariants.{Accepted}
+use Rattle.reply.specs.Reply.{Reply}
 use Rattle.reply.specs.Checks.{◌and_then◌, leaves}
 use Rattle.reply.specs.Verdicts.{verdict_of}
 use Rattle.doolittle.specs.Table.{Table, at, table_of}
@@ -50,5 +49,5 @@ pub record Adjusts (ds qs cs ws : List ℤ) (lent : Answers) (reply : Reply) (le
   -- in the rules' numbers: number and place
   pub verdict : verdict_of reply ≡ verdict_of (adjust_reply ds qs cs ws lent)
   pub lists : left ≡ leaves reply (answers_of (table_of qs cs ws) (K (table_of qs cs ws)) (at ds)) lent
-  pub demand3 : reply ≡ Accepted → Demand3 (table_of qs cs ws) (at left.corrections) (at left.printed) (at left.remainders) (at left.misses)
-  pub within_minute : reply ≡ Accepted → WithinMinute (table_of qs cs ws) (at left.printed)
+  pub demand3 : reply ≡ Ok tt → Demand3 (table_of qs cs ws) (at left.corrections) (at left.printed) (at left.remainders) (at left.misses)
+  pub within_minute : reply ≡ Ok tt → WithinMinute (table_of qs cs ws) (at left.printed)

@@ -2,7 +2,7 @@
 use Rattle.std.specs.Prelude.{Bool, ◌||◌, not, cond, List, ℕ, suc, ◌+◌, ◌-◌, ◌*◌, ltb, eqb, length, ℤ, nat_abs}
 use Rattle.exact.specs.First.{some_below}
 use Rattle.reply.specs.declared.Refusal.TheVariants.{Count, Coefficient, Misclosure, WeakRow, Correlate, Remainder, Correction}
-use Rattle.reply.specs.declared.Reply.{Reply}
+use Rattle.reply.specs.Reply.{Reply}
 use Rattle.reply.specs.Checks.{refuse_if, refuse_first, ◌and_then◌}
 use Rattle.direction.specs.Ranges.{directions_reply}
 use Rattle.doolittle.specs.Table.{Table, table_of}

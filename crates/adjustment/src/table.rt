@@ -1,26 +1,34 @@
 // Input checks of a lent condition table, `check` all of them in their order: 2 for counts and lengths, 3 by direction, 4 and 5 by condition.
 // (2 for counts is in `lib`, 3 in `direction`.)
-ghost use Rattle.std.specs.Prelude.{◌≡◌, ◌+◌, ◌*◌, ◌≤◌, length, get_or, pos, nat_abs, ltb};
-ghost use Rattle.exact.specs.First.{some_below};
+ghost use Rattle.std.specs.Prelude.{◌≡◌, ℕ, ◌+◌, ◌<◌, ◌*◌, ◌≤◌, length, get_or, pos, nat_abs, ltb, OnOk};
+ghost use Rattle.std.specs.List.{list_any};
 ghost use Rattle.doolittle.specs.Table.{table_of};
+ghost use Rattle.adjustment.specs.Inner.{Checked};
 ghost use Rattle.adjustment.specs.Refusals.{differs, lengths_amiss, conditions_reply, input_reply};
 
-use reply::{Refusal, Reply};
+use crate::counts_amiss;
+use reply::Refusal;
+
+// The m coefficients of condition j.
+pub(crate) fn row(a: &[i64], j: usize, m: usize) -> &[i64]
+    requires { j * m + m ≤ length a.now }
+    ensures long { length result.now ≡ m }
+    ensures same { (i : ℕ) → i < m → get_or result.now i (pos 0) ≡ get_or a.now (j * m + i) (pos 0) }
+{
+    let start = j * m;
+    &a[start..start + m]
+}
 
 // One of three lengths is not what it should be.
+#[tactic(auto, unfolding(crate::specs::Refusals::differs))]
 fn differ(count: usize, x: usize, y: usize, z: usize) -> bool
     ensures { result ≡ differs count x y z }
 {
-    if x != count {
-        return true;
-    }
-    if y != count {
-        return true;
-    }
-    z != count
+    x != count || y != count || z != count
 }
 
 // Some length disagrees with the counts: q and the coefficients, the three answers by direction (V, u, adjusted), the three by condition (K, R, Q).
+#[tactic(auto, unfolding(crate::specs::Refusals::lengths_amiss))]
 fn lengths_amiss(
     m: usize,
     n: usize,
@@ -36,57 +44,34 @@ fn lengths_amiss(
     requires { (m ≤ 64) × (n ≤ 24) }
     ensures { result ≡ lengths_amiss m n q a v u adjusted k r s }
 {
-    if q != m {
-        return true;
-    }
-    if a != n * m {
-        return true;
-    }
-    if differ(m, v, u, adjusted) {
-        return true;
-    }
-    differ(n, k, r, s)
+    q != m || a != n * m || differ(m, v, u, adjusted) || differ(n, k, r, s)
 }
 
-// Some of the m coefficients from `at` on is beyond 2,000.
-fn coefficient_fault(a: &[i64], at: usize, m: usize) -> bool
-    requires { at + m ≤ length a.now }
-    ensures { result ≡ some_below m (λ i. ltb 2000 (nat_abs (get_or a.now (at + i) (pos 0)))) }
+// Some coefficient of a condition is beyond 2,000.
+fn coefficient_fault(row: &[i64]) -> bool
+    ensures { result ≡ list_any (λ x. ltb 2000 (nat_abs x)) row.now }
 {
-    let mut i = 0;
-    while i < m {
-        let x = a[at + i];
-        if 2000 < exact::magnitude(x) {
-            return true;
-        }
-        i += 1;
-    }
-    false
+    row.iter().any(|x| 2000 < exact::magnitude(*x))
 }
 
 // Refuses the first condition with a coefficient or a misclosure beyond its range, the coefficients first.
-fn check_conditions(q: &[i64], a: &[i64], w: &[i64]) -> Reply
+fn check_conditions(q: &[i64], a: &[i64], w: &[i64]) -> Result<(), Refusal>
     requires { length a.now ≡ length w.now * length q.now }
     ensures { result ≡ conditions_reply (table_of q.now a.now w.now) }
 {
-    let m = q.len();
-    let mut at = 0;
-    let mut j = 0;
-    while j < w.len() {
-        if coefficient_fault(a, at, m) {
-            return Reply::Refused(Refusal::Coefficient((j + 1) as u64));
+    for (j, x) in w.iter().enumerate() {
+        if coefficient_fault(row(a, j, q.len())) {
+            return Err(Refusal::Coefficient(j as u64 + 1));
         }
-        let x = w[j];
-        if 1000000 < exact::magnitude(x) {
-            return Reply::Refused(Refusal::Misclosure((j + 1) as u64));
+        if 1_000_000 < exact::magnitude(*x) {
+            return Err(Refusal::Misclosure(j as u64 + 1));
         }
-        at += m;
-        j += 1;
     }
-    Reply::Accepted
+    Ok(())
 }
 
 // All input checks, in their order; the last six numbers are the lengths of the lent answer lists V, u, adjusted, K, R and Q.
+#[tactic(auto, using(crate::proofs::Admitting::admits), unfolding(crate::specs::Refusals::input_reply))]
 pub fn check(
     directions: &[i64],
     q: &[i64],
@@ -98,20 +83,15 @@ pub fn check(
     k: usize,
     r: usize,
     s: usize,
-) -> Reply
-    ensures { result ≡ input_reply directions.now q.now a.now w.now v u adjusted k r s }
+) -> Result<(), Refusal>
+    ensures answer { result ≡ input_reply directions.now q.now a.now w.now v u adjusted k r s }
+    ensures checked { OnOk result (Checked directions.now q.now a.now w.now v u adjusted k r s) }
 {
     let m = directions.len();
     let n = w.len();
-    if crate::counts_amiss(m, n) {
-        return Reply::Refused(Refusal::Count(0));
+    if counts_amiss(m, n) || lengths_amiss(m, n, q.len(), a.len(), v, u, adjusted, k, r, s) {
+        return Err(Refusal::Count(0));
     }
-    if lengths_amiss(m, n, q.len(), a.len(), v, u, adjusted, k, r, s) {
-        return Reply::Refused(Refusal::Count(0));
-    }
-    let by_direction = direction::check(directions, q);
-    if let Reply::Refused(why) = by_direction {
-        return Reply::Refused(why);
-    }
+    direction::check(directions, q)?;
     check_conditions(q, a, w)
 }

@@ -5,18 +5,18 @@
 --   lone_weak, lone_zero         so the row is weak only where the condition touches no direction, and there it is
 use mathlib.Core.Path.{◌≡◌, refl, sym, ◌∙◌, ap}
 use mathlib.Core.Bool.{Bool, true, false, ◌&&◌}
-use mathlib.Core.List.{List, [], ◌∷◌}
+use mathlib.Core.List.{List}
 use Prim.Native.Nat.{ℕ, ◌<◌, ◌≤◌, zero-le}
 use native.Mathlib.Omega.{arith}
 use borrow.Author.Tests.{le-ltb}
 use lib.Dec.{ltb, leb}
 use lib.ListN.{length}
 use lib.IntN.{ℤ, pos, nat_abs, ◌*ℤ◌}
-use lib.Signed.{lt_z, ◌≤ℤ◌}
+use lib.Signed.{◌≤ℤ◌}
+use Rattle.std.proofs.lemmas.Int.{ints, unsigned_abs-mul}
 use Rattle.exact.specs.Sum.{sum}
 use Rattle.exact.proofs.Bound.{abs_mul}
-use Rattle.exact.proofs.Linear.{unknowns, linear, orders, eq_by, lt_of}
-use Rattle.exact.proofs.Order.{from_one, mul_nonneg, square_nonneg, square_zero, lt_le, lt_true}
+use Rattle.exact.proofs.Order.{from_one, mul_nonneg, square_nonneg, square_zero, lt_le}
 use Rattle.exact.proofs.Ring.{*ℤ_assoc}
 use Rattle.exact.proofs.Searching.{some_none, from_test, from_failed}
 use Rattle.exact.proofs.Sum.{sum_ext, sum_zero, sum_nonneg, sum_zeros}
@@ -55,11 +55,7 @@ module _ (t : Table) (j : ℕ) where
 
 -- ---- a row whose pivot is its entry
 low_entry : (x : ℤ) → pos 0 ≤ℤ x → low_pivot x x ≡ true → x ≡ pos 0
-low_entry x h e = by_test (lt_z x (pos 1)) refl
-  where
-    by_test : (b : Bool) → lt_z x (pos 1) ≡ b → x ≡ pos 0
-    by_test true f = let v = unknowns (x ∷ []) in eq_by (search linear) (search linear) (omega (arith, orders))
-    by_test false f = let g = lt_true {a = pos 1000 *ℤ x} {b = x} (rw f at e) refl refl in absurd (let v = unknowns (x ∷ []) in omega (arith, orders, lt_of g (search linear) (search linear)))
+low_entry x h e = grind (arith, ints, unsigned_abs-mul (pos 1000) x)
 
 module _ (qs cs ws : List ℤ) (s : Sound qs cs ws) (one : length ws ≡ 1) where
   abbrev t : Table

@@ -5,7 +5,7 @@
 --   high_pivot                    a pivot that is not low divides, and 1,000 times it is not below its entry
 --   SoundRow, sound_row           what is known of a row that is not weak
 --   weak_ext                      the test reads the coefficients from j to n alone
-use mathlib.Core.Path.{◌≡◌, refl, ap, ap₂}
+use mathlib.Core.Path.{◌≡◌, ap, ap₂}
 use mathlib.Core.Bool.{Bool, true, false, ◌||◌, ◌&&◌}
 use Prim.Native.Nat.{ℕ, suc, ◌≤◌, ◌<◌}
 use native.Mathlib.Nat.{le_refl}
@@ -13,9 +13,9 @@ use native.Mathlib.Omega.{arith}
 use borrow.Author.Tests.{lt-ltb, le-ltb, ltb-false}
 use lib.Dec.{ltb, leb}
 use lib.IntN.{ℤ, pos, nat_abs, ◌*ℤ◌}
-use lib.Signed.{lt_z, ◌≤ℤ◌, ◌<ℤ◌}
+use lib.Signed.{◌≤ℤ◌, ◌<ℤ◌}
+use Rattle.std.proofs.lemmas.Int.{ints}
 use Rattle.exact.specs.First.{some_below}
-use Rattle.exact.proofs.Order.{from_one, lt_false}
 use Rattle.exact.proofs.Searching.{from_ext, from_none, neither, either}
 use Rattle.doolittle.specs.Solution.{multiplier, low_pivot, weak_row}
 use Rattle.doolittle.specs.Inner.{From}
@@ -46,8 +46,7 @@ module _ (n j : ℕ) (entry : ℤ) (d : ℕ → ℤ) (l : ℤ) where
 
 -- ---- a row that is not weak
 pub high_pivot : (x entry : ℤ) → low_pivot x entry ≡ false → (pos 0 <ℤ x) × (entry ≤ℤ (pos 1000 *ℤ x))
-high_pivot x entry e =
-    let a = neither (lt_z x (pos 1)) (lt_z (pos 1000 *ℤ x) entry) e in (from_one x (lt_false a.0 refl refl), lt_false a.1 refl refl)
+high_pivot x entry e = (grind (arith, ints), grind (arith, ints))
 
 pub record SoundRow (n j : ℕ) (entry : ℤ) (d : ℕ → ℤ) (l : ℤ) : Type 0 where
   pub coefficients : From j n (λ k. nat_abs (d k) ≤ 2560000000)

@@ -1,5 +1,5 @@
 -- What the inner functions ask of each other: bounds under which no step overflows, and what a row of the code holds. No part of the promise.
-use Rattle.std.specs.Prelude.{◌≡◌, List, [], false, ℕ, suc, ◌+◌, ◌-◌, ◌*◌, ◌≤◌, ◌<◌, ltb, length, get_or, ℤ, pos, neg_ℤ, nat_abs, ◌+ℤ◌, ◌*ℤ◌, ◌≤ℤ◌, ◌<ℤ◌}
+use Rattle.std.specs.Prelude.{◌≡◌, Result, Ok, Err, List, [], false, ℕ, suc, ◌+◌, ◌-◌, ◌*◌, ◌≤◌, ◌<◌, ltb, length, get_or, ℤ, pos, neg_ℤ, nat_abs, ◌+ℤ◌, ◌*ℤ◌, ◌≤ℤ◌, ◌<ℤ◌}
 use Rattle.exact.specs.Sum.{sum}
 use Rattle.exact.specs.Nearest.{nearest}
 use Rattle.exact.specs.First.{first}
@@ -9,6 +9,10 @@ use Rattle.doolittle.specs.Solution.{D, L, M, carried, weak, K}
 -- the first `count` numbers of a list are within B
 abbrev pub Small : ℕ → List ℤ → ℕ → Type 0
 Small B xs count = (i : ℕ) → i < count → nat_abs (get_or xs i (pos 0)) ≤ B
+
+-- a list has so many numbers, each within B
+abbrev pub HasSmall : ℕ → List ℤ → ℕ → Type 0
+HasSmall B xs count = (count ≤ length xs) × Small B xs count
 
 -- the numbers of a list from `at` on, `count` of them, are within B
 abbrev pub Within : ℕ → List ℤ → ℕ → ℕ → Type 0
@@ -84,6 +88,11 @@ pub record Triangle (t : Table) (rows : List (List ℤ)) : Type 0 where
   pub all : Rows t t.n rows
   pub sound : (j : ℕ) → j < t.n → weak t j ≡ false
 
+-- what `reduce` answers of a table: all its rows stand, and none is weak; or row j is the first weak one, counted from 0, and the rows before it stand
+abbrev pub Reduced : Table → List (List ℤ) → Result (Unit {0}) ℕ → Type 0
+Reduced t rows (Ok _) = Triangle t rows
+Reduced t rows (Err j) = (j < t.n) × (first t.n (weak t) ≡ j) × Rows t j rows
+
 -- row j of n rows and its multipliers, as far as the correlates read them
 pub record BackWithin (j n : ℕ) (rows : List (List ℤ)) : Type 0 where
   pub constant : nat_abs (cell rows j CONSTANT) ≤ 4000000000
@@ -101,3 +110,8 @@ pub record Solves (t : Table) (k : List ℤ) (from : ℕ) : Type 0 where
   pub within : from ≤ t.n
   pub large : first t.n (λ b. ltb 100000000 (nat_abs (K t (t.n - suc b)))) ≡ t.n - from
   pub correlates : (j : ℕ) → from ≤ j → j < t.n → get_or k j (pos 0) ≡ K t j
+
+-- what `correlates` answers of a table: all correlates stand; or that of a row, counted from 1, is the first that is too large, and those after it stand
+abbrev pub Correlated : Table → List ℤ → Result (Unit {0}) ℕ → Type 0
+Correlated t k (Ok _) = Solves t k 0
+Correlated t k (Err row) = (0 < row) × Solves t k row

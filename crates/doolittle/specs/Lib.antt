@@ -1,3 +1,4 @@
 pub mod Table
 pub mod Solution
 pub mod Inner
+pub mod Lent

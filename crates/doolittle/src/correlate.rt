@@ -1,46 +1,37 @@
 // The correlates K, from the last row up.
 ghost use Rattle.std.specs.Prelude.{◌≡◌, ℕ, suc, ◌≤◌, ◌<◌, length, nat_abs};
 ghost use Rattle.doolittle.specs.Table.{Table, at};
-ghost use Rattle.doolittle.specs.Inner.{From, Triangle, BackWithin, Solves, back_of};
+ghost use Rattle.doolittle.specs.Inner.{From, Triangle, BackWithin, Correlated, back_of};
 
 use crate::reduce::{CONSTANT, Row, by_pivot, plus_carried};
 
 // K(j), from its row, its multipliers in the rows below, and the correlates of those.
 fn correlate(rows: &[Row; 24], k: &[i64], j: usize, n: usize) -> i64
-    requires j_lt_n { (j < n) × (n ≤ 24) × (n ≤ length k.now) }
-    requires back_within { BackWithin j n rows.now }
-    requires from { From (suc j) n (λ e. nat_abs (at k.now e) ≤ 100000000) }
+    requires places { (j < n) × (n ≤ 24) × (n ≤ length k.now) }
+    requires row { BackWithin j n rows.now }
+    requires below { From (suc j) n (λ e. nat_abs (at k.now e) ≤ 100000000) }
     ensures { result ≡ back_of rows.now k.now j n }
 {
-    let l = rows[j][CONSTANT];
-    let pivot = rows[j][j];
-    let mut s = by_pivot(10000, l, pivot);
-    let mut e = j + 1;
-    while e < n {
-        let x = rows[e][j];
-        let y = k[e];
-        s = plus_carried(s, x, y);
-        e += 1;
+    let mut s = by_pivot(10000, rows[j][CONSTANT], rows[j][j]);
+    for e in j + 1..n {
+        s = plus_carried(s, rows[e][j], k[e]);
     }
     s
 }
 
-// All correlates in back order, up to the first that is beyond 10^8, into a lent list; 0 where none is, else the row of that one, counted from 1. Whatever
-// table the rows are of, they are its correlates.
-pub fn correlates(rows: &[Row; 24], n: usize, k: &mut [i64]) -> usize
-    requires n_bound { (n ≤ 24) × (n ≤ length k.old) }
-    requires by_index { (j : ℕ) → j < n → BackWithin j n rows.now }
-    ensures { (t : Table) → t.n ≡ n → Triangle t rows.now → Solves t k.new result }
+// All correlates in back order, up to the first that is beyond 10^8, into a lent list; or the row of that one, counted from 1. Whatever table the rows are of,
+// they are its correlates.
+pub fn correlates(rows: &[Row; 24], n: usize, k: &mut [i64]) -> Result<(), usize>
+    requires room { (n ≤ 24) × (n ≤ length k.old) }
+    requires rows { (j : ℕ) → j < n → BackWithin j n rows.now }
+    ensures { (t : Table) → t.n ≡ n → Triangle t rows.now → Correlated t k.new result }
 {
-    let mut left = n;
-    while 0 < left {
-        let j = left - 1;
+    for j in (0..n).rev() {
         let x = correlate(rows, k, j, n);
         if 100000000 < exact::magnitude(x) {
-            return left;
+            return Err(j + 1);
         }
         k[j] = x;
-        left = j;
     }
-    0
+    Ok(())
 }

@@ -1,11 +1,14 @@
 // The normals and the reduced rows. A row is formed direction by direction; every row above it adds its part, each product once; then it is tested, and its
 // multipliers go into the rows below it.
-ghost use Rattle.std.specs.Prelude.{◌≡◌, false, ◌&&◌, ℕ, suc, ◌*◌, ◌≤◌, ◌<◌, length, pos, neg_ℤ, nat_abs, ◌+ℤ◌, ◌*ℤ◌, ◌<ℤ◌, ltb, leb};
+ghost use Rattle.std.specs.Prelude.{◌≡◌, false, ◌&&◌, ℕ, suc, ◌≤◌, ◌<◌, length, pos, neg_ℤ, nat_abs, ◌+ℤ◌, ◌*ℤ◌, ◌<ℤ◌, ltb, leb};
 ghost use Rattle.exact.specs.Nearest.{nearest};
-ghost use Rattle.exact.specs.First.{first, some_below};
-ghost use Rattle.doolittle.specs.Table.{at, table_of};
-ghost use Rattle.doolittle.specs.Solution.{N, carried, multiplier, low_pivot, weak_row, weak};
-ghost use Rattle.doolittle.specs.Inner.{Sound, CONSTANT, From, Before, RowWithin, Holds, Shaped, Kept, Rows, share, with_above, row_at, cell};
+ghost use Rattle.exact.specs.First.{some_below};
+ghost use Rattle.doolittle.specs.Table.{at};
+ghost use Rattle.doolittle.specs.Solution.{N, carried, multiplier, low_pivot, weak_row};
+ghost use Rattle.doolittle.specs.Lent.{table_in};
+ghost use Rattle.doolittle.specs.Inner.{CONSTANT, From, Before, RowWithin, Holds, Shaped, Kept, Reduced, share, with_above, row_at, cell};
+
+use crate::SoundTable;
 
 // A row: its coefficients at their places, and its constant at the last place. In the triangle row j has D(j,k) from place j on, L(j), and before place j
 // the multipliers M(i,j) of the rows above; its own stand in the rows below, where those read them.
@@ -33,55 +36,37 @@ pub fn plus_product(s: i64, x: i64, y: i64) -> i64
     s + x * y
 }
 
-// What direction i adds to row j: q(i)*a(j,i)*a(k,i) to the entry at each place k from j on; nothing where the condition does not touch the direction. The
-// coefficients of row j begin at `start`, those of row k at `to`.
-fn add_direction(q: &[i64], a: &[i64], w: &[i64], j: usize, start: usize, i: usize, row: &mut [i64])
-    requires sound { Sound q.now a.now w.now }
-    requires j_in_bounds { (j < length w.now) × (start ≡ j * length q.now) × (i < length q.now) }
-    requires in_bounds { (CONSTANT < length row.old) × From j (length w.now) (λ k. nat_abs (at row.old k) ≤ 2560000000) }
-    ensures { Holds j (length w.now)
-        (λ k. at row.old k +ℤ share (table_of q.now a.now w.now) j k i)
+// What direction i adds to row j: q(i)*a(j,i)*a(k,i) to the entry at each place k from j on; nothing where the condition does not touch the direction.
+#[tactic(auto, using(std::proofs::lemmas::Nat::rows))]
+fn add_direction(table: SoundTable, j: usize, i: usize, row: &mut [i64])
+    requires touched { (j < length table.w.now) × (i < length table.q.now) }
+    requires room { CONSTANT < length row.old }
+    requires entries { From j (length table.w.now) (λ k. nat_abs (at row.old k) ≤ 2560000000) }
+    ensures { Holds j (length table.entry.w.now)
+        (λ k. at row.old k +ℤ share (table_in table.entry) j k i)
         (at row.old CONSTANT) row.new }
 {
-    let x = a[start + i];
+    let SoundTable { q, a, w, .. } = table;
+    let x = a[j * q.len() + i];
     if x == UNTOUCHED {
         return;
     }
-    let g = q[i];
-    let gx = weighted(g, x);
-    let mut to = start;
-    let mut k = j;
-    while k < w.len() {
-        let s = row[k];
-        let y = a[to + i];
-        row[k] = plus_product(s, gx, y);
-        to += q.len();
-        k += 1;
+    let gx = weighted(q[i], x);
+    for k in j..w.len() {
+        row[k] = plus_product(row[k], gx, a[k * q.len() + i]);
     }
 }
 
-// 1,000 times a misclosure.
-fn constant(w: i64) -> i64
-    requires { nat_abs w ≤ 1000000 }
-    ensures { result ≡ pos 1000 *ℤ w }
-{
-    1000 * w
-}
-
 // Row j before any row above it is taken: N(j,k) for k from j on, and 1,000*w(j). It is formed direction by direction, in the row itself.
-fn normal_row(q: &[i64], a: &[i64], w: &[i64], j: usize, start: usize) -> Row
-    requires sound { Sound q.now a.now w.now }
-    requires j_in_bounds { (j < length w.now) × (start ≡ j * length q.now) }
-    ensures { Holds j (length w.now) (N (table_of q.now a.now w.now) j)
-        (pos 1000 *ℤ at w.now j) result }
+fn normal_row(table: SoundTable, j: usize) -> Row
+    requires { j < length table.w.now }
+    ensures { Holds j (length table.entry.w.now) (N (table_in table.entry) j)
+        (pos 1000 *ℤ at table.entry.w.now j) result }
 {
-    let x = w[j];
-    let mut row = [0i64; 25];
-    row[CONSTANT] = constant(x);
-    let mut i = 0;
-    while i < q.len() {
-        add_direction(q, a, w, j, start, i, &mut row);
-        i += 1;
+    let mut row = [0; 25];
+    row[CONSTANT] = 1000 * table.w[j];
+    for i in 0..table.q.len() {
+        add_direction(table, j, i, &mut row);
     }
     row
 }
@@ -104,37 +89,29 @@ pub fn plus_carried(s: i64, m: i64, x: i64) -> i64
 
 // The number x of row j at place k with all rows above taken: x + sum over i<j of nearest(M(i,j)*D(i,k) / 10^6). Coefficients and constants alike.
 fn with_above(x: i64, rows: &[Row; 24], j: usize, k: usize) -> i64
-    requires j_bound { (j < 24) × (k < 25) × (nat_abs x ≤ 2560000000) }
-    requires by_index { (i : ℕ) → i < j → (nat_abs (cell rows.now j i) ≤ 1000000000) × (nat_abs (cell rows.now i k) ≤ 4000000000) }
+    requires places { (j < 24) × (k < 25) × (nat_abs x ≤ 2560000000) }
+    requires above { (i : ℕ) → i < j → (nat_abs (cell rows.now j i) ≤ 1000000000) × (nat_abs (cell rows.now i k) ≤ 4000000000) }
     ensures { result ≡ with_above x rows.now j k }
 {
     let mut s = x;
-    let mut i = 0;
-    while i < j {
-        let m = rows[j][i];
-        let y = rows[i][k];
-        s = plus_carried(s, m, y);
-        i += 1;
+    for i in 0..j {
+        s = plus_carried(s, rows[j][i], rows[i][k]);
     }
     s
 }
 
 // Row j with all rows above it taken, behind their multipliers.
 fn reduced(row: Row, rows: &[Row; 24], j: usize, n: usize) -> Row
-    requires j_lt_n { (j < n) × (n ≤ 24) × Shaped rows.now }
-    requires row_within { RowWithin 2560000000 j n row }
-    requires by_index { (i : ℕ) → i < j → (nat_abs (cell rows.now j i) ≤ 1000000000) × RowWithin 4000000000 j n (row_at rows.now i) }
+    requires places { (j < n) × (n ≤ 24) × Shaped rows.now }
+    requires own { RowWithin 2560000000 j n row }
+    requires above { (i : ℕ) → i < j → (nat_abs (cell rows.now j i) ≤ 1000000000) × RowWithin 4000000000 j n (row_at rows.now i) }
     ensures holds { Holds j n (λ k. with_above (at row k) rows.now j k) (with_above (at row CONSTANT) rows.now j CONSTANT) result }
     ensures before { Before j (row_at rows.now j) result }
 {
-    let l = row[CONSTANT];
     let mut next = rows[j];
-    next[CONSTANT] = with_above(l, rows, j, CONSTANT);
-    let mut k = j;
-    while k < n {
-        let d = row[k];
-        next[k] = with_above(d, rows, j, k);
-        k += 1;
+    next[CONSTANT] = with_above(row[CONSTANT], rows, j, CONSTANT);
+    for k in j..n {
+        next[k] = with_above(row[k], rows, j, k);
     }
     next
 }
@@ -144,15 +121,7 @@ fn some_large(row: &[i64], j: usize, n: usize) -> bool
     requires { (j ≤ n) × (n ≤ length row.now) }
     ensures { result ≡ some_below n (λ k. leb j k && ltb 2560000000 (nat_abs (at row.now k))) }
 {
-    let mut k = j;
-    while k < n {
-        let x = row[k];
-        if 2560000000 < exact::magnitude(x) {
-            return true;
-        }
-        k += 1;
-    }
-    false
+    (j..n).any(|k| 2560000000 < exact::magnitude(row[k]))
 }
 
 // nearest(-factor*x / D(j,j)): a multiplier, or a row's own part of its correlate.
@@ -164,23 +133,20 @@ pub fn by_pivot(factor: i64, x: i64, pivot: i64) -> i64
 }
 
 // The multipliers M(j,k) of row j, each into its place in row k, up to the first that is larger than 10^9; whether one is.
+// A bool and no Result: the rules' test of a row is one yes or no, of which this is the last part.
 fn multiply(row: Row, j: usize, n: usize, rows: &mut [Row; 24]) -> bool
-    requires j_lt_n { (j < n) × (n ≤ 24) × Shaped rows.old }
-    requires from { From j n (λ k. nat_abs (at row k) ≤ 2560000000) × (pos 0 <ℤ at row j) }
+    requires places { (j < n) × (n ≤ 24) × Shaped rows.old }
+    requires own { From j n (λ k. nat_abs (at row k) ≤ 2560000000) × (pos 0 <ℤ at row j) }
     ensures value { result ≡ some_below n (λ k. ltb j k && ltb 1000000000 (nat_abs (multiplier (at row k) (at row j)))) }
-    ensures from_2 { result ≡ false → From (suc j) n (λ k. cell rows.new k j ≡ multiplier (at row k) (at row j)) }
+    ensures multiplied { result ≡ false → From (suc j) n (λ k. cell rows.new k j ≡ multiplier (at row k) (at row j)) }
     ensures kept { Kept j rows.old rows.new }
 {
-    let pivot = row[j];
-    let mut k = j + 1;
-    while k < n {
-        let x = row[k];
-        let m = by_pivot(1000000, x, pivot);
+    for k in j + 1..n {
+        let m = by_pivot(1000000, row[k], row[j]);
         if 1000000000 < exact::magnitude(m) {
             return true;
         }
         rows[k][j] = m;
-        k += 1;
     }
     false
 }
@@ -190,10 +156,7 @@ fn is_low(pivot: i64, entry: i64) -> bool
     requires { nat_abs pivot ≤ 2560000000 }
     ensures { result ≡ low_pivot pivot entry }
 {
-    if pivot < 1 {
-        return true;
-    }
-    1000 * pivot < entry
+    pivot < 1 || 1000 * pivot < entry
 }
 
 // The one test of row j, each part as soon as what it tests is complete. `entry` is its N(j,j). The multipliers of a row that is not weak go into the rows
@@ -201,45 +164,33 @@ fn is_low(pivot: i64, entry: i64) -> bool
 fn is_weak(row: Row, entry: i64, j: usize, n: usize, rows: &mut [Row; 24]) -> bool
     requires { (j < n) × (n ≤ 24) × Shaped rows.old }
     ensures value { result ≡ weak_row n j entry (at row) (at row CONSTANT) }
-    ensures from { result ≡ false → From (suc j) n (λ k. cell rows.new k j ≡ multiplier (at row k) (at row j)) }
+    ensures multiplied { result ≡ false → From (suc j) n (λ k. cell rows.new k j ≡ multiplier (at row k) (at row j)) }
     ensures kept { Kept j rows.old rows.new }
 {
-    if some_large(&row, j, n) {
-        return true;
-    }
-    let l = row[CONSTANT];
-    if 4000000000 < exact::magnitude(l) {
-        return true;
-    }
-    let pivot = row[j];
-    if is_low(pivot, entry) {
+    if some_large(&row, j, n)
+        || 4000000000 < exact::magnitude(row[CONSTANT])
+        || is_low(row[j], entry)
+    {
         return true;
     }
     multiply(row, j, n, rows)
 }
 
-// All rows in their order, up to the first weak one, into the triangle, with their multipliers; how many they are.
-pub fn reduce(q: &[i64], a: &[i64], w: &[i64], rows: &mut [Row; 24]) -> usize
-    requires sound { Sound q.now a.now w.now }
-    requires shaped { Shaped rows.old }
-    ensures value { result ≡ first (length w.now)
-        (weak (table_of q.now a.now w.now)) }
-    ensures rows { Rows (table_of q.now a.now w.now) result rows.new }
+// All rows in their order, up to the first weak one, into the triangle, with their multipliers; or the first weak one, counted from 0.
+pub fn reduce(table: SoundTable, rows: &mut [Row; 24]) -> Result<(), usize>
+    requires { Shaped rows.old }
+    ensures { Reduced (table_in table.entry) rows.new result }
 {
-    let n = w.len();
-    let mut start = 0;
-    let mut j = 0;
-    while j < n {
+    let n = table.w.len();
+    for j in 0..n {
         // the row of N is reduced in its own local, which spares the stack a second one: its entry is read first
-        let mut row = normal_row(q, a, w, j, start);
+        let mut row = normal_row(table, j);
         let entry = row[j];
         row = reduced(row, rows, j, n);
         if is_weak(row, entry, j, n, rows) {
-            return j;
+            return Err(j);
         }
         rows[j] = row;
-        start += q.len();
-        j += 1;
     }
-    n
+    Ok(())
 }

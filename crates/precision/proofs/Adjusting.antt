@@ -11,7 +11,6 @@ use lib.IntN.{ℤ, pos, nat_abs}
 use Rattle.exact.specs.Tabulate.{tabulate}
 use Rattle.exact.proofs.Filling.{tabulate_length, tabulate_at}
 use Rattle.reply.specs.declared.Refusal.TheVariants.{OutOfRange}
-use Rattle.reply.specs.declared.Reply.TheVariants.{Accepted}
 use Rattle.reply.proofs.Checking.{refuse_none}
 use Rattle.doolittle.specs.Table.{Table, at, table_of}
 use Rattle.doolittle.specs.Solution.{K}
@@ -24,8 +23,9 @@ use Rattle.precision.specs.Promise.{out_of_range_at, errors_reply, MeanError}
 use Rattle.precision.proofs.Squaring.{S_ext, S_weighted}
 use Rattle.precision.proofs.Admitting.{admitted}
 use Rattle.precision.proofs.Meaning.{lists_mean_error}
+use Rattle.std.specs.Prelude.{Ok}
 
-module _ (ds qs cs ws : List ℤ) (lent : Answers) (e : adjust_reply ds qs cs ws lent ≡ Accepted) where
+module _ (ds qs cs ws : List ℤ) (lent : Answers) (e : adjust_reply ds qs cs ws lent ≡ Ok tt) where
   abbrev t : Table
   t = table_of qs cs ws
 
@@ -38,7 +38,7 @@ module _ (ds qs cs ws : List ℤ) (lent : Answers) (e : adjust_reply ds qs cs ws
   u_is : (i : ℕ) → i < t.m → at us i ≡ u_of t (K t) i
   u_is i l = tabulate_at t.m (u_of t (K t)) i (pos 0) l
 
-  pub table_admitted : errors_reply us qs t.n ≡ Accepted
+  pub table_admitted : errors_reply us qs t.n ≡ Ok tt
   unfolding errors_reply
   table_admitted =
       rw (long, accepted_counts ds qs cs ws lent e, eq-eqb t.m t.m refl)

@@ -13,7 +13,6 @@ use lib.Signed.{◌≤ℤ◌}
 use Rattle.exact.proofs.Linear.{unknowns, orders, one_sided}
 use Rattle.exact.proofs.Searching.{neither}
 use Rattle.reply.specs.declared.Refusal.TheVariants.{Count, OutOfRange}
-use Rattle.reply.specs.declared.Reply.TheVariants.{Accepted}
 use Rattle.reply.specs.Checks.{refuse_if}
 use Rattle.reply.proofs.Checking.{both_accepted, if_accepted, none_refused}
 use Rattle.direction.specs.Ranges.{weight_out_of_range}
@@ -21,6 +20,7 @@ use Rattle.doolittle.specs.Table.{at}
 use Rattle.adjustment.specs.Refusals.{counts_amiss, past_minute}
 use Rattle.adjustment.proofs.Admitting.{counts_known, weight_known}
 use Rattle.precision.specs.Promise.{out_of_range_at, ranges_reply, errors_reply}
+use Rattle.std.specs.Prelude.{Ok}
 
 pub record Admitted (us qs : List ℤ) (n : ℕ) : Type 0 where
   pub m_most : length us ≤ 64
@@ -34,7 +34,7 @@ pub record Admitted (us qs : List ℤ) (n : ℕ) : Type 0 where
 above_0 : (q : ℤ) → pos 1 ≤ℤ q → 0 < nat_abs q
 above_0 q h = let v = unknowns (q ∷ []) in omega (arith, orders, one_sided)
 
-pub admitted : (us qs : List ℤ) (n : ℕ) → errors_reply us qs n ≡ Accepted → Admitted us qs n
+pub admitted : (us qs : List ℤ) (n : ℕ) → errors_reply us qs n ≡ Ok tt → Admitted us qs n
 unfolding errors_reply
 admitted us qs n e =
     let b = both_accepted (refuse_if (counts_amiss (length us) n || not (eqb (length qs) (length us))) (Count 0)) (ranges_reply us qs) e in

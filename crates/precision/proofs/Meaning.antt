@@ -13,13 +13,13 @@ use lib.Dec.{T, leb, ltb, le→leb, leb→le, lt→ltb, ltb→lt}
 use lib.ListN.{length}
 use lib.IntN.{ℤ, pos, negsuc, ◌+ℤ◌}
 use lib.Signed.{◌≤ℤ◌, ◌<ℤ◌}
-use Rattle.reply.specs.declared.Reply.TheVariants.{Accepted}
 use Rattle.doolittle.specs.Table.{at}
 use Rattle.precision.specs.Errors.{root, mean_error, S_of, errors_of}
 use Rattle.precision.specs.Promise.{errors_reply, square, MeanError}
 use Rattle.precision.proofs.Squaring.{S_from_0}
 use Rattle.precision.proofs.Admitting.{admitted}
 use Rattle.precision.proofs.Rooting.{root_within, root_above, root_only, root_largest}
+use Rattle.std.specs.Prelude.{Ok}
 
 module _ (n : ℕ) (h : 0 < n) where
   abbrev c : ℕ
@@ -69,6 +69,6 @@ module _ {n : ℕ} {S e : ℤ} (m : MeanError n S e) where
   only_mean_0 z = subst (λ (x : ℤ). S <ℤ x) once (subst (λ (x : ℤ). S <ℤ square n (x +ℤ pos 1)) z m.above)
 
 -- ---- of lists that are accepted
-pub lists_mean_error : (us qs : List ℤ) (n : ℕ) → errors_reply us qs n ≡ Accepted → MeanError n (S_of us qs) (errors_of us qs n).mean
+pub lists_mean_error : (us qs : List ℤ) (n : ℕ) → errors_reply us qs n ≡ Ok tt → MeanError n (S_of us qs) (errors_of us qs n).mean
 unfolding errors_of
 lists_mean_error us qs n a = mean_error_lem n (admitted us qs n a).n_least (S_of us qs) (S_from_0 (length us) (at qs) (at us))

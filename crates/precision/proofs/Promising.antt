@@ -1,20 +1,18 @@
 -- The promise of `probable_error`, from what its checks have said. Assumes nothing.
---   by_counts, by_lengths, by_ranges      the reply, where the checks before have accepted
+--   by_ranges                             the reply, where counts and lengths are accepted
 --   refused_tells, accepted_tells         a refusal with both numbers as they were lent keeps the promise, and so does an acceptance with both errors
 --   refusal_leaves_numbers                a refusal that keeps the promise leaves both numbers as they were
 --   only_answer, one_estimate             two answers that keep the promise are equal, and leave equal numbers; of `estimate` too
 use mathlib.Core.Path.{◌≡◌, refl, sym, ◌∙◌, ap}
-use mathlib.Core.Bool.{true, false}
+use mathlib.Core.Bool.{false}
 use mathlib.Core.List.{List}
 use Prim.Native.Nat.{ℕ}
-use borrow.Author.Tests.{eq-eqb, ne_eqb}
+use borrow.Author.Tests.{eq-eqb}
 use lib.ListN.{length}
 use lib.IntN.{ℤ}
 use Rattle.exact.proofs.Unique.{only}
 use Rattle.reply.specs.declared.Refusal.{Refusal}
-use Rattle.reply.specs.declared.Refusal.TheVariants.{Count}
-use Rattle.reply.specs.declared.Reply.{Reply}
-use Rattle.reply.specs.declared.Reply.TheVariants.{Accepted, Refused}
+use Rattle.reply.specs.Reply.{Reply}
 use Rattle.reply.specs.Checks.{leaves}
 use Rattle.reply.specs.Verdicts.{verdict_of}
 use Rattle.reply.proofs.Checking.{never}
@@ -23,31 +21,23 @@ use Rattle.precision.specs.declared.Errors.{Errors}
 use Rattle.precision.specs.Errors.{errors_of}
 use Rattle.precision.specs.Promise.{ranges_reply, errors_reply, TellsErrors}
 use Rattle.precision.proofs.Meaning.{lists_mean_error}
+use Rattle.std.specs.Prelude.{Ok, Err}
 
 module _ (us qs : List ℤ) (n : ℕ) where
   -- ---- the reply
-  pub by_counts : counts_amiss (length us) n ≡ true → errors_reply us qs n ≡ Refused (Count 0)
+  pub by_ranges : counts_amiss (length us) n ≡ false → length qs ≡ length us → errors_reply us qs n ≡ ranges_reply us qs
   unfolding errors_reply
-  by_counts e = rw e
-
-  module _ (a : counts_amiss (length us) n ≡ false) where
-    pub by_lengths : (length qs ≡ length us → ⊥) → errors_reply us qs n ≡ Refused (Count 0)
-    unfolding errors_reply
-    by_lengths e = rw (a, ne_eqb (length qs) (length us) e)
-
-    pub by_ranges : length qs ≡ length us → errors_reply us qs n ≡ ranges_reply us qs
-    unfolding errors_reply
-    by_ranges e = rw (a, eq-eqb (length qs) (length us) e)
+  by_ranges a e = rw (a, eq-eqb (length qs) (length us) e)
 
   -- ---- the promise
   module _ {lent : Errors} where
-    pub refused_tells : (why : Refusal) → errors_reply us qs n ≡ Refused why → TellsErrors us qs n lent (Refused why) lent
+    pub refused_tells : (why : Refusal) → errors_reply us qs n ≡ Err why → TellsErrors us qs n lent (Err why) lent
     refused_tells why e = record { answer = sym e; verdict = ap verdict_of (sym e); errors = refl; mean_error = never why }
 
-    pub accepted_tells : errors_reply us qs n ≡ Accepted → {left : Errors} → left ≡ errors_of us qs n → TellsErrors us qs n lent Accepted left
+    pub accepted_tells : errors_reply us qs n ≡ Ok tt → {left : Errors} → left ≡ errors_of us qs n → TellsErrors us qs n lent (Ok tt) left
     accepted_tells e {left} f = record { answer = sym e; verdict = ap verdict_of (sym e); errors = f; mean_error = λ k. rw f (lists_mean_error us qs n e) }
 
-    pub refusal_leaves_numbers : (why : Refusal) (left : Errors) → TellsErrors us qs n lent (Refused why) left → left ≡ lent
+    pub refusal_leaves_numbers : (why : Refusal) (left : Errors) → TellsErrors us qs n lent (Err why) left → left ≡ lent
     refusal_leaves_numbers why left t = t.errors
 
     -- ---- and there is only one

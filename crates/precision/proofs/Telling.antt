@@ -22,8 +22,7 @@ use Rattle.exact.proofs.Rounding.{nearest_multiple}
 use Rattle.exact.proofs.Searching.{first_ext}
 use Rattle.exact.proofs.Sum.{sum_ext, sum_zero}
 use Rattle.reply.specs.declared.Refusal.TheVariants.{Count, OutOfRange}
-use Rattle.reply.specs.declared.Reply.{Reply}
-use Rattle.reply.specs.declared.Reply.TheVariants.{Accepted}
+use Rattle.reply.specs.Reply.{Reply}
 use Rattle.reply.specs.Checks.{refuse_if, ◌and_then◌}
 use Rattle.direction.specs.Ranges.{weight_out_of_range}
 use Rattle.doolittle.specs.Table.{at}
@@ -33,9 +32,10 @@ use Rattle.precision.specs.Promise.{out_of_range_at, ranges_reply, errors_reply}
 use Rattle.precision.proofs.Squaring.{S_from_0, S_ext}
 use Rattle.precision.proofs.Admitting.{admitted}
 use Rattle.precision.proofs.Meaning.{mean_found, mean_0, only_mean_0, lists_mean_error}
+use Rattle.std.specs.Prelude.{Ok}
 
 -- ---- a mean error of 0
-module _ (us qs : List ℤ) (n : ℕ) (a : errors_reply us qs n ≡ Accepted) where
+module _ (us qs : List ℤ) (n : ℕ) (a : errors_reply us qs n ≡ Ok tt) where
   pub below_mean_0 : S_of us qs <ℤ pos (2520 * n) → (errors_of us qs n).mean ≡ pos 0
   below_mean_0 = mean_0 (lists_mean_error us qs n a) (S_from_0 (length us) (at qs) (at us))
 

@@ -1,8 +1,7 @@
 -- What the operation on lent lists promises for every input: its reply, what the two lent numbers then hold, and what the mean error is.
-use Rattle.std.specs.Prelude.{◌≡◌, Bool, ◌||◌, not, List, ℕ, ◌+◌, ◌*◌, eqb, length, ℤ, pos, ◌+ℤ◌, ◌*ℤ◌, ◌≤ℤ◌, ◌<ℤ◌}
+use Rattle.std.specs.Prelude.{◌≡◌, Bool, ◌||◌, not, List, ℕ, ◌+◌, ◌*◌, eqb, length, ℤ, pos, ◌+ℤ◌, ◌*ℤ◌, ◌≤ℤ◌, ◌<ℤ◌, Ok}
 use Rattle.reply.specs.declared.Refusal.TheVariants.{Count, OutOfRange}
-use Rattle.reply.specs.declared.Reply.{Reply}
-use Rattle.reply.specs.declared.Reply.TheVariants.{Accepted}
+use Rattle.reply.specs.Reply.{Reply}
 use Rattle.reply.specs.Checks.{refuse_if, refuse_first, ◌and_then◌, leaves}
 use Rattle.reply.specs.Verdicts.{verdict_of}
 use Rattle.direction.specs.Ranges.{weight_out_of_range}
@@ -41,4 +40,4 @@ pub record TellsErrors (us qs : List ℤ) (n : ℕ) (lent : Errors) (reply : Rep
   -- in the rules' numbers: number and place
   pub verdict : verdict_of reply ≡ verdict_of (errors_reply us qs n)
   pub errors : left ≡ leaves reply (errors_of us qs n) lent
-  pub mean_error : reply ≡ Accepted → MeanError n (S_of us qs) left.mean
+  pub mean_error : reply ≡ Ok tt → MeanError n (S_of us qs) left.mean

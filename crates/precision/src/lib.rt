@@ -6,73 +6,64 @@ mod root;
 mod squares;
 
 ghost use Rattle.std.specs.Prelude.{◌≡◌, length};
-ghost use Rattle.reply.specs.declared.Reply.TheVariants.{Accepted};
 ghost use Rattle.precision.specs.Errors.{errors, errors_of};
 ghost use Rattle.precision.specs.Promise.{ranges_reply, errors_reply, TellsErrors};
 
 use adjustment::MINUTE;
-use reply::{Refusal, Reply};
+use reply::Refusal;
 
 // The mean and the probable error of a direction, in 0.001 second.
-#[derive(Clone, Copy)]
+#[derive(Clone, Copy, Debug, PartialEq, Eq)]
 pub struct Errors {
     pub mean: i64,
     pub probable: i64,
 }
 
 // Refuses the first direction whose u is past one minute or whose q is out of range, by its number.
-fn check(u: &[i64], q: &[i64]) -> Reply
+fn check(u: &[i64], q: &[i64]) -> Result<(), Refusal>
     requires { length q.now ≡ length u.now }
     ensures { result ≡ ranges_reply u.now q.now }
 {
-    let mut i = 0;
-    while i < u.len() {
-        let x = u[i];
-        if MINUTE < exact::magnitude(x) {
-            return Reply::Refused(Refusal::OutOfRange((i + 1) as u64));
+    for (i, x) in u.iter().enumerate() {
+        if MINUTE < exact::magnitude(*x) || direction::weight_out_of_range(q[i]) {
+            return Err(Refusal::OutOfRange(i as u64 + 1));
         }
-        let y = q[i];
-        if direction::weight_out_of_range(y) {
-            return Reply::Refused(Refusal::OutOfRange((i + 1) as u64));
-        }
-        i += 1;
     }
-    Reply::Accepted
+    Ok(())
 }
 
 // Both errors, of lists that are accepted.
+// n is the number of conditions, which is the length of neither list.
+#[tactic(auto, using(crate::proofs::Admitting::admitted))]
 pub fn estimate(u: &[i64], q: &[i64], n: usize) -> Errors
-    requires { errors_reply u.now q.now n ≡ Accepted }
+    requires { errors_reply u.now q.now n ≡ Ok tt }
     ensures { result ≡ errors_of u.now q.now n }
 {
-    let s = squares::sum(u, q);
-    let e = root::root(2520 * (n as u64), s) as i64;
+    let e = root::root(2520 * n as u64, squares::sum(u, q)) as i64;
     Errors {
         mean: e,
-        probable: exact::nearest(6745 * e, 10000),
+        probable: exact::nearest(6745 * e, 10_000),
     }
 }
 
-// The mean and the probable error of lent lists: of the printed corrections of m directions, their q, and how many conditions there were.
+// The mean and the probable error of lent lists: of the printed corrections u of all directions, their q, and how many conditions there were.
 // They go into two lent numbers, which a refusal leaves as they were.
-pub fn probable_error(u: &[i64], q: &[i64], n: usize, mean: &mut i64, probable: &mut i64) -> Reply
+pub fn probable_error(
+    u: &[i64],
+    q: &[i64],
+    n: usize,
+    mean: &mut i64,
+    probable: &mut i64,
+) -> Result<(), Refusal>
     ensures { TellsErrors u.now q.now n
         (errors mean.old probable.old) result (errors mean.new probable.new) }
 {
-    if adjustment::counts_amiss(u.len(), n) {
-        return Reply::Refused(Refusal::Count(0));
+    if adjustment::counts_amiss(u.len(), n) || q.len() != u.len() {
+        return Err(Refusal::Count(0));
     }
-    if q.len() != u.len() {
-        return Reply::Refused(Refusal::Count(0));
-    }
-    let by_direction = check(u, q);
-    if let Reply::Refused(why) = by_direction {
-        return Reply::Refused(why);
-    }
+    check(u, q)?;
     let found = estimate(u, q, n);
-    let e = found.mean;
-    let p = found.probable;
-    *mean = e;
-    *probable = p;
-    Reply::Accepted
+    *mean = found.mean;
+    *probable = found.probable;
+    Ok(())
 }

@@ -11,7 +11,8 @@ pub fn root(c: u64, s: u64) -> u64
 {
     let mut e: u64 = 0;
     let mut bit: u64 = 19;
-    let found = loop {
+    // A loop and no `for`: the rules name a root search that yields its value by `break`.
+    loop {
         if bit == 0 {
             break e;
         }
@@ -20,6 +21,5 @@ pub fn root(c: u64, s: u64) -> u64
         if next * next * c <= s {
             e = next;
         }
-    };
-    found
+    }
 }

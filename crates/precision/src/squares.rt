@@ -14,18 +14,15 @@ fn weighted_square(q: i64, u: i64) -> u64
 }
 
 // Their sum over all directions.
+#[tactic(auto, using(crate::proofs::Squaring::S_none, crate::proofs::Squaring::S_more))]
 pub fn sum(u: &[i64], q: &[i64]) -> u64
     requires u_len_bound { (length u.now ≤ 64) × (length q.now ≡ length u.now) }
     requires small { Small 60000 u.now (length u.now) × ((i : ℕ) → i < length u.now → 0 < nat_abs (at q.now i)) }
     ensures { pos result ≡ S_of u.now q.now }
 {
-    let mut s: u64 = 0;
-    let mut i = 0;
-    while i < u.len() {
-        let x = u[i];
-        let y = q[i];
-        s = s + weighted_square(y, x);
-        i += 1;
+    let mut s = 0;
+    for (i, x) in u.iter().enumerate() {
+        s += weighted_square(q[i], *x);
     }
     s
 }

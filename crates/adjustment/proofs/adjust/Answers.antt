@@ -1,84 +1,29 @@
 -- `adjust` meets its contract. Assumes nothing.
-use mathlib.Core.Path.{◌≡◌, sym, ◌∙◌}
-use mathlib.Core.List.{List}
-use native.Mathlib.Omega.{arith}
-use lib.IntN.{ℤ}
-use Rattle.reply.specs.declared.Reply.TheVariants.{Accepted}
+use Rattle.std.proofs.Common.{◌≡◌, sym, ◌∙◌, rules, Err}
+use Rattle.reply.specs.Reply.{Reply}
 use Rattle.doolittle.specs.Table.{Table, table_of}
-use Rattle.adjustment.specs.Refusals.{solution_reply}
-use Rattle.adjustment.specs.Promise.{Answers, lists}
-use Rattle.adjustment.proofs.Promising.{refused_input, Passed, passed_table, refused_adjusts, accepted_adjusts}
+use Rattle.adjustment.specs.Inner.{Solved}
+use Rattle.adjustment.proofs.Answering.{taken, answered}
+use Rattle.adjustment.proofs.Promising.{refused_input, passed_solved, refused_adjusts, accepted_adjusts}
 use Rattle.adjustment.proofs.adjust.Goals as goal
-use Rattle.adjustment.proofs.adjust.Goals.{After-solve-reply, In_default, In_default-reply, Start}
 
--- the lent lists, and the table
-module _ (s : Start) where
-  abbrev ds : List ℤ
-  ds = s.args.directions.now
+pub returns-in_err-check : goal.returns-in_err-check
+returns-in_err-check c =
+    let e : ◌≡◌ {A = Reply} c.from_residual.result (Err c.in_err-check.field-0.0) = search rules in
+    rw e (refused_adjusts _ _ _ _ _ _ (refused_input _ _ _ _ _ (sym c.check.ensures.answer ∙ c.in_err-check.was)))
 
-  abbrev q : List ℤ
-  q = s.args.q.now
-
-  abbrev a : List ℤ
-  a = s.args.a.now
-
-  abbrev w : List ℤ
-  w = s.args.w.now
-
-  abbrev t : Table
-  t = table_of q a w
-
-  abbrev lent : Answers
-  lent = lists s.args.corrections.now s.args.printed.now s.args.adjusted.now s.args.correlates.now s.args.remainders.now s.args.misses.now
-
-pub returns-in-Refused : goal.returns-in-Refused
-returns-in-Refused c =
-    let s = c.before.before in
-    refused_adjusts (ds s) (q s) (a s) (w s) (lent s) _ (refused_input (ds s) (q s) (a s) (w s) (lent s) (sym c.check-input.ensures ∙ c.in-Refused.is))
-
--- the table has passed its input checks
-module _ (c : In_default) where
-  abbrev start : Start
-  start = c.before.before
-
-  passed : Passed (ds start) (q start) (a start) (w start) (lent start)
-  passed = passed_table (ds start) (q start) (a start) (w start) (lent start) (sym c.check-input.ensures ∙ c.in_default.is)
-
-pub solve-reply-requires : goal.solve-reply-requires
-solve-reply-requires c = let s = (passed c.before.before.before.before).sound in record {
-  sound = s;
-  q_in_bounds = (s.m_most, s.m_most);
-  w_in_bounds = (s.n_most, s.n_most);
-}
-
-pub returns-in-Refused-reply : goal.returns-in-Refused-reply
-returns-in-Refused-reply c =
-    let d = c.before.before.before.before.before.before.before.before.before.before in let s = start d in
-    refused_adjusts (ds s) (q s) (a s) (w s) (lent s) _ ((passed d).reply ∙ sym c.solve-reply.ensures.value ∙ c.in-Refused-reply.is)
-
--- the table is solved
-module _ (c : In_default-reply) where
-  abbrev solved : After-solve-reply
-  solved = c.before.before.before.before.before
-
-  abbrev told : In_default
-  told = solved.before.before.before.before.before
-
-  accepted : solution_reply (t (start told)) ≡ Accepted
-  accepted = sym solved.solve-reply.ensures.value ∙ c.in_default-reply.is
-
-pub answer-requires : goal.answer-requires
-answer-requires c =
-    let e = c.before.before.before.before.before.before.before.before.before.before in let k = (solved e).solve-reply.auto in let p = passed (told e) in let s = p.sound in record {
-      sound = s;
-      solved = (solved e).solve-reply.ensures.solved e.in_default-reply.is;
-      q_in_bounds = (omega (arith, k.v, s.m_most), omega (arith, k.u, s.m_most), omega (arith, k.k, s.n_most), omega (arith, k.r, s.n_most));
-      directions_len = (p.directions, p.in_circle);
-      corrections_len = p.by_direction;
-      correlates_len = p.by_condition;
-    }
+pub returns-in_err-solve : goal.returns-in_err-solve
+returns-in_err-solve c =
+    let e : ◌≡◌ {A = Reply} c.from_residual-in_err-solve.result (Err c.in_err-solve.field-0.0) = search rules in
+    let p = passed_solved _ _ _ _ _ (sym c.check.ensures.answer ∙ c.in_ok-check.was) in
+    rw e (refused_adjusts _ _ _ _ _ _ (p ∙ sym c.solve.ensures.value ∙ c.in_err-solve.was))
 
 pub returns : goal.returns
 returns c =
-    let e = c.before.before.before.before.before.before.before.before.before.before.before.before.before.before.before.before.before in let d = told e in let s = start d in
-    accepted_adjusts (ds s) (q s) (a s) (w s) (lent s) (accepted e) (passed d).sound (passed d).reply _ c.answer.ensures
+    let h = c.in_ok-check.ensures.checked in
+    let t : Table = table_of c.args.q.now c.args.a.now c.args.w.now in
+    let s : Solved t c.copy_from_slice-3.new.self c.copy_from_slice.new.self c.copy_from_slice-2.new.self c.copy_from_slice-4.new.self =
+    taken (c.solve.ensures.solved c.in_ok-solve.was) c.copy_from_slice-3.ensures.after c.copy_from_slice.ensures.after c.copy_from_slice-2.ensures.after c.copy_from_slice-4.ensures.after in
+    accepted_adjusts _ _ _ _ _ (sym c.solve.ensures.value ∙ c.in_ok-solve.was) h.sound (passed_solved _ _ _ _ _ (sym c.check.ensures.answer ∙ c.in_ok-check.was)) _
+    (answered s c.args.directions.now (c.copy_from_slice.auto.self ∙ h.by_direction.0) (c.copy_from_slice-2.auto.self ∙ h.by_direction.1) (c.copy_from_slice-3.auto.self ∙ h.by_condition.0) (c.copy_from_slice-4.auto.self ∙ h.by_condition.1)
+    h.by_direction.2 c.adjust_directions.ensures c.print_remainders.ensures)

@@ -1,47 +1,33 @@
--- `precision::probable_error` keeps its promise. Assumes nothing.
-use mathlib.Core.Path.{◌≡◌, sym, ◌∙◌, ap₂}
-use mathlib.Core.Bool.{false}
-use lib.ListN.{length}
-use Rattle.exact.proofs.Bound.{read_at}
-use Rattle.adjustment.specs.Refusals.{counts_amiss}
-use Rattle.precision.specs.Errors.{errors}
+-- `precision::probable_error` keeps its promise: counts and lengths, then ranges, and nothing is stored before. Assumes nothing.
+use Rattle.std.proofs.Common.{◌≡◌, sym, ◌∙◌, rules, arith, Err}
+use Rattle.std.proofs.lemmas.Grind.{common_steps}
+use Rattle.reply.specs.Reply.{Reply}
+use Rattle.reply.specs.declared.Refusal.TheVariants.{Count}
 use Rattle.precision.specs.Promise.{errors_reply}
-use Rattle.precision.proofs.Promising.{by_counts, by_lengths, by_ranges, refused_tells, accepted_tells}
+use Rattle.precision.proofs.Promising.{by_ranges, refused_tells, accepted_tells}
 use Rattle.precision.proofs.probable_error.Goals as goal
-use Rattle.precision.proofs.probable_error.Goals.{After-check-by_direction, Else-counts_amiss, Start}
+use Rattle.precision.proofs.probable_error.Goals.{After-check}
 
 pub returns-then-counts_amiss : goal.returns-then-counts_amiss
+unfolding errors_reply
 returns-then-counts_amiss c =
     let a = c.args in
-    refused_tells a.u.now a.q.now a.n _ (by_counts a.u.now a.q.now a.n (sym c.counts_amiss.ensures ∙ c.if-counts_amiss.true))
+    let why : errors_reply a.u.now a.q.now a.n ≡ Err (Count 0) = grind (arith, common_steps) in refused_tells a.u.now a.q.now a.n _ why
 
--- ---- counts in range
-counts_sound : (c : Else-counts_amiss) → let a = c.args in counts_amiss (length a.u.now) a.n ≡ false
-counts_sound c = sym c.counts_amiss.ensures ∙ c.if-counts_amiss.false
+replies : (c : After-check) → errors_reply c.args.u.now c.args.q.now c.args.n ≡ c.check.result
+unfolding errors_reply
+replies c = let a = c.args in by_ranges a.u.now a.q.now a.n (search rules) c.if-q-u.false ∙ sym c.check.ensures
 
-pub returns-then-q-u : goal.returns-then-q-u
-returns-then-q-u c =
-    let b = c.before in let a = b.args in
-    refused_tells a.u.now a.q.now a.n _ (by_lengths a.u.now a.q.now a.n (counts_sound b) c.if-q-u.true)
-
--- ---- lengths that agree
-module _ (c : After-check-by_direction) where
-  abbrev start : Start
-  start = c.before.before.before.before
-
-  replies : errors_reply start.args.u.now start.args.q.now start.args.n ≡ c.check-by_direction.result
-  replies = by_ranges start.args.u.now start.args.q.now start.args.n (counts_sound c.before.before) c.if-q-u.false ∙ sym c.check-by_direction.ensures
-
-pub returns-in-Refused : goal.returns-in-Refused
-returns-in-Refused c =
-    let b = c.before in let a = (start b).args in
-    refused_tells a.u.now a.q.now a.n _ (replies b ∙ c.in-Refused.is)
+pub returns-in_err-check : goal.returns-in_err-check
+returns-in_err-check c =
+    let a = c.args in
+    let why : ◌≡◌ {A = Reply} c.from_residual.result (Err c.in_err-check.field-0.0) = search rules in
+    rw why (refused_tells a.u.now a.q.now a.n _ (replies c.before.before.before ∙ c.in_err-check.was))
 
 pub estimate-found-requires : goal.estimate-found-requires
-estimate-found-requires c = replies c.before ∙ c.in_default.is
+estimate-found-requires c = replies c.before.before ∙ c.in_ok-check.was
 
 pub returns : goal.returns
 returns c =
-    let b = c.before.before.before.before in let a = (start b).args in let r = c.estimate-found.result in
-    accepted_tells a.u.now a.q.now a.n (replies b ∙ c.in_default.is)
-    (ap₂ errors (read_at r.mean c.struct_told-1.given.0.1) (read_at r.probable c.struct_told-2-1.given.1.0.1) ∙ c.estimate-found.ensures)
+    let a = c.args in
+    accepted_tells a.u.now a.q.now a.n (replies c.before.before.before.before.before ∙ c.in_ok-check.was) (search rules)

@@ -1,42 +1,14 @@
 -- `correct::adjust_directions` meets its contract. Assumes nothing.
-use mathlib.Core.Path.{◌≡◌, refl, ◌∙◌, ap₂, subst}
-use mathlib.Core.List.{List}
-use Prim.Native.Nat.{ℕ, ◌<◌}
-use native.Mathlib.Omega.{arith}
-use lib.ListN.{length, get_or}
-use lib.IntN.{ℤ, pos, ◌+ℤ◌}
-use mir.Syntax.{w64}
-use mir.Val.{to_z, of_z}
-use Rattle.exact.specs.Circle.{C, modulo}
-use Rattle.exact.proofs.Bound.{read_at, read_within}
-use Rattle.exact.proofs.Filling.{Filled, filled_none, filled_more, filled_all}
+use Rattle.std.proofs.Common.{pos, arith}
+use Rattle.std.proofs.lemmas.Int.{to_z-of_z}
+use Rattle.exact.proofs.Filling.{tabulate_is}
+use Rattle.adjustment.proofs.Rows.{put_more}
 use Rattle.adjustment.proofs.correct.adjust_directions.Goals as goal
-
--- a direction with its correction
-abbrev added : List ℤ → List ℤ → ℕ → ℤ
-added directions u i = modulo (get_or directions i (pos 0) +ℤ get_or u i (pos 0)) C
-
-pub loop-i-init : goal.loop-i-init
-loop-i-init c = (omega arith, filled_none (pos 0) (added c.args.directions.now c.args.u.now) 0 c.args.adjusted.now)
-
-pub turned-requires : goal.turned-requires
-turned-requires c =
-    let i = c.loop-i.i in let h : i < length c.args.adjusted.now = omega (arith, c.loop-i.invariant.1.long) in (
-      read_within (get_or c.args.directions.now i (pos 0)) c.x-1.given (c.requires.small.0 i h),
-      read_within (get_or c.args.u.now i (pos 0)) c.y-1.given (c.requires.small.1 i h),
-    )
 
 pub loop-i-preserved : goal.loop-i-preserved
 loop-i-preserved c =
-    let i = c.loop-i.i in
-    let x = get_or c.args.directions.now i (pos 0) in let y = get_or c.args.u.now i (pos 0) in (
-      omega arith,
-      filled_more (pos 0) (added c.args.directions.now c.args.u.now) 0 i c.args.adjusted.now c.loop-i.adjusted (to_z w64 (of_z w64 c.turned.result)) (omega (arith, c.loop-i.invariant.1.long)) c.loop-i.invariant.1
-          (read_at c.turned.result c.turned.type_inv ∙ c.turned.ensures ∙ ap₂ (λ (u v : ℤ). modulo (u +ℤ v) C) (read_at x c.x-1.given) (read_at y c.y-1.given)),
-    )
+    let d = c.requires.directions.1 c.loop-i.i (omega arith) in let u = c.requires.corrections.1 c.loop-i.i (omega arith) in
+    put_more _ c.loop-i.adjusted c.loop-i.i _ (omega arith) c.loop-i.invariant (grind (arith, to_z-of_z))
 
 pub returns : goal.returns
-returns c =
-    let e : c.loop-i.i ≡ length c.args.adjusted.now = omega (arith, c.loop-i.invariant.1.long) in
-    filled_all (pos 0) (added c.args.directions.now c.args.u.now) (length c.args.adjusted.now) c.args.adjusted.now c.loop-i.adjusted refl
-    (subst (λ (i : ℕ). Filled (pos 0) (added c.args.directions.now c.args.u.now) 0 i c.args.adjusted.now c.loop-i.adjusted) e c.loop-i.invariant.1)
+returns c = tabulate_is (pos 0) _ _ _ c.loop-i.auto.adjusted (λ i l. c.loop-i.invariant i (omega arith))

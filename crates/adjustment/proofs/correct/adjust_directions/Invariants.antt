@@ -1,18 +1,9 @@
--- `correct::adjust_directions` meets its contract. Assumes nothing.
-use mathlib.Core.List.{List}
-use Prim.Native.Nat.{ℕ, ◌-◌, ◌≤◌}
-use lib.ListN.{length, get_or}
-use lib.IntN.{ℤ, pos, ◌+ℤ◌}
+-- `correct::adjust_directions` meets its contract: the adjusted directions before i stand in the list. Assumes nothing.
+use Rattle.std.proofs.Common.{◌≡◌, ℕ, ◌<◌}
+use Rattle.std.specs.Prelude.{◌+ℤ◌}
 use Rattle.exact.specs.Circle.{C, modulo}
-use Rattle.exact.proofs.Filling.{Filled}
+use Rattle.doolittle.specs.Table.{at}
 use Rattle.adjustment.proofs.correct.adjust_directions.Given as goal
 
--- a direction with its correction
-abbrev added : List ℤ → List ℤ → ℕ → ℤ
-added directions u i = modulo (get_or directions i (pos 0) +ℤ get_or u i (pos 0)) C
-
 abbrev pub invariant-loop-i : goal.invariant-loop-i
-invariant-loop-i l = (l.i ≤ length l.initial.adjusted) × Filled (pos 0) (added l.directions l.u) 0 l.i l.initial.adjusted l.adjusted
-
-abbrev pub decreases-loop-i : goal.decreases-loop-i
-decreases-loop-i l = length l.initial.adjusted - l.i
+invariant-loop-i l = (h : ℕ) → h < l.i → at l.adjusted h ≡ modulo (at l.directions h +ℤ at l.u h) C

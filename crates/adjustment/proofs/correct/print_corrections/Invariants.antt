@@ -1,21 +1,13 @@
--- `correct::print_corrections` meets its contract. Assumes nothing.
-use mathlib.Core.Bool.{Bool}
-use mathlib.Core.List.{List}
-use Prim.Native.Nat.{ℕ, ◌-◌, ◌≤◌}
-use lib.Dec.{ltb}
-use lib.IntN.{ℤ, pos, nat_abs}
+-- `correct::print_corrections` meets its contract: the printed corrections before i are within one minute, and stand in the list. Assumes nothing.
+use Rattle.std.proofs.Common.{◌≡◌, ℕ, ◌<◌}
 use Rattle.exact.proofs.Searching.{Failed}
-use Rattle.exact.proofs.Filling.{Filled}
 use Rattle.doolittle.specs.Table.{at}
 use Rattle.adjustment.specs.Inner.{rounding}
+use Rattle.adjustment.proofs.Solving.{beyond}
 use Rattle.adjustment.proofs.correct.print_corrections.Given as goal
 
--- the printed correction of direction i is past one minute
-abbrev past : List ℤ → ℕ → Bool
-past v i = ltb 60000 (nat_abs (rounding (at v) i))
-
 abbrev pub invariant-loop-i : goal.invariant-loop-i
-invariant-loop-i l = (l.i ≤ l.m) × Failed (past l.v) l.i × Filled (pos 0) (rounding (at l.v)) 0 l.i l.initial.u l.u
-
-abbrev pub decreases-loop-i : goal.decreases-loop-i
-decreases-loop-i l = l.m - l.i
+invariant-loop-i l = record {
+  within : Failed (beyond 60000 (rounding (at l.v))) l.i;
+  stored : (h : ℕ) → h < l.i → at l.u h ≡ rounding (at l.v) h;
+}

@@ -1,94 +1,45 @@
 -- `correct::print_remainders` meets its contract. Assumes nothing.
-use mathlib.Core.Path.{◌≡◌, sym, ◌∙◌, ap, ap₂, subst}
-use mathlib.Core.List.{List}
-use Prim.Native.Nat.{ℕ, ◌+◌, ◌≤◌, ◌<◌}
-use native.Mathlib.Omega.{arith}
-use native.Mathlib.Nat.{zero-mul}
-use lib.ListN.{length, get_or}
-use lib.IntN.{ℤ, pos, nat_abs, ◌+ℤ◌, ◌*ℤ◌}
-use mir.Syntax.{w64}
-use mir.Val.{to_z, of_z}
-use Rattle.exact.specs.Sum.{sum}
-use Rattle.exact.proofs.Bound.{read_at, read_within}
-use Rattle.exact.proofs.Filling.{Filled, filled_none, filled_more, filled_all}
-use Rattle.doolittle.specs.Table.{Table, at, table_of}
-use Rattle.adjustment.specs.Demand.{seen}
-use Rattle.doolittle.specs.Inner.{Within}
-use Rattle.doolittle.proofs.Sizes.{sum_within, product_size, row_end, next_row}
+use Rattle.std.proofs.Common.{◌≡◌, ◌≤◌, ◌∙◌, arith, ℤ, pos, nat_abs, FitsSigned, to_z, of_z, w64}
+use Rattle.std.specs.Prelude.{◌+ℤ◌, ◌*ℤ◌}
+use Rattle.std.proofs.lemmas.Int.{ints, to_z-of_z}
+use Rattle.exact.proofs.Bound.{abs_mul}
+use Rattle.exact.proofs.Filling.{tabulate_is}
+use Rattle.doolittle.specs.Table.{at}
+use Rattle.adjustment.proofs.Rows.{seen_size, added_fits, added_kept, put_more}
 use Rattle.adjustment.proofs.correct.print_remainders.Goals as goal
-use Rattle.adjustment.proofs.correct.print_remainders.Goals.{After-sum_seen-s, At-loop-j, Start}
+use Rattle.adjustment.proofs.correct.print_remainders.Goals.{After-sum_seen}
 
--- Q(j)
-abbrev printed_at : List ℤ → List ℤ → List ℤ → List ℤ → ℕ → ℤ
-printed_at q a w u j = pos 100000 *ℤ seen (table_of q a w) j (at u) +ℤ pos 10000000 *ℤ get_or w j (pos 0)
+-- the sum over condition j, and its misclosure, are within their bounds
+module _ (c : After-sum_seen) where
+  abbrev w : ℤ
+  w = at c.args.table.w.now c.loop-j.j
 
-pub loop-j-init : goal.loop-j-init
-loop-j-init c =
-    let a = c.args in
-    (omega arith, sym (zero-mul (length a.q.now)), filled_none (pos 0) (printed_at a.q.now a.a.now a.w.now a.u.now) 0 a.printed.now)
+  w_size : nat_abs w ≤ 1000000
+  w_size = c.args.table.sound.w_most c.loop-j.j c.loop-j-test.true
 
-pub sum_seen-s-requires : goal.sum_seen-s-requires
-sum_seen-s-requires c =
-    let t = c.requires.sound in let m = length c.args.q.now in let h : c.loop-j.j < length c.args.w.now = omega arith in record {
-      m_bound = (t.m_most, row_end c.loop-j.j (length c.args.w.now) m h t.long c.loop-j.invariant.1, c.requires.q_in_bounds.0);
-      within = subst (λ (k : ℕ). Within 2000 c.args.a.now k m) (sym c.loop-j.invariant.1) (t.a_most c.loop-j.j h);
-      small = λ i e. omega (arith, c.requires.small i e);
-    }
+  s_size : nat_abs c.sum_seen.result ≤ 7680000000
+  s_size = rw c.sum_seen.ensures (seen_size c.args.table c.args.u.now c.requires.corrections.1 c.loop-j.j c.loop-j-test.true)
 
--- in a turn
-module _ (c : After-sum_seen-s) where
-  abbrev loop : At-loop-j
-  loop = c.before.before
+  abbrev scaled : ℤ
+  scaled = pos 100000 *ℤ to_z w64 (of_z w64 c.sum_seen.result)
 
-  abbrev start : Start
-  start = loop.before
+  scaled_is : scaled ≡ pos 100000 *ℤ c.sum_seen.result
+  scaled_is = let f : FitsSigned w64 c.sum_seen.result = omega (arith, ints, s_size) in simp to_z-of_z
 
-  abbrev t : Table
-  t = table_of start.args.q.now start.args.a.now start.args.w.now
+  scaled_size : nat_abs scaled ≤ 6144000000000000000
+  scaled_size = rw scaled_is (omega (arith, s_size, abs_mul (pos 100000) c.sum_seen.result))
 
-  abbrev u : List ℤ
-  u = start.args.u.now
+pub overflow_mul-printed : goal.overflow_mul-printed
+overflow_mul-printed c = let b = (goal.at.overflow_mul-printed c).After-sum_seen in omega (arith, ints, scaled_size b)
 
-  abbrev j : ℕ
-  j = loop.loop-j.j
-
-  below : j < t.n
-  below = omega arith
-
-  sum_is : c.sum_seen-s.result ≡ seen t j (at u)
-  sum_is = c.sum_seen-s.ensures ∙ ap (λ (k : ℕ). sum t.m (λ i. get_or start.args.a.now (k + i) (pos 0) *ℤ get_or u i (pos 0))) loop.loop-j.invariant.1
-
-  sum_size : nat_abs c.sum_seen-s.result ≤ 7680000000
-  sum_size =
-      rw sum_is
-      (sum_within t.m 64 120000000 (λ i. t.a j i *ℤ at u i) start.requires.sound.m_most
-      (λ i l. product_size (t.a j i) (at u i) (start.requires.sound.a_most j below i l) (start.requires.small i l)))
-
-pub printed_remainder-requires : goal.printed_remainder-requires
-printed_remainder-requires c =
-    let b = c.before in let s = start b in (
-      read_within b.sum_seen-s.result b.sum_seen-s.type_inv (sum_size b),
-      read_within (get_or s.args.w.now (j b) (pos 0)) c.x-1.given (s.requires.sound.w_most (j b) (below b)),
-    )
-
-pub overflow_add-start : goal.overflow_add-start
-overflow_add-start c =
-    let b = c.before.before in let s = start b in
-    omega (arith, row_end (j b) (t b).n (t b).m (below b) s.requires.sound.long (loop b).loop-j.invariant.1)
+pub overflow_add-printed : goal.overflow_add-printed
+overflow_add-printed c = let b = (goal.at.overflow_add-printed c).After-sum_seen in added_fits (scaled b) (w b) (scaled_size b) (w_size b)
 
 pub loop-j-preserved : goal.loop-j-preserved
 loop-j-preserved c =
-    let b = c.before.before in let s = start b in let i = (loop b).loop-j.invariant in (
-      omega arith,
-      next_row (j b) (t b).m i.1,
-      filled_more (pos 0) (printed_at s.args.q.now s.args.a.now s.args.w.now (u b)) 0 (j b) s.args.printed.now (loop b).loop-j.printed (to_z w64 (of_z w64 c.printed_remainder.result))
-          (omega (arith, s.requires.q_in_bounds.1, below b)) i.2
-          (read_at c.printed_remainder.result c.printed_remainder.type_inv ∙ c.printed_remainder.ensures
-          ∙ ap₂ (λ (x y : ℤ). pos 100000 *ℤ x +ℤ pos 10000000 *ℤ y) (read_at b.sum_seen-s.result b.sum_seen-s.type_inv ∙ sum_is b) (read_at (at s.args.w.now (j b)) c.x-1.given)),
-    )
+    let b = (goal.at.loop-j-preserved c).After-sum_seen in
+    put_more _ c.loop-j.printed c.loop-j.j _ (omega (arith, c.loop-j.auto.printed, c.requires.long)) c.loop-j.invariant
+    (added_kept (scaled b) (w b) (scaled_size b) (w_size b) ∙ (λ i. scaled_is b i +ℤ pos 10000000 *ℤ w b) ∙ (λ i. pos 100000 *ℤ c.sum_seen.ensures i +ℤ pos 10000000 *ℤ w b))
 
 pub returns : goal.returns
-returns c =
-    let n = length c.args.w.now in let e : c.loop-j.j ≡ n = omega arith in
-    let g = printed_at c.args.q.now c.args.a.now c.args.w.now c.args.u.now in
-    filled_all (pos 0) g n c.args.printed.now c.loop-j.printed c.requires.q_in_bounds.1 (subst (λ (i : ℕ). Filled (pos 0) g 0 i c.args.printed.now c.loop-j.printed) e c.loop-j.invariant.2)
+returns c = tabulate_is (pos 0) _ _ _ (c.loop-j.auto.printed ∙ c.requires.long) (λ j l. c.loop-j.invariant j (omega arith))

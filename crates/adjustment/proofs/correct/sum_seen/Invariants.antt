@@ -1,19 +1,10 @@
 -- `correct::sum_seen` meets its contract. Assumes nothing.
-use mathlib.Core.Path.{◌≡◌}
-use mathlib.Core.List.{List}
-use Prim.Native.Nat.{ℕ, ◌+◌, ◌-◌, ◌≤◌}
-use lib.ListN.{get_or}
-use lib.IntN.{ℤ, pos, ◌*ℤ◌}
+use Rattle.std.proofs.Common.{◌≡◌}
+use Rattle.std.specs.Prelude.{◌*ℤ◌}
 use Rattle.exact.specs.Sum.{sum}
 use Rattle.doolittle.specs.Table.{at}
+use Rattle.doolittle.specs.Lent.{table_in}
 use Rattle.adjustment.proofs.correct.sum_seen.Given as goal
 
--- a term of the sum
-abbrev term : List ℤ → List ℤ → ℕ → ℕ → ℤ
-term a x at i = get_or a (at + i) (pos 0) *ℤ get_or x i (pos 0)
-
 abbrev pub invariant-loop-i : goal.invariant-loop-i
-invariant-loop-i l = (l.i ≤ l.m) × (l.s ≡ sum l.i (term l.a l.x l.at))
-
-abbrev pub decreases-loop-i : goal.decreases-loop-i
-decreases-loop-i l = l.m - l.i
+invariant-loop-i l = l.s ≡ sum l.i (λ i. (table_in l.table).a l.j i *ℤ at l.x i)

@@ -1,19 +1,8 @@
--- `table::check_conditions` meets its contract. Assumes nothing.
-use mathlib.Core.Path.{◌≡◌}
-use mathlib.Core.Bool.{Bool, ◌||◌}
-use Prim.Native.Nat.{ℕ, ◌*◌, ◌-◌, ◌≤◌}
-use lib.ListN.{length}
+-- `table::check_conditions` meets its contract: the conditions before j are in range. Assumes nothing.
 use Rattle.exact.proofs.Searching.{Failed}
-use Rattle.doolittle.specs.Table.{Table, table_of}
-use Rattle.adjustment.specs.Refusals.{coefficient_fault, misclosure_fault}
+use Rattle.doolittle.specs.Table.{table_of}
+use Rattle.adjustment.proofs.Rows.{condition_fault}
 use Rattle.adjustment.proofs.table.check_conditions.Given as goal
 
--- condition j is at fault
-abbrev fault : Table → ℕ → Bool
-fault t j = coefficient_fault t j || misclosure_fault t j
-
 abbrev pub invariant-loop-j : goal.invariant-loop-j
-invariant-loop-j l = (l.j ≤ length l.w) × (l.at ≡ l.j * length l.q) × Failed (fault (table_of l.q l.a l.w)) l.j
-
-abbrev pub decreases-loop-j : goal.decreases-loop-j
-decreases-loop-j l = length l.w - l.j
+invariant-loop-j l = Failed (condition_fault (table_of l.q l.a l.w)) l.j

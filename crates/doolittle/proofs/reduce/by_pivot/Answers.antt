@@ -1,20 +1,21 @@
 -- `reduce::by_pivot` meets its contract. Assumes nothing.
-use mathlib.Core.Path.{◌∙◌, ap, ap₂}
-use lib.IntN.{neg_ℤ, ◌*ℤ◌, +ℤ_idl}
-use Rattle.exact.specs.Nearest.{nearest}
-use Rattle.exact.proofs.Bound.{bounded, bounds, fits_in, fits_of_mag, read}
+use Rattle.std.proofs.Common.{arith, rules, neg_ℤ, ◌*ℤ◌, FitsSigned, w64}
+use Rattle.std.proofs.lemmas.Int.{ints, to_z-of_z}
+use Rattle.std.proofs.Math.IntN.{+ℤ_idl}
+use Rattle.doolittle.proofs.Sizes.{product_size}
 use Rattle.doolittle.proofs.reduce.by_pivot.Goals as goal
 
-pub overflow_mul-factor : goal.overflow_mul-factor
-overflow_mul-factor c = let k = bounded c.args.factor c.requires.0 in let x = bounded c.args.x c.requires.1 in fits_in (search bounds) tt
-
 pub overflow_sub-factor : goal.overflow_sub-factor
-overflow_sub-factor c = let k = bounded c.args.factor c.requires.0 in let x = bounded c.args.x c.requires.1 in let f = overflow_mul-factor c in fits_in (search bounds depth 8) tt
+overflow_sub-factor c =
+    let f = c.ranges.factor in let g = c.ranges.x in let p = product_size c.args.factor c.args.x c.requires.0 c.requires.1 in
+    let k : FitsSigned w64 (c.args.factor *ℤ c.args.x) = omega (arith, ints) in
+    simp to_z-of_z (omega (arith, ints))
 
 pub returns : goal.returns
 returns c =
-    let s = c.before in
-    read (fits_of_mag c.nearest.result c.nearest.type_inv) ∙ c.nearest.ensures
-    ∙ ap₂ nearest
-    (read (overflow_sub-factor s) ∙ +ℤ_idl _ ∙ ap neg_ℤ (read (overflow_mul-factor s) ∙ ap₂ ◌*ℤ◌ (read s.ranges.factor) (read s.ranges.x)))
-    (read s.ranges.pivot)
+    let f = c.ranges.factor in let g = c.ranges.x in let h = c.ranges.pivot in
+    let p = product_size c.args.factor c.args.x c.requires.0 c.requires.1 in
+    let k : FitsSigned w64 (c.args.factor *ℤ c.args.x) = omega (arith, ints) in
+    let l : FitsSigned w64 (neg_ℤ (c.args.factor *ℤ c.args.x)) = omega (arith, ints) in
+    let m : FitsSigned w64 c.nearest.result = search rules in
+    simp to_z-of_z (simp (to_z-of_z, +ℤ_idl) at c.nearest.ensures)

@@ -1,10 +1,12 @@
 -- `reduce::carried` meets its contract. Assumes nothing.
-use Rattle.exact.proofs.Bound.{bounded, bounds, fits_in, fits_of_mag, read}
+use Rattle.std.proofs.Common.{arith, rules, ◌*ℤ◌, FitsSigned, w64}
+use Rattle.std.proofs.lemmas.Int.{ints, to_z-of_z}
+use Rattle.doolittle.proofs.Sizes.{product_size}
 use Rattle.doolittle.proofs.reduce.carried.Goals as goal
-
-pub overflow_mul-m : goal.overflow_mul-m
-overflow_mul-m c = let m = bounded c.args.m c.requires.0 in let x = bounded c.args.x c.requires.1 in fits_in (search bounds) tt
 
 pub returns : goal.returns
 returns c =
-    cc (read c.ranges.m, read c.ranges.x, read (overflow_mul-m c.before), read (fits_of_mag c.nearest.result c.nearest.type_inv), c.nearest.ensures)
+    let f = c.ranges.m in let g = c.ranges.x in let p = product_size c.args.m c.args.x c.requires.0 c.requires.1 in
+    let k : FitsSigned w64 (c.args.m *ℤ c.args.x) = omega (arith, ints) in
+    let r : FitsSigned w64 c.nearest.result = search rules in
+    simp to_z-of_z (simp to_z-of_z at c.nearest.ensures)

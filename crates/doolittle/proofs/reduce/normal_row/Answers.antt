@@ -1,60 +1,42 @@
 -- `reduce::normal_row` meets its contract. Assumes nothing.
-use mathlib.Core.Path.{◌≡◌, sym, ◌∙◌, ap, subst}
-use Prim.Native.Nat.{ℕ}
-use native.Mathlib.Omega.{arith}
-use lib.ListN.{length, replicate, length-set, length-replicate, get_or-replicate}
+use Rattle.std.proofs.Common.{◌≡◌, refl, sym, ◌∙◌, subst, arith, rules, ℕ, length, replicate, pos, ◌*ℤ◌, FitsSigned, w64, to_z, of_z}
+use Rattle.std.proofs.lemmas.Int.{ints, to_z-of_z}
+use Rattle.exact.proofs.Bound.{abs_mul}
+use lib.ListN.{length-replicate, get_or-replicate}
 use lib.Seq.{get_or-set_same, get_or-set_other}
-use lib.IntN.{ℤ, pos, ◌*ℤ◌}
-use mir.Syntax.{w64}
-use mir.Val.{to_z, of_z}
 use Rattle.exact.proofs.Sum.{sum_none}
-use Rattle.exact.proofs.Bound.{read_at, read_within}
-use Rattle.doolittle.specs.Table.{Table, at, table_of}
+use Rattle.doolittle.specs.Table.{at}
+use Rattle.doolittle.specs.Lent.{table_in}
 use Rattle.doolittle.specs.Inner.{share}
 use Rattle.doolittle.proofs.Reducing.{Formed, parts_within, formed_more, formed_all}
 use Rattle.doolittle.proofs.reduce.normal_row.Goals as goal
-use Rattle.doolittle.proofs.reduce.normal_row.Goals.{Start}
-
--- the table
-abbrev table : Start → Table
-table s = table_of s.args.q.now s.args.a.now s.args.w.now
-
-pub constant-requires : goal.constant-requires
-constant-requires c =
-    read_within (at c.args.w.now c.args.j) c.x-1.given (c.requires.sound.w_most c.args.j c.requires.j_in_bounds.0)
 
 pub loop-i-init : goal.loop-i-init
 loop-i-init c =
-    let s = c.before.before in let x = to_z w64 (of_z w64 c.constant.result) in let zeros = replicate 25 (pos 0) in (
-      omega arith,
-      length-set zeros 24 x ∙ length-replicate 25 (pos 0),
+    let s = c.args.table.sound in let t = table_in c.args.table in let j = c.args.j in let zeros = replicate 25 (pos 0) in
+    let w = at c.args.table.w.now j in let x = to_z w64 (of_z w64 (pos 1000 *ℤ to_z w64 (of_z w64 w))) in
+    let f : FitsSigned w64 w = search rules in
+    let g : FitsSigned w64 (pos 1000 *ℤ w) = omega (arith, ints, abs_mul (pos 1000) w, s.w_most j c.requires) in (
+      refl,
       record {
-        coefficients = λ k h l. get_or-set_other zeros 24 k x (pos 0) (λ e. omega (arith, s.requires.sound.n_most)) ∙ get_or-replicate 25 k (pos 0) (pos 0) (omega (arith, s.requires.sound.n_most)) ∙ sym (sum_none (share (table s) s.args.j k));
-        constant = get_or-set_same zeros 24 x (pos 0) (omega (arith, length-replicate 25 (pos 0))) ∙ read_at c.constant.result c.constant.type_inv ∙ c.constant.ensures
-            ∙ ap (λ (z : ℤ). pos 1000 *ℤ z) (read_at (at s.args.w.now s.args.j) c.x-1.given);
+        coefficients = λ k h l.
+            get_or-set_other zeros 24 k x (pos 0) (λ e. omega (arith, s.n_most)) ∙ get_or-replicate 25 k (pos 0) (pos 0) (omega (arith, s.n_most))
+            ∙ sym (sum_none (share t j k));
+        constant = get_or-set_same zeros 24 x (pos 0) (omega (arith, length-replicate 25 (pos 0))) ∙ simp to_z-of_z;
       },
     )
 
-pub slice_bounds-add_direction-end : goal.slice_bounds-add_direction-end
-slice_bounds-add_direction-end c = sym c.loop-i.invariant.1
-
-pub add_direction-requires : goal.add_direction-requires
-add_direction-requires c =
-    let s = c.before.before.before.before.before in let t = table s in let v = c.loop-i.invariant in let j = s.args.j in record {
-      sound = s.requires.sound;
-      j_in_bounds = (s.requires.j_in_bounds.0, s.requires.j_in_bounds.1, omega arith);
-      in_bounds = (omega (arith, v.1), λ k h b. rw (v.2.coefficients k h b) (parts_within s.args.q.now s.args.a.now s.args.w.now s.requires.sound j k c.loop-i.i s.requires.j_in_bounds.0 b v.0));
-    }
+pub add_direction-requires-clause-entries : goal.add_direction-requires-clause-entries
+add_direction-requires-clause-entries c =
+    let a = c.args in let v = c.loop-i.invariant in
+    λ k h b. rw (v.1.coefficients k h b) (parts_within a.table.q.now a.table.a.now a.table.w.now c.args.table.sound a.j k c.loop-i.i c.requires b (omega arith))
 
 pub loop-i-preserved : goal.loop-i-preserved
 loop-i-preserved c =
-    let s = c.before.before.before.before.before.before.before in let v = c.loop-i.invariant in (
-      omega arith,
-      c.add_direction.auto.row ∙ v.1,
-      formed_more (table s) s.args.j c.loop-i.i c.loop-i.row _ v.2 c.add_direction.ensures,
-    )
+    let a = c.args in let v = c.loop-i.invariant in
+    (c.add_direction.auto.row ∙ v.0, formed_more (table_in a.table) a.j c.loop-i.i c.loop-i.row _ v.1 c.add_direction.ensures)
 
 pub returns : goal.returns
 returns c =
-    let s = c.before.before.before.before in let e : c.loop-i.i ≡ length s.args.q.now = omega arith in
-    formed_all (table s) s.args.j c.loop-i.row (subst (λ (i : ℕ). Formed (table s) s.args.j i c.loop-i.row) e c.loop-i.invariant.2)
+    let a = c.args in let t = table_in a.table in let e : c.loop-i.i ≡ length a.table.q.now = omega arith in
+    formed_all t a.j c.loop-i.row (subst (λ (i : ℕ). Formed t a.j i c.loop-i.row) e c.loop-i.invariant.1)

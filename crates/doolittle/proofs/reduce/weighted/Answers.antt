@@ -1,9 +1,11 @@
 -- `reduce::weighted` meets its contract. Assumes nothing.
-use Rattle.exact.proofs.Bound.{bounded, bounds, fits_in, read}
+use Rattle.std.proofs.Common.{arith, ◌*ℤ◌, FitsSigned, w64}
+use Rattle.std.proofs.lemmas.Int.{ints, to_z-of_z}
+use Rattle.doolittle.proofs.Sizes.{product_size}
 use Rattle.doolittle.proofs.reduce.weighted.Goals as goal
 
-pub overflow_mul-result : goal.overflow_mul-result
-overflow_mul-result c = let q = bounded c.args.q c.requires.0 in let x = bounded c.args.x c.requires.1 in fits_in (search bounds) tt
-
 pub returns : goal.returns
-returns c = cc (read c.ranges.q, read c.ranges.x, read (overflow_mul-result c))
+returns c =
+    let f = c.ranges.q in let g = c.ranges.x in let p = product_size c.args.q c.args.x c.requires.0 c.requires.1 in
+    let h : FitsSigned w64 (c.args.q *ℤ c.args.x) = omega (arith, ints) in
+    simp to_z-of_z

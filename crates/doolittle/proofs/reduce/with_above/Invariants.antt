@@ -1,7 +1,7 @@
 -- `reduce::with_above` meets its contract. Assumes nothing.
 use mathlib.Core.Path.{◌≡◌}
 use mathlib.Core.List.{List}
-use Prim.Native.Nat.{ℕ, ◌-◌, ◌≤◌}
+use Prim.Native.Nat.{ℕ}
 use lib.IntN.{ℤ, ◌+ℤ◌}
 use Rattle.exact.specs.Sum.{sum}
 use Rattle.doolittle.specs.Solution.{carried}
@@ -9,11 +9,8 @@ use Rattle.doolittle.specs.Inner.{cell}
 use Rattle.doolittle.proofs.reduce.with_above.Given as goal
 
 -- what row i adds
-abbrev part : List (List ℤ) → ℕ → ℕ → ℕ → ℤ
+abbrev pub part : List (List ℤ) → ℕ → ℕ → ℕ → ℤ
 part rows j k i = carried (cell rows j i) (cell rows i k)
 
 abbrev pub invariant-loop-i : goal.invariant-loop-i
-invariant-loop-i l = (l.i ≤ l.j) × (l.s ≡ l.x +ℤ sum l.i (part l.rows l.j l.k))
-
-abbrev pub decreases-loop-i : goal.decreases-loop-i
-decreases-loop-i l = l.j - l.i
+invariant-loop-i l = l.s ≡ l.x +ℤ sum l.i (part l.rows l.j l.k)

@@ -1,5 +1,5 @@
--- `precision::root::root` meets its contract: e is right in the bits above `bit`, which falls by one a turn. Assumes nothing.
-use Prim.Native.Nat.{◌+◌, ◌*◌, ◌≤◌, ◌<◌, ◌^◌}
+-- `precision::root::root`: e is right in the bits above `bit`, which falls by one a turn.
+use Rattle.std.proofs.Common.{◌+◌, ◌*◌, ◌≤◌, ◌<◌, ◌^◌}
 use Rattle.precision.proofs.root.root.Given as goal
 
 abbrev pub invariant-loop-bit : goal.invariant-loop-bit
