@@ -3,7 +3,8 @@
 --   heading_most                a heading 48
 --   head_most, numbered_most    the head of a numbered line 67, and the line 68
 --   refused_most                a REFUSED line 52
-use mathlib.Core.List.{◌++◌}
+use mathlib.Core.List.{List, ◌++◌}
+use mathlib.Core.Path.{◌≡◌}
 use Prim.Native.Nat.{ℕ, ◌≤◌}
 use native.Mathlib.Omega.{arith}
 use lib.ListN.{length, length-append}
@@ -18,8 +19,8 @@ counts_most first second =
     omega
     (arith, count_most first, count_most second, length-append (digits_of first) (count_field second ++ line_end), length-append (digits_of second) line_end)
 
-pub heading_most : (a b c first second : ℕ) → length (heading_line a b c first second) ≤ 48
-heading_most a b c first second = omega (arith, counts_most first second)
+pub heading_most : (word : List ℕ) (first second : ℕ) → length word ≡ 3 → length (heading_line word first second) ≤ 48
+heading_most word first second l = omega (arith, l, length-append word (counts_end first second), counts_most first second)
 
 pub head_most : (letter number : ℕ) (first second : ℤ) → length (line_head letter number first second) ≤ 67
 head_most letter number first second =

@@ -7,8 +7,8 @@ abbrev pub counts_end : (first second : ℕ) → List ℕ
 counts_end first second = count_field first ++ (count_field second ++ line_end)
 
 -- the first line of a listing: a word of three letters and two counts
-abbrev pub heading_line : (a b c first second : ℕ) → List ℕ
-heading_line a b c first second = (a ∷ b ∷ c ∷ []) ++ counts_end first second
+abbrev pub heading_line : (word : List ℕ) (first second : ℕ) → List ℕ
+heading_line word first second = word ++ counts_end first second
 
 -- the head of a numbered line: its letter, a number and two signed numbers
 abbrev pub line_head : ℕ → ℕ → ℤ → ℤ → List ℕ
@@ -20,4 +20,4 @@ numbered_line letter number first second = line_head letter number first second 
 
 -- REFUSED, number, place
 abbrev pub refused_line : ℕ → ℕ → List ℕ
-refused_line number place = (82 ∷ 69 ∷ 70 ∷ []) ++ ((85 ∷ 83 ∷ 69 ∷ []) ++ ((68 ∷ []) ++ counts_end number place))
+refused_line number place = (82 ∷ 69 ∷ 70 ∷ 85 ∷ 83 ∷ 69 ∷ 68 ∷ []) ++ counts_end number place

@@ -127,7 +127,8 @@ module _ (file : List ℕ) (size : ℕ) where
   cut_few zero m = omega (arith, cut_at 0 (omega arith) m)
   cut_few (suc j) m = by_last (dec_lt size (bytes_of (take (j + 1) (lines_of file)))) (cut_few j)
     where
-      by_last : Dec (size < bytes_of (take (j + 1) (lines_of file))) → (size < bytes_of (take (j + 1) (lines_of file)) → lines_in part ≤ j) → lines_in part ≤ suc j
+      by_last : Dec (size < bytes_of (take (j + 1) (lines_of file))) → (size < bytes_of (take (j + 1) (lines_of file)) → lines_in part ≤ j)
+          → lines_in part ≤ suc j
       by_last (yes g) rec = omega (arith, rec g)
       by_last (no g) rec = omega (arith, cut_at (suc j) (rw (← add-one j) (omega arith)) m)
 

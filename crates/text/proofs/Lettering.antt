@@ -7,13 +7,17 @@
 --   two_bytes, two_on, short_line               in a file: two bytes and the rest, the LF behind them, fewer than two
 --   behind_short, behind_other, behind_no_tab   no numbers behind the letter, by the first two bytes
 --   behind_place, behind_row, behind_end_lem        the letter and a tab: a row stands behind them
+--   begun_within, begun_row, begun_end, unbegun   the same by std's test of the first two bytes
 --   no_answer, behind_told, no_behind_told      the answer where there are no such numbers; the numbers, by the answer
-use mathlib.Core.Path.{◌≡◌, refl, ◌∙◌, ap}
+use mathlib.Core.Path.{◌≡◌, refl, sym, ◌∙◌, ap}
 use mathlib.Core.Bool.{Bool, true, false, cond}
 use mathlib.Core.List.{List, [], ◌∷◌}
-use mathlib.Core.Option.{none, some}
+use Rattle.std.specs.Prelude.{None, Some}
 use Prim.Native.Nat.{ℕ, zero, suc, ◌+◌, ◌-◌, ◌<◌, ◌≤◌}
+use native.Mathlib.Decide.{dec_lt, ℕ_discrete}
 use native.Mathlib.Omega.{arith}
+use Rattle.exact.proofs.Searching.{not_both}
+use Rattle.std.specs.List.{starts_with, between}
 use borrow.Author.Tests.{ltb-true, eq-eqb, ne_eqb, eqb-true}
 use lib.Dec.{eqb, ltb}
 use lib.IntN.{ℤ}
@@ -24,8 +28,7 @@ use Rattle.text.specs.Lines.{LF, line_at}
 use Rattle.text.specs.Fields.{TAB, fields_of, field_at, letter_of}
 use Rattle.text.specs.Numbers.{up_to}
 use Rattle.text.specs.Rows.{numbers_within, behind_within, row_within, lettered_within, end_of, row_end, behind_end, row_values}
-use Rattle.text.specs.declared.row.RowEnd.TheVariants.{Next, NoRow}
-use Rattle.text.proofs.Parting.{place_next}
+use Rattle.text.proofs.Parting.{place_next, starts_from, starts_so, led}
 use Rattle.text.proofs.Rowing.{told_some, told_none}
 
 abbrev pub first_letter : List ℕ → ℕ
@@ -89,7 +92,8 @@ one_letter k x (field ∷ fields) e o = by_length (eqb (suc (length field)) 1)
     by_length true = e
     by_length false = o
 
-plain_letter : (k x : ℕ) (r : List ℕ) → eqb k x ≡ false → eqb 0 x ≡ false → eqb k LF ≡ false → eqb k TAB ≡ false → eqb (first_letter (line_in (k ∷ r))) x ≡ false
+plain_letter : (k x : ℕ) (r : List ℕ) → eqb k x ≡ false → eqb 0 x ≡ false → eqb k LF ≡ false → eqb k TAB ≡ false
+    → eqb (first_letter (line_in (k ∷ r))) x ≡ false
 unfolding bytes_before fields_of parted
 plain_letter k x r e o lf tab = rw (lf, tab) (one_letter k x (parted TAB ([] ∷ []) (take (bytes_before LF r) r)) e o)
 
@@ -103,12 +107,14 @@ other_letter k x r e o = by_start (eqb k LF) (eqb k TAB) refl refl
 
 -- ---- in a file
 -- two bytes and the rest
-pub two_bytes : (file : List ℕ) (start : ℕ) → start + 2 ≤ length file → drop start file ≡ get_or file start 0 ∷ get_or file (start + 1) 0 ∷ drop (start + 2) file
+pub two_bytes : (file : List ℕ) (start : ℕ) → start + 2 ≤ length file
+    → drop start file ≡ get_or file start 0 ∷ get_or file (start + 1) 0 ∷ drop (start + 2) file
 two_bytes file start l =
     let one : suc start ≡ start + 1 = omega arith in let two : suc (start + 1) ≡ start + 2 = omega arith in
     drop-cons file start 0 (omega (arith, l))
     ∙ ap (λ (n : ℕ). get_or file start 0 ∷ drop n file) one
-    ∙ ap (λ (rest : List ℕ). get_or file start 0 ∷ rest) (drop-cons file (start + 1) 0 (omega (arith, l)) ∙ ap (λ (n : ℕ). get_or file (start + 1) 0 ∷ drop n file) two)
+    ∙ ap (λ (rest : List ℕ). get_or file start 0 ∷ rest)
+    (drop-cons file (start + 1) 0 (omega (arith, l)) ∙ ap (λ (n : ℕ). get_or file (start + 1) 0 ∷ drop n file) two)
 
 pub two_on : (file : List ℕ) (start : ℕ) → start + 2 ≤ length file → (get_or file start 0 ≡ LF → ⊥) → (get_or file (start + 1) 0 ≡ LF → ⊥)
     → place_from LF file start ≡ place_from LF file (start + 2)
@@ -121,7 +127,7 @@ pub short_line : (s : List ℕ) → length s < 2 → bytes_before LF s < length 
 short_line s l h = omega (arith, l, h)
 
 -- ---- the numbers behind the letter
-no_numbers : (most count : ℕ) → 1 ≤ count → numbers_within most count [] ≡ none
+no_numbers : (most count : ℕ) → 1 ≤ count → numbers_within most count [] ≡ None
 unfolding numbers_within
 no_numbers most zero l = absurd (omega arith)
 no_numbers most (suc k) l = refl
@@ -130,7 +136,7 @@ module _ (most letter count : ℕ) (plain : 10 < letter) where
   no_zero : eqb 0 letter ≡ false
   no_zero = ne_eqb 0 letter (λ e. omega (arith, e, plain))
 
-  unlettered : (line : List ℕ) → eqb (first_letter line) letter ≡ false → behind_within most letter count line ≡ none
+  unlettered : (line : List ℕ) → eqb (first_letter line) letter ≡ false → behind_within most letter count line ≡ None
   unfolding behind_within field_at
   unlettered line e = rw e
 
@@ -140,16 +146,16 @@ module _ (most letter count : ℕ) (plain : 10 < letter) where
       rw (one_tab letter (ne_eqb letter LF (λ e. omega (arith, e, plain))) (ne_eqb letter TAB (λ e. omega (arith, e, plain))) r, eq-eqb letter letter refl)
 
   module _ (any : 1 ≤ count) where
-    alone : (r : List ℕ) → behind_within most letter count (line_in (letter ∷ LF ∷ r)) ≡ none
+    alone : (r : List ℕ) → behind_within most letter count (line_in (letter ∷ LF ∷ r)) ≡ None
     unfolding behind_within field_at letter_of
     alone r =
         let lf = ne_eqb letter LF (λ e. omega (arith, e, plain)) in let tab = ne_eqb letter TAB (λ e. omega (arith, e, plain)) in
         rw (one_end letter lf tab r, lone_field letter lf tab, eq-eqb letter letter refl) (no_numbers most count any)
 
-    untabbed : (c : ℕ) (r : List ℕ) → eqb c TAB ≡ false → behind_within most letter count (line_in (letter ∷ c ∷ r)) ≡ none
+    untabbed : (c : ℕ) (r : List ℕ) → eqb c TAB ≡ false → behind_within most letter count (line_in (letter ∷ c ∷ r)) ≡ None
     untabbed c r t = by_end (eqb c LF) refl
       where
-        by_end : (b : Bool) → eqb c LF ≡ b → behind_within most letter count (line_in (letter ∷ c ∷ r)) ≡ none
+        by_end : (b : Bool) → eqb c LF ≡ b → behind_within most letter count (line_in (letter ∷ c ∷ r)) ≡ None
         by_end true l = rw (eqb-true c LF l) (alone r)
         by_end false l = unlettered (line_in (letter ∷ c ∷ r)) (ap (λ (n : ℕ). eqb n letter) (no_first letter c r l t) ∙ no_zero)
 
@@ -158,16 +164,18 @@ module _ (most : ℕ) (file : List ℕ) (start letter count : ℕ) (plain : 10 <
   abbrev found : Bool
   found = ltb (place_from LF file start) (length file)
 
-  none_by : (b : Bool) → found ≡ b → (place_from LF file start < length file → behind_within most letter count (up_to LF file start) ≡ none) → lettered_within most file start letter count ≡ none
+  none_by : (b : Bool) → found ≡ b → (place_from LF file start < length file → behind_within most letter count (up_to LF file start) ≡ None)
+      → lettered_within most file start letter count ≡ None
   unfolding lettered_within line_at
   none_by true t h = rw t (h (ltb-true (place_from LF file start) (length file) t))
   none_by false t h = rw t
 
-  pub behind_short : length file - start < 2 → lettered_within most file start letter count ≡ none
+  pub behind_short : length file - start < 2 → lettered_within most file start letter count ≡ None
   unfolding place_from fields_of parted letter_of
   behind_short l =
       none_by found refl
-      (λ h. let none : bytes_before LF (drop start file) ≡ 0 = short_line (drop start file) (omega (arith, l, length-drop start file)) (omega (arith, h, length-drop start file)) in
+      (λ h. let none : bytes_before LF (drop start file) ≡ 0 =
+      short_line (drop start file) (omega (arith, l, length-drop start file)) (omega (arith, h, length-drop start file)) in
       rw none (unlettered most letter count plain [] (no_zero most letter count plain)))
 
   module _ (l : start + 2 ≤ length file) where
@@ -180,25 +188,30 @@ module _ (most : ℕ) (file : List ℕ) (start letter count : ℕ) (plain : 10 <
     line_is : up_to LF file start ≡ line_in (b ∷ c ∷ drop (start + 2) file)
     line_is = ap line_in (two_bytes file start l)
 
-    pub behind_other : (b ≡ letter → ⊥) → lettered_within most file start letter count ≡ none
+    pub behind_other : (b ≡ letter → ⊥) → lettered_within most file start letter count ≡ None
     behind_other n =
         none_by found refl
-        (λ h. ap (behind_within most letter count) line_is ∙ unlettered most letter count plain _ (other_letter b letter (c ∷ drop (start + 2) file) (ne_eqb b letter n) (no_zero most letter count plain)))
+        (λ h. ap (behind_within most letter count) line_is
+        ∙ unlettered most letter count plain _ (other_letter b letter (c ∷ drop (start + 2) file) (ne_eqb b letter n) (no_zero most letter count plain)))
 
     module _ (same : b ≡ letter) where
       letter_is : up_to LF file start ≡ line_in (letter ∷ c ∷ drop (start + 2) file)
       letter_is = line_is ∙ ap (λ (x : ℕ). line_in (x ∷ c ∷ drop (start + 2) file)) same
 
-      pub behind_no_tab : 1 ≤ count → (c ≡ TAB → ⊥) → lettered_within most file start letter count ≡ none
+      pub behind_no_tab : 1 ≤ count → (c ≡ TAB → ⊥) → lettered_within most file start letter count ≡ None
       behind_no_tab any t =
-          none_by found refl (λ h. ap (behind_within most letter count) letter_is ∙ untabbed most letter count plain any c (drop (start + 2) file) (ne_eqb c TAB t))
+          none_by found refl (λ h. ap (behind_within most letter count) letter_is
+          ∙ untabbed most letter count plain any c (drop (start + 2) file) (ne_eqb c TAB t))
 
       module _ (t : c ≡ TAB) where
         pub behind_place : place_from LF file start ≡ place_from LF file (start + 2)
         behind_place = two_on file start l (λ z. omega (arith, z, same, plain)) (λ z. omega (arith, z, t))
 
-        row_by : (x : Bool) → cond x (behind_within most letter count (cond x (up_to LF file start) [])) none ≡ cond x (numbers_within most count (fields_of (cond x (up_to LF file (start + 2)) []))) none
-        row_by true = ap (behind_within most letter count) (letter_is ∙ ap (λ (x : ℕ). line_in (letter ∷ x ∷ drop (start + 2) file)) t) ∙ lettered most letter count plain (drop (start + 2) file)
+        row_by : (x : Bool)
+            → cond x (behind_within most letter count (cond x (up_to LF file start) [])) None
+            ≡ cond x (numbers_within most count (fields_of (cond x (up_to LF file (start + 2)) []))) None
+        row_by true = ap (behind_within most letter count) (letter_is ∙ ap (λ (x : ℕ). line_in (letter ∷ x ∷ drop (start + 2) file)) t)
+            ∙ lettered most letter count plain (drop (start + 2) file)
         row_by false = refl
 
         pub behind_row : lettered_within most file start letter count ≡ row_within most file (start + 2) count
@@ -209,17 +222,59 @@ module _ (most : ℕ) (file : List ℕ) (start letter count : ℕ) (plain : 10 <
         unfolding row_end behind_end
         behind_end_lem = rw (behind_row, behind_place)
 
+  -- as std's test of the first two bytes says it
+  abbrev begins_so : Bool
+  begins_so = starts_with eqb (between start (length file) file) (letter ∷ TAB ∷ [])
+
+  module _ (t : begins_so ≡ true) where
+    abbrev rest : List ℕ
+    rest = drop 2 (drop start file)
+
+    first : (start < length file) × (get_or file start 0 ≡ letter) × (drop (start + 1) file ≡ TAB ∷ rest)
+    first = led file start letter (TAB ∷ rest) (starts_from file start (letter ∷ TAB ∷ []) t)
+
+    second : (start + 1 < length file) × (get_or file (start + 1) 0 ≡ TAB) × (drop (start + 1 + 1) file ≡ rest)
+    second = led file (start + 1) TAB rest first.2
+
+    pub begun_within : start + 2 ≤ length file
+    begun_within = omega (arith, second.0)
+
+    pub begun_row : lettered_within most file start letter count ≡ row_within most file (start + 2) count
+    begun_row = behind_row begun_within first.1 second.1
+
+    pub begun_end : row_end most file (start + 2) count ≡ behind_end most file start letter count
+    begun_end = behind_end_lem begun_within first.1 second.1
+
+  pub unbegun : 1 ≤ count → begins_so ≡ false → lettered_within most file start letter count ≡ None
+  unbegun any t = by_length (dec_lt (start + 1) (length file))
+    where
+      by_tab : start + 2 ≤ length file → get_or file start 0 ≡ letter → Dec (get_or file (start + 1) 0 ≡ TAB)
+          → lettered_within most file start letter count ≡ None
+      by_tab l same (yes e) =
+          not_both (sym (starts_so file start (letter ∷ TAB ∷ []) (drop (start + 2) file) (two_bytes file start l ∙ rw (same, e))) ∙ t)
+      by_tab l same (no e) = behind_no_tab l same any e
+
+      by_letter : start + 2 ≤ length file → Dec (get_or file start 0 ≡ letter) → lettered_within most file start letter count ≡ None
+      by_letter l (yes e) = by_tab l e (ℕ_discrete (get_or file (start + 1) 0) TAB)
+      by_letter l (no e) = behind_other l e
+
+      by_length : Dec (start + 1 < length file) → lettered_within most file start letter count ≡ None
+      by_length (yes l) = by_letter (omega (arith, l)) (ℕ_discrete (get_or file start 0) letter)
+      by_length (no l) = behind_short (omega (arith, l))
+
 -- ---- the answer
 module _ (most : ℕ) (file : List ℕ) (start letter count : ℕ) where
-  pub no_answer : lettered_within most file start letter count ≡ none → (xs : List ℤ) → (NoRow ≡ behind_end most file start letter count) × (xs ≡ row_values (lettered_within most file start letter count) xs)
+  pub no_answer : lettered_within most file start letter count ≡ None → (xs : List ℤ)
+      → (None ≡ behind_end most file start letter count) × (xs ≡ row_values (lettered_within most file start letter count) xs)
   unfolding behind_end end_of row_values
   no_answer e xs = (rw e, rw e)
 
-  pub behind_told : (next : ℕ) (xs : List ℤ) → behind_end most file start letter count ≡ Next next → xs ≡ row_values (lettered_within most file start letter count) xs
-      → (lettered_within most file start letter count ≡ some xs) × (next ≡ place_from LF file start + 1)
+  pub behind_told : (next : ℕ) (xs : List ℤ) → behind_end most file start letter count ≡ Some next
+      → xs ≡ row_values (lettered_within most file start letter count) xs
+      → (lettered_within most file start letter count ≡ Some xs) × (next ≡ place_from LF file start + 1)
   unfolding behind_end
   behind_told next xs e v = told_some (lettered_within most file start letter count) (place_from LF file start + 1) next xs e v
 
-  pub no_behind_told : behind_end most file start letter count ≡ NoRow → lettered_within most file start letter count ≡ none
+  pub no_behind_told : behind_end most file start letter count ≡ None → lettered_within most file start letter count ≡ None
   unfolding behind_end
   no_behind_told e = told_none (lettered_within most file start letter count) (place_from LF file start + 1) e

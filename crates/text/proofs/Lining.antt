@@ -13,7 +13,7 @@
 use mathlib.Core.Path.{◌≡◌, refl, sym, ◌∙◌, ap}
 use mathlib.Core.Bool.{Bool, true, false, cond}
 use mathlib.Core.List.{List, [], ◌∷◌, ◌++◌, append-nil}
-use mathlib.Core.Option.{Option, none, some}
+use Rattle.std.specs.Prelude.{Option, None, Some}
 use Prim.Native.Nat.{ℕ, zero, suc, ◌+◌, ◌*◌, ◌<◌, ◌≤◌, ◌^◌}
 use native.Mathlib.Numerals.{add-one}
 use native.Mathlib.Nat.{suc-mul}
@@ -29,8 +29,6 @@ use Rattle.text.specs.Numbers.{numeral_within}
 use Rattle.text.specs.Rows.{before, numbers_within, behind_within, row_within, lettered_within}
 use Rattle.text.specs.Decimal.{written}
 use Rattle.text.specs.Written.{signed_field}
-use Rattle.text.specs.declared.number.Number.{Number}
-use Rattle.text.specs.declared.number.Number.TheVariants.{Value, Malformed}
 use Rattle.text.proofs.Spanning.{High, numeral_high}
 use Rattle.text.proofs.Sparing.{Free, free_both, free_high, row_written}
 use Rattle.text.proofs.Rowing.{split_at_byte, fields_tab, fields_plain, fields_more, fields_last, some_field}
@@ -73,25 +71,25 @@ pub record Row (most count : ℕ) (line : List ℕ) (zs : List ℤ) : Type 0 whe
   pub sized : Sized most zs
   pub short : length line < count * (most + 2)
 
-found_by : (b : Bool) (o : Option (List ℤ)) (zs : List ℤ) → cond b o none ≡ some zs → (b ≡ true) × (o ≡ some zs)
+found_by : (b : Bool) (o : Option (List ℤ)) (zs : List ℤ) → cond b o None ≡ Some zs → (b ≡ true) × (o ≡ Some zs)
 found_by true o zs e = (refl, e)
-found_by false o zs e = let z : ◌≡◌ {A = ℕ} 0 1 = cc in absurd (omega arith)
+found_by false o zs e = cc
 
-before_by : {P : Type 0} (x : Number) (o : Option (List ℤ)) (zs : List ℤ) → before x o ≡ some zs
-    → ((z : ℤ) (ys : List ℤ) → x ≡ Value z → o ≡ some ys → zs ≡ z ∷ ys → P) → P
+before_by : {P : Type 0} (x : Option ℤ) (o : Option (List ℤ)) (zs : List ℤ) → before x o ≡ Some zs
+    → ((z : ℤ) (ys : List ℤ) → x ≡ Some z → o ≡ Some ys → zs ≡ z ∷ ys → P) → P
 unfolding before
-before_by (Value z) (some ys) zs e k = k z ys refl refl (cc)
-before_by (Value z) none zs e k = let z : ◌≡◌ {A = ℕ} 0 1 = cc in absurd (omega arith)
-before_by Malformed o zs e k = let z : ◌≡◌ {A = ℕ} 0 1 = cc in absurd (omega arith)
+before_by (Some z) (Some ys) zs e k = k z ys refl refl (cc)
+before_by (Some z) None zs e k = cc
+before_by None o zs e k = cc
 
-no_more : (most k : ℕ) (ys : List ℤ) → numbers_within most k [] ≡ some ys → (k ≡ 0) × (ys ≡ [])
+no_more : (most k : ℕ) (ys : List ℤ) → numbers_within most k [] ≡ Some ys → (k ≡ 0) × (ys ≡ [])
 unfolding numbers_within
 no_more most zero ys e = (refl, cc)
-no_more most (suc k) ys e = let z : ◌≡◌ {A = ℕ} 0 1 = cc in absurd (omega arith)
+no_more most (suc k) ys e = cc
 
 module _ (most : ℕ) (few : most ≤ 20) where
   -- the last number
-  row_one : (line : List ℕ) (z : ℤ) → numeral_within most line ≡ Value z → Row most 1 line (z ∷ [])
+  row_one : (line : List ℕ) (z : ℤ) → numeral_within most line ≡ Some z → Row most 1 line (z ∷ [])
   unfolding Sized signed_fields
   row_one line z e =
       let text : line ≡ written z ++ [] = sym (append-nil (written z) ∙ writes_back most line z e few) in
@@ -104,7 +102,8 @@ module _ (most : ℕ) (few : most ≤ 20) where
       }
 
   -- a number, a tab, and others
-  row_on : (k : ℕ) (line : List ℕ) (z : ℤ) (ys : List ℤ) → bytes_before TAB line < length line → numeral_within most (take (bytes_before TAB line) line) ≡ Value z
+  row_on : (k : ℕ) (line : List ℕ) (z : ℤ) (ys : List ℤ) → bytes_before TAB line < length line
+      → numeral_within most (take (bytes_before TAB line) line) ≡ Some z
       → Row most k (drop (bytes_before TAB line + 1) line) ys → Row most (suc k) line (z ∷ ys)
   unfolding Sized signed_fields
   row_on k line z ys l e r =
@@ -121,22 +120,23 @@ module _ (most : ℕ) (few : most ≤ 20) where
       }
 
   told_step : (k : ℕ) (line : List ℕ) (zs : List ℤ)
-      → ((rest : List ℕ) (ys : List ℤ) → numbers_within most k (fields_of rest) ≡ some ys → Row most k rest ys)
-      → (b : Bool) → ltb (bytes_before TAB line) (length line) ≡ b → numbers_within most (suc k) (fields_of line) ≡ some zs → Row most (suc k) line zs
+      → ((rest : List ℕ) (ys : List ℤ) → numbers_within most k (fields_of rest) ≡ Some ys → Row most k rest ys)
+      → (b : Bool) → ltb (bytes_before TAB line) (length line) ≡ b → numbers_within most (suc k) (fields_of line) ≡ Some zs → Row most (suc k) line zs
   unfolding numbers_within
   told_step k line zs rec true t e =
       let tab = bytes_before TAB line in let l = ltb-true tab (length line) t in let rest = drop (tab + 1) line in
-      before_by (numeral_within most (take tab line)) (numbers_within most k (fields_of rest)) zs (sym (ap (numbers_within most (suc k)) (fields_more line l)) ∙ e)
+      before_by (numeral_within most (take tab line)) (numbers_within most k (fields_of rest)) zs
+      (sym (ap (numbers_within most (suc k)) (fields_more line l)) ∙ e)
       (λ z ys p q s. rw s (row_on k line z ys l p (rec rest ys q)))
   told_step k line zs rec false t e =
       before_by (numeral_within most line) (numbers_within most k []) zs
       (sym (ap (numbers_within most (suc k)) (fields_last line (ltb-false (bytes_before TAB line) (length line) t))) ∙ e)
       (λ z ys p q s. let m = no_more most k ys q in rw (s, m.1, m.0) (row_one line z p))
 
-  pub numbers_told : (count : ℕ) (line : List ℕ) (zs : List ℤ) → numbers_within most count (fields_of line) ≡ some zs → Row most count line zs
+  pub numbers_told : (count : ℕ) (line : List ℕ) (zs : List ℤ) → numbers_within most count (fields_of line) ≡ Some zs → Row most count line zs
   numbers_told zero line zs e =
-      let n : none ≡ some zs = sym (some_field line most (ltb (bytes_before TAB line) (length line)) refl) ∙ e in
-      let z : ◌≡◌ {A = ℕ} 0 1 = cc in absurd (omega arith)
+      let n : None ≡ Some zs = sym (some_field line most (ltb (bytes_before TAB line) (length line)) refl) ∙ e in
+      cc
   numbers_told (suc k) line zs e = told_step k line zs (numbers_told k) (ltb (bytes_before TAB line) (length line)) refl e
 
 -- ---- a line that is read as a letter and numbers
@@ -147,27 +147,27 @@ pub record Lettered (most letter count : ℕ) (line : List ℕ) (zs : List ℤ) 
   pub short : length line ≤ count * (most + 2) + 1
 
 module _ (most letter count : ℕ) (few : most ≤ 20) (any : 0 < letter) (zs : List ℤ) where
-  unlettered : {P : Type 0} (line : List ℕ) → letter_of (field_at line 0) ≡ 0 → behind_within most letter count line ≡ some zs → P
+  unlettered : {P : Type 0} (line : List ℕ) → letter_of (field_at line 0) ≡ 0 → behind_within most letter count line ≡ Some zs → P
   unfolding behind_within
   unlettered line n e =
       let x = letter_of (field_at line 0) in
       let t = found_by (eqb x letter) (numbers_within most count (drop 1 (fields_of line))) zs e in
       absurd (omega (arith, eqb-true x letter t.0, n, any))
 
-  told_by : (b : ℕ) (fields : List (List ℕ)) (line : List ℕ) → fields_of line ≡ (b ∷ []) ∷ fields → behind_within most letter count line ≡ some zs
-      → (b ≡ letter) × (numbers_within most count fields ≡ some zs)
+  told_by : (b : ℕ) (fields : List (List ℕ)) (line : List ℕ) → fields_of line ≡ (b ∷ []) ∷ fields → behind_within most letter count line ≡ Some zs
+      → (b ≡ letter) × (numbers_within most count fields ≡ Some zs)
   unfolding behind_within field_at letter_of
   told_by b fields line f e =
-      let q : cond (eqb b letter) (numbers_within most count fields) none ≡ some zs = rw f at e in
+      let q : cond (eqb b letter) (numbers_within most count fields) None ≡ Some zs = rw f at e in
       let t = found_by (eqb b letter) (numbers_within most count fields) zs q in (eqb-true b letter t.0, t.1)
 
-  one_byte : (b : ℕ) → eqb b TAB ≡ false → behind_within most letter count (b ∷ []) ≡ some zs → Lettered most letter count (b ∷ []) zs
+  one_byte : (b : ℕ) → eqb b TAB ≡ false → behind_within most letter count (b ∷ []) ≡ Some zs → Lettered most letter count (b ∷ []) zs
   unfolding fields_of parted on_first Sized signed_fields
   one_byte b t e =
       let q = told_by b [] (b ∷ []) (rw t) e in let m = no_more most count zs q.1 in
       rw (q.0, m.0, m.1) (record { text = refl; many = refl; sized = tt; short = omega arith })
 
-  two_bytes : (b c : ℕ) (r : List ℕ) → eqb b TAB ≡ false → (x : Bool) → eqb c TAB ≡ x → behind_within most letter count (b ∷ c ∷ r) ≡ some zs
+  two_bytes : (b c : ℕ) (r : List ℕ) → eqb b TAB ≡ false → (x : Bool) → eqb c TAB ≡ x → behind_within most letter count (b ∷ c ∷ r) ≡ Some zs
       → Lettered most letter count (b ∷ c ∷ r) zs
   unfolding fields_of field_at parted on_first
   two_bytes b c r t true u e =
@@ -180,13 +180,13 @@ module _ (most letter count : ℕ) (few : most ≤ 20) (any : 0 < letter) (zs : 
       }
   two_bytes b c r t false u e = unlettered (b ∷ c ∷ r) (rw (t, u) (long_field b c (parted TAB ([] ∷ []) r))) e
 
-  by_tab : (b : ℕ) (r : List ℕ) (x : Bool) → eqb b TAB ≡ x → behind_within most letter count (b ∷ r) ≡ some zs → Lettered most letter count (b ∷ r) zs
+  by_tab : (b : ℕ) (r : List ℕ) (x : Bool) → eqb b TAB ≡ x → behind_within most letter count (b ∷ r) ≡ Some zs → Lettered most letter count (b ∷ r) zs
   unfolding fields_of field_at parted letter_of
   by_tab b r true t e = unlettered (b ∷ r) (rw t) e
   by_tab b [] false t e = one_byte b t e
   by_tab b (c ∷ r) false t e = two_bytes b c r t (eqb c TAB) refl e
 
-  pub letter_told : (line : List ℕ) → behind_within most letter count line ≡ some zs → Lettered most letter count line zs
+  pub letter_told : (line : List ℕ) → behind_within most letter count line ≡ Some zs → Lettered most letter count line zs
   unfolding fields_of field_at parted letter_of
   letter_told [] e = unlettered [] refl e
   letter_told (b ∷ r) e = by_tab b r (eqb b TAB) refl e
@@ -196,8 +196,8 @@ module _ (most : ℕ) (few : most ≤ 20) (file : List ℕ) (at count : ℕ) (zs
   abbrev end : ℕ
   end = place_from LF file at
 
-  module _ (e : row_within most file at count ≡ some zs) where
-    row_found : (ltb end (length file) ≡ true) × (numbers_within most count (fields_of (line_at file at)) ≡ some zs)
+  module _ (e : row_within most file at count ≡ Some zs) where
+    row_found : (ltb end (length file) ≡ true) × (numbers_within most count (fields_of (line_at file at)) ≡ Some zs)
     unfolding row_within
     row_found = found_by (ltb end (length file)) (numbers_within most count (fields_of (line_at file at))) zs e
 
@@ -207,8 +207,8 @@ module _ (most : ℕ) (few : most ≤ 20) (file : List ℕ) (at count : ℕ) (zs
     pub row_line : Row most count (line_at file at) zs
     row_line = numbers_told most few count (line_at file at) zs row_found.1
 
-  module _ (letter : ℕ) (any : 0 < letter) (e : lettered_within most file at letter count ≡ some zs) where
-    behind_found : (ltb end (length file) ≡ true) × (behind_within most letter count (line_at file at) ≡ some zs)
+  module _ (letter : ℕ) (any : 0 < letter) (e : lettered_within most file at letter count ≡ Some zs) where
+    behind_found : (ltb end (length file) ≡ true) × (behind_within most letter count (line_at file at) ≡ Some zs)
     unfolding lettered_within
     behind_found = found_by (ltb end (length file)) (behind_within most letter count (line_at file at)) zs e
 
@@ -223,7 +223,8 @@ module _ (k : ℕ) (l : k < 20) where
   pub fields_free : (zs : List ℤ) → Sized (suc k) zs → Free LF (signed_fields zs)
   unfolding Sized signed_fields bytes_before
   fields_free [] s = refl
-  fields_free (z ∷ zs) s = ap suc (free_both LF (written z) (signed_fields zs) (free_high LF (written z) (omega arith) (written_high z s.0)) (fields_free zs s.1))
+  fields_free (z ∷ zs) s =
+      ap suc (free_both LF (written z) (signed_fields zs) (free_high LF (written z) (omega arith) (written_high z s.0)) (fields_free zs s.1))
 
   pub row_free : (zs : List ℤ) → Sized (suc k) zs → Free LF (signed_row zs)
   unfolding Sized signed_fields bytes_before
@@ -234,18 +235,19 @@ module _ (k : ℕ) (l : k < 20) where
   unfolding bytes_before
   letter_free letter n zs s = rw (ne_eqb letter LF n) (ap suc (fields_free zs s))
 
-  pub numbers_read : (z : ℤ) (zs : List ℤ) → Sized (suc k) (z ∷ zs) → numbers_within (suc k) (suc (length zs)) (fields_of (signed_row (z ∷ zs))) ≡ some (z ∷ zs)
+  pub numbers_read : (z : ℤ) (zs : List ℤ) → Sized (suc k) (z ∷ zs) → numbers_within (suc k) (suc (length zs)) (fields_of (signed_row (z ∷ zs))) ≡ Some (z ∷ zs)
   unfolding Sized signed_fields numbers_within before
   numbers_read z [] s = rw (append-nil (written z), fields_plain (written z) (written_high z s.0), reads_back k l z s.0)
   numbers_read z (y ∷ ys) s =
       rw (fields_tab (written z) (written y ++ signed_fields ys) (written_high z s.0), reads_back k l z s.0, numbers_read y ys s.1)
 
-  pub letter_read : (letter : ℕ) → (letter ≡ TAB → ⊥) → (zs : List ℤ) → Sized (suc k) zs → behind_within (suc k) letter (length zs) (letter ∷ signed_fields zs) ≡ some zs
+  pub letter_read : (letter : ℕ) → (letter ≡ TAB → ⊥) → (zs : List ℤ) → Sized (suc k) zs
+      → behind_within (suc k) letter (length zs) (letter ∷ signed_fields zs) ≡ Some zs
   unfolding behind_within field_at letter_of fields_of parted on_first signed_fields numbers_within
   letter_read letter n [] s = rw (ne_eqb letter TAB n, eq-eqb letter letter refl)
   letter_read letter n (z ∷ zs) s = rw (ne_eqb letter TAB n, eq-eqb letter letter refl) (numbers_read z zs s)
 
   module _ (file : List ℕ) (at : ℕ) (rest : List ℕ) where
     pub row_read : (z : ℤ) (zs : List ℤ) → Sized (suc k) (z ∷ zs) → drop at file ≡ signed_row (z ∷ zs) ++ (LF ∷ rest)
-        → row_within (suc k) file at (suc (length zs)) ≡ some (z ∷ zs)
+        → row_within (suc k) file at (suc (length zs)) ≡ Some (z ∷ zs)
     row_read z zs s d = row_written file at (signed_row (z ∷ zs)) rest d (row_free (z ∷ zs) s) (suc k) (suc (length zs)) ∙ numbers_read z zs s

@@ -1,6 +1,5 @@
 -- Laws of the numbers that the files write. Assumes nothing.
 --   small_next, small_18                           i digits have a value below 10 ^ i, 18 digits at most below 10 ^ 18
---   small_of                                       the same, of an enum that is known to hold the value
 --   small_fits, minus_fits                         so the value fits a signed number, with and without the minus
 --   plus_whole, plus_none, minus-..                the number, with and without the minus
 --   unsigned_empty, -long, -zero, -many, -one      the digits, by their count and the first of them
@@ -18,10 +17,8 @@ use lib.IntN.{ℤ, pos, neg_ℤ, ◌-ℤ◌, +ℤ_idl}
 use mir.Syntax.{w64}
 use mir.Val.{SFits, to_z, of_z}
 use Rattle.exact.proofs.Bound.{read}
-use Rattle.text.specs.Numbers.{read_digits, Small, plus, minus, unsigned_of, numeral_within}
-use Rattle.text.specs.declared.number.Number.TheVariants.{Value, Malformed}
-use Rattle.text.specs.declared.number.Digits.{Digits}
-use Rattle.text.specs.declared.number.Digits.TheVariants.{Whole, NoDigits}
+use Rattle.text.specs.Numbers.{read_digits, plus, minus, unsigned_of, numeral_within}
+use Rattle.std.specs.Prelude.{Some, None, Option}
 
 -- ---- the size of the value
 pub small_next : (v d i : ℕ) → v < 10 ^ i → d ≤ 9 → 10 * v + d < 10 ^ (i + 1)
@@ -30,10 +27,7 @@ small_next v d i h k = rw (add-one i, pow-succ' 10 i) (omega arith)
 pub small_18 : (v i : ℕ) → v < 10 ^ i → i ≤ 18 → v < 10 ^ 18
 small_18 v i h l = omega (arith, pow-le-pow_right {n = 10} (lit< tt) l)
 
-pub small_of : {d : Digits} {v : ℕ} → d ≡ Whole v → Small d → v < 10 ^ 18
-small_of e h = subst Small e h
-
-pub small_fits : (v : ℕ) → v < 10 ^ 18 → SFits w64 (pos v)
+small_fits : (v : ℕ) → v < 10 ^ 18 → SFits w64 (pos v)
 small_fits v h = record { sfits = omega arith }
 
 small_read : (v : ℕ) → v < 10 ^ 18 → to_z w64 v ≡ pos v
@@ -47,51 +41,51 @@ neg_fits (suc v) h = record { sfits = omega arith }
 minus_is : (v : ℕ) → v < 10 ^ 18 → pos 0 -ℤ to_z w64 v ≡ neg_ℤ (pos v)
 minus_is v h = ap (λ (z : ℤ). pos 0 -ℤ z) (small_read v h) ∙ +ℤ_idl (neg_ℤ (pos v))
 
-pub minus_fits : (v : ℕ) → v < 10 ^ 18 → SFits w64 (pos 0 -ℤ to_z w64 v)
+minus_fits : (v : ℕ) → v < 10 ^ 18 → SFits w64 (pos 0 -ℤ to_z w64 v)
 minus_fits v h = subst (SFits w64) (sym (minus_is v h)) (neg_fits v h)
 
 -- ---- with and without the minus
-module _ {d : Digits} {v : ℕ} (e : d ≡ Whole v) where
-  pub plus_whole : v < 10 ^ 18 → Value (to_z w64 v) ≡ plus d
+module _ {d : Option ℕ} {v : ℕ} (e : d ≡ Some v) where
+  pub plus_whole : v < 10 ^ 18 → plus d ≡ Some (to_z w64 v)
   unfolding plus
   plus_whole h = rw (e, small_read v h)
 
-  pub minus_zero : v ≡ 0 → Malformed ≡ minus d
+  pub minus_zero : v ≡ 0 → minus d ≡ None
   unfolding minus
   minus_zero z = rw (e, eq-eqb v 0 z)
 
-  pub minus_whole : (v ≡ 0 → ⊥) → v < 10 ^ 18 → Value (to_z w64 (of_z w64 (pos 0 -ℤ to_z w64 v))) ≡ minus d
+  pub minus_whole : (v ≡ 0 → ⊥) → v < 10 ^ 18 → minus d ≡ Some (to_z w64 (of_z w64 (pos 0 -ℤ to_z w64 v)))
   unfolding minus
   minus_whole z h = rw (e, ne_eqb v 0 z, read (minus_fits v h) ∙ minus_is v h)
 
-pub plus_none : {d : Digits} → d ≡ NoDigits → Malformed ≡ plus d
+pub plus_none : {d : Option ℕ} → d ≡ None → plus d ≡ None
 unfolding plus
 plus_none e = rw e
 
-pub minus_none : {d : Digits} → d ≡ NoDigits → Malformed ≡ minus d
+pub minus_none : {d : Option ℕ} → d ≡ None → minus d ≡ None
 unfolding minus
 minus_none e = rw e
 
 -- ---- the digits of a text s, and its number
 module _ (most : ℕ) (s : List ℕ) where
-  pub unsigned_empty : length s ≡ 0 → NoDigits ≡ unsigned_of most s
+  pub unsigned_empty : length s ≡ 0 → unsigned_of most s ≡ None
   unfolding unsigned_of
   unsigned_empty e = rw (eq-eqb (length s) 0 e)
 
-  pub unsigned_long : (length s ≡ 0 → ⊥) → most < length s → NoDigits ≡ unsigned_of most s
+  pub unsigned_long : (length s ≡ 0 → ⊥) → most < length s → unsigned_of most s ≡ None
   unfolding unsigned_of
   unsigned_long e l = rw (ne_eqb (length s) 0 e, lt-ltb most (length s) l)
 
   module _ (e : length s ≡ 0 → ⊥) (l : length s ≤ most) where
-    pub unsigned_zero : 1 < length s → get_or s 0 0 ≡ 48 → NoDigits ≡ unsigned_of most s
+    pub unsigned_zero : 1 < length s → get_or s 0 0 ≡ 48 → unsigned_of most s ≡ None
     unfolding unsigned_of
     unsigned_zero m z = rw (ne_eqb (length s) 0 e, le-ltb most (length s) l, lt-ltb 1 (length s) m, eq-eqb (get_or s 0 0) 48 z)
 
-    pub unsigned_many : 1 < length s → (get_or s 0 0 ≡ 48 → ⊥) → read_digits 0 s ≡ unsigned_of most s
+    pub unsigned_many : 1 < length s → (get_or s 0 0 ≡ 48 → ⊥) → unsigned_of most s ≡ read_digits 0 s
     unfolding unsigned_of
     unsigned_many m z = rw (ne_eqb (length s) 0 e, le-ltb most (length s) l, lt-ltb 1 (length s) m, ne_eqb (get_or s 0 0) 48 z)
 
-    pub unsigned_one : length s ≤ 1 → read_digits 0 s ≡ unsigned_of most s
+    pub unsigned_one : length s ≤ 1 → unsigned_of most s ≡ read_digits 0 s
     unfolding unsigned_of
     unsigned_one m = rw (ne_eqb (length s) 0 e, le-ltb most (length s) l, le-ltb 1 (length s) m)
 

@@ -1,23 +1,29 @@
 -- Laws of a search for a byte in a text, and of the parts into which the byte parts it. Assumes nothing.
---   place_here, place_next, place_end      the search stands on the byte, on another one, at the end
+--   place_here, place_next, place_end, place_steps   the search stands on the byte, on another one, at the end
 --   place_after, before_le                 it ends at or after its start, and no byte is counted that is not there
 --   parts_more                             the parts from a start: the one there, and those after the byte that ends it
 --   parts_dropped, parts_last              the parts of a text without the byte: none, or the text itself
---   begins_all, begins_short               a text begins with no word's end; and with no word that goes on behind it
---   begins_more, begins_other              one byte more of the word, by what stands there in the text
+--   begins_is                              a text begins with a word, as std's test says it
+--   starts_from, starts_so, led, unled     such a test of a text from a start on, and the byte there
 --   begins_length, begins_split            a word is no longer than a text that begins with it, which is the word and what is left
 --   begins_word, begins_cut                a word and a byte, and what stands behind them; the first bytes of a text begin with a word where the text does
-use mathlib.Core.Path.{◌≡◌, refl, sym, ap, ap₂}
-use mathlib.Core.Bool.{Bool, true, false, cond}
+use mathlib.Core.Path.{◌≡◌, refl, sym, ◌∙◌, ap, ap₂}
+use mathlib.Core.Bool.{Bool, true, false, cond, ◌&&◌}
 use mathlib.Core.List.{List, [], ◌∷◌, ◌++◌}
 use Prim.Native.Nat.{ℕ, zero, suc, ◌+◌, ◌<◌, ◌≤◌}
 use native.Mathlib.Numerals.{add-one}
 use native.Mathlib.Nat.{add-zero, add_assoc}
 use native.Mathlib.Omega.{arith}
-use borrow.Author.Tests.{eq-eqb, ne_eqb, eqb-true}
+use borrow.Author.Tests.{eq-eqb, ne_eqb, eqb-true, eqb-false}
+use Rattle.std.specs.List.{starts_with, between}
+use Rattle.std.proofs.lemmas.Slice.Eq.{starts_is}
+use Rattle.std.proofs.lemmas.Slice.{between_to_end}
+use Rattle.std.proofs.lemmas.Bool.Decides.{Decides-eqb}
+use mathlib.Core.Logic.{◌≢◌}
+use native.Mathlib.Decide.{dec_lt}
 use lib.Dec.{eqb}
-use lib.ListN.{length, get_or, take, drop, drop_of_length-le, length-drop}
-use lib.Seq.{drop-cons, drop-drop}
+use lib.ListN.{length, get_or, get_or-eq_default, take, drop, drop_of_length-le, length-drop}
+use lib.Seq.{drop-cons, drop-drop, get_or-drop}
 use Rattle.exact.proofs.Searching.{not_both}
 use Rattle.text.specs.Parts.{bytes_before, place_from, on_first, parted, begins}
 
@@ -96,24 +102,45 @@ module _ (byte : ℕ) where
   parts_last (x ∷ xs) l = last_step x xs (eqb x byte) (parts_last xs) l
 
 -- ---- a word that a text begins with
-module _ (word text : List ℕ) (i : ℕ) where
-  pub begins_all : length word ≤ i → begins (drop i word) (drop i text) ≡ true
-  unfolding begins
-  begins_all l = rw (drop_of_length-le word l)
+begins_step : (x y : ℕ) (b c d : Bool) → eqb x y ≡ b → eqb y x ≡ c → (b && d) ≡ cond c d false
+begins_step x y true true d e f = refl
+begins_step x y false false d e f = refl
+begins_step x y true false d e f = absurd (eqb-false y x f (sym (eqb-true x y e)))
+begins_step x y false true d e f = absurd (eqb-false x y e (sym (eqb-true y x f)))
 
-  module _ (w : i < length word) where
-    pub begins_short : length text ≤ i → begins (drop i word) (drop i text) ≡ false
-    unfolding begins
-    begins_short l = rw (drop-cons word i 0 w, drop_of_length-le text l)
+-- as std's test of a slice's first elements says it
+pub begins_is : (word text : List ℕ) → starts_with eqb text word ≡ begins word text
+unfolding begins
+begins_is [] text = refl
+begins_is (w ∷ word) [] = refl
+begins_is (w ∷ word) (b ∷ text) = rw (← begins_is word text) (begins_step w b (eqb w b) (eqb b w) (starts_with eqb text word) refl refl)
 
-    module _ (l : i < length text) where
-      pub begins_other : (get_or text i 0 ≡ get_or word i 0 → ⊥) → begins (drop i word) (drop i text) ≡ false
-      unfolding begins
-      begins_other e = rw (drop-cons word i 0 w, drop-cons text i 0 l, ne_eqb (get_or text i 0) (get_or word i 0) e)
+-- what such a test says of the text from a start on
+pub starts_from : (text : List ℕ) (start : ℕ) (word : List ℕ) → starts_with eqb (between start (length text) text) word ≡ true
+    → drop start text ≡ word ++ drop (length word) (drop start text)
+starts_from text start word t = (starts_is Decides-eqb (drop start text) word _ refl).0 (rw (between_to_end text start (length text) (omega arith)) at t)
 
-      pub begins_more : get_or text i 0 ≡ get_or word i 0 → begins (drop i word) (drop i text) ≡ begins (drop (i + 1) word) (drop (i + 1) text)
-      unfolding begins
-      begins_more e = rw (drop-cons word i 0 w, drop-cons text i 0 l, eq-eqb (get_or text i 0) (get_or word i 0) e, add-one i)
+pub starts_so : (text : List ℕ) (start : ℕ) (word rest : List ℕ) → drop start text ≡ word ++ rest
+    → starts_with eqb (between start (length text) text) word ≡ true
+starts_so text start word rest e = rw (between_to_end text start (length text) (omega arith)) ((starts_is Decides-eqb (drop start text) word _ refl).1 rest e)
+
+-- ---- the byte at a start
+module _ (text : List ℕ) (start : ℕ) where
+  pub led : (b : ℕ) (rest : List ℕ) → drop start text ≡ b ∷ rest → (start < length text) × (get_or text start 0 ≡ b) × (drop (start + 1) text ≡ rest)
+  led b rest e = (
+    omega (arith, ap length e, length-drop start text),
+    sym (get_or-drop start text 0 0 ∙ ap (λ (n : ℕ). get_or text n 0) (add-zero start)) ∙ ap (λ (s : List ℕ). get_or s 0 0) e,
+    sym (drop-drop 1 start text) ∙ ap (drop 1) e,
+  )
+
+  pub unled : (b : ℕ) → 0 < b → starts_with eqb (between start (length text) text) (b ∷ []) ≡ false → get_or text start 0 ≢ b
+  unled b some t e = by_place (dec_lt start (length text))
+    where
+      by_place : Dec (start < length text) → ⊥
+      by_place (yes l) =
+          let so = starts_so text start (b ∷ []) (drop (suc start) text) (drop-cons text start 0 l ∙ ap (λ (x : ℕ). x ∷ drop (suc start) text) e) in
+          not_both (sym so ∙ t)
+      by_place (no l) = let far : length text ≤ start = omega (arith, l) in omega (arith, e, some, get_or-eq_default text 0 far)
 
 length_step : (b c : Bool) (m n : ℕ) → (c ≡ true → m ≤ n) → cond b c false ≡ true → suc m ≤ suc n
 length_step true c m n rec e = omega (arith, rec e)
@@ -147,3 +174,6 @@ begins_cut [] text n l = refl
 begins_cut (w ∷ word) text zero l = absurd (omega arith)
 begins_cut (w ∷ word) [] (suc n) l = refl
 begins_cut (w ∷ word) (b ∷ text) (suc n) l = ap (λ (x : Bool). cond (eqb b w) x false) (begins_cut word text n (omega arith))
+
+-- what the search for a byte cites
+pub ruleset place_steps = (place_here, place_next, place_end)

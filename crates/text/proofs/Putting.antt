@@ -1,33 +1,31 @@
 -- Bytes written one part after another. Assumes nothing.
---   wrote_length, rewrote, read_signed  the buffer keeps its length; the same bytes; a signed number is what the machine reads
---   one_wrote                           the same bytes at the same place leave one buffer
---   then                                what was written, and what was written after it, are written together
---   word_none, word_more                a word, byte by byte
---   wrote_start                         what was written from the start of a buffer stands there
---   digits_most, written_most           a number takes at most 20 digits, and a minus
---   come, come_within, come_on          how far the writing has come
---   count_on, signed_on                 a field takes at most 22 places
---   lines_more                          one more line
---   lines_within, lines_most            lines of at most so many bytes: those below n, and all
---   lines_none, lines_on_lem                the lines so far, and one more
---   room_within, lines_room             room for one more
+--   then                                    what was written, and what was written after it, are written together
+--   wrote_length, rewrote, one_wrote        the buffer keeps its length; the same bytes; the same bytes at the same place leave one buffer
+--   copied                                  a word, as a slice takes it
+--   wrote_start                             what was written from the start of a buffer stands there
+--   digits_most, count_most, written_most   a number takes at most 20 digits, and a minus
+--   puts, puts_then, puts_most, puts_as     what a writer puts; and more after it; at most so many bytes; the same bytes
+--   puts_none, put_whole                    nothing; all from the start of a lent buffer
+--   lines_more, lines_on_lem                one more line
+--   puts_start, puts_line                   a writer's lines: none so far, and one more
+--   lines_within, lines_most                lines of at most so many bytes: those below n, and all
 use mathlib.Core.Path.{◌≡◌, refl, sym, ◌∙◌, ap, subst}
 use mathlib.Core.Bool.{Bool, true, false, cond}
 use mathlib.Core.List.{List, [], ◌∷◌, ◌++◌}
 use Prim.Native.Nat.{ℕ, zero, suc, ◌+◌, ◌*◌, ◌/◌, ◌%◌, ◌≤◌, ◌<◌}
-use native.Mathlib.Nat.{suc-mul, mul-le-mul_right}
+use native.Mathlib.Nat.{suc-mul}
 use native.Mathlib.Numerals.{add-one}
 use native.Mathlib.Omega.{arith}
+use Rattle.std.proofs.Common.{append_assoc}
 use lib.Dec.{ltb}
-use lib.ListN.{length, get_or, take, drop, length-append}
-use lib.Seq.{sets, length-sets, sets-eq, take-suc, take-append-le, take_all}
+use lib.ListN.{length, take, drop, length-append}
+use borrow.Rule.Slice.PartMut.{put_mid}
+use lib.Seq.{drop-drop, sets, length-sets, sets-eq, take-append-le, take_all}
 use lib.IntN.{ℤ, pos, negsuc}
-use mir.Syntax.{w64}
-use mir.Val.{SFits, to_z, of_z}
-use Rattle.exact.proofs.Bound.{read}
 use Rattle.exact.proofs.Filling.{sets_append}
 use Rattle.text.specs.Decimal.{digits, digits_of, written}
-use Rattle.text.specs.Written.{signed_field, count_field, in_order, Wrote}
+use Rattle.text.specs.Written.{in_order, Wrote, Puts}
+use Rattle.text.specs.declared.writer.Writer.{Writer}
 
 pub then : {a b c : List ℕ} {at p q : ℕ} {xs ys : List ℕ} → Wrote a at xs b p → Wrote b p ys c q → Wrote a at (xs ++ ys) c q
 then {a} {b} {c} {at} {p} {q} {xs} {ys} f g = record {
@@ -45,23 +43,16 @@ rewrote {a} {b} {at} {p} h w = subst (λ (zs : List ℕ). Wrote a at zs b p) h w
 pub one_wrote : {a b b' : List ℕ} {at p p' : ℕ} {xs : List ℕ} → Wrote a at xs b p → Wrote a at xs b' p' → (p ≡ p') × (b ≡ b')
 one_wrote w w' = (w.place ∙ sym w'.place, w.buffer ∙ sym w'.buffer)
 
--- ---- a word, byte by byte
-pub word_none : (a word : List ℕ) (at : ℕ) → Wrote a at (take 0 word) a at
-word_none a word at = record { buffer = refl; place = omega arith }
-
-pub word_more : {a b c : List ℕ} {at p q : ℕ} (word : List ℕ) (i : ℕ) → i < length word → Wrote a at (take i word) b p → Wrote b p (get_or word i 0 ∷ []) c q
-    → Wrote a at (take (i + 1) word) c q
-word_more word i l f g = rewrote (sym (ap (λ (n : ℕ). take n word) (add-one i) ∙ take-suc word i 0 l)) (then f g)
+-- a word, as a slice takes it
+pub copied : (a word part : List ℕ) (at k : ℕ) → at + length word ≤ length a → k ≡ length word → part ≡ word
+    → Wrote a at word (put_mid at k a part) (at + length word)
+copied a word part at k l e p = record { buffer = rw (e, p, sets-eq word a at l, drop-drop, append_assoc); place = refl }
 
 pub wrote_start : {a b : List ℕ} {p : ℕ} (xs : List ℕ) → length xs ≤ length a → Wrote a 0 xs b p → take p b ≡ xs
 wrote_start {a} {b} {p} xs l w =
     ap (take p) (w.buffer ∙ sets-eq xs a 0 (omega (arith, l)))
     ∙ take-append-le p xs (drop (0 + length xs) a) (omega (arith, w.place))
     ∙ take_all p xs (omega (arith, w.place))
-
--- a signed number as the machine reads it
-pub read_signed : {a b : List ℕ} {at p : ℕ} (z : ℤ) → SFits w64 z → Wrote a at (signed_field (to_z w64 (of_z w64 z))) b p → Wrote a at (signed_field z) b p
-read_signed z f w = rewrote (ap (λ (y : ℤ). signed_field y) (read f)) w
 
 -- ---- lengths
 pub digits_most : (most n : ℕ) → length (digits most n) ≤ most
@@ -82,33 +73,53 @@ unfolding written
 written_most (pos n) = omega (arith, count_most n)
 written_most (negsuc n) = omega (arith, count_most (suc n))
 
--- how far the writing has come: at most k places on, in a buffer of the same length
-pub record Come (a : List ℕ) (at k : ℕ) (b : List ℕ) (p : ℕ) : Type 0 where
-  pub far : p ≤ at + k
-  pub kept : length b ≡ length a
+-- ---- a writer
+pub puts : {a b : Writer} {xs : List ℕ} {most : ℕ} → Wrote a.out.now a.at xs b.out.now b.at → length xs ≤ most
+    → b.out.ghost_name ≡ a.out.ghost_name → Puts a xs most b
+puts w l e = record { wrote = w; few = omega (arith, w.place, l); room = wrote_length w; same = e }
 
-pub come_within : {a b : List ℕ} {at p : ℕ} {xs : List ℕ} (most : ℕ) → length xs ≤ most → Wrote a at xs b p → Come a at most b p
-come_within most small w = record { far = omega (arith, w.place, small); kept = wrote_length w }
+-- what was put, and what was put after it
+pub puts_then : {a b c : Writer} {xs ys : List ℕ} {m n : ℕ} → Puts a xs m b → Puts b ys n c → Puts a (xs ++ ys) (m + n) c
+puts_then f g = record { wrote = then f.wrote g.wrote; few = omega (arith, f.few, g.few); room = g.room ∙ f.room; same = g.same ∙ f.same }
 
-pub come : {a b : List ℕ} {at p : ℕ} {xs : List ℕ} → Wrote a at xs b p → Come a at (length xs) b p
-come {xs = xs} w = come_within (length xs) (omega arith) w
+pub puts_most : {a b : Writer} {xs : List ℕ} {m most : ℕ} → m ≤ most → Puts a xs m b → Puts a xs most b
+puts_most l f = record { wrote = f.wrote; few = omega (arith, f.few, l); room = f.room; same = f.same }
 
-pub come_on :
-    {a b c : List ℕ} {at k p q : ℕ} {xs : List ℕ} (most : ℕ) → Come a at k b p → length xs ≤ most → Wrote b p xs c q → Come a at (k + most) c q
-come_on most f small w = record { far = omega (arith, f.far, small, w.place); kept = wrote_length w ∙ f.kept }
+-- the same bytes
+pub puts_as : {a b : Writer} {xs ys : List ℕ} {most : ℕ} → xs ≡ ys → Puts a xs most b → Puts a ys most b
+puts_as {a} {b} {most = most} h f = subst (λ (zs : List ℕ). Puts a zs most b) h f
 
--- a field is at most 22 bytes
-pub count_on : {a b c : List ℕ} {at k p q : ℕ} (n : ℕ) → Come a at k b p → Wrote b p (count_field n) c q → Come a at (k + 22) c q
-count_on n f w = come_on 22 f (omega (arith, count_most n)) w
+-- nothing
+pub puts_none : {a : Writer} → Puts a [] 0 a
+puts_none = record { wrote = record { buffer = refl; place = omega arith }; few = omega arith; room = refl; same = refl }
 
-pub signed_on : {a b c : List ℕ} {at k p q : ℕ} (z : ℤ) → Come a at k b p → Wrote b p (signed_field z) c q → Come a at (k + 22) c q
-signed_on z f w = come_on 22 f (omega (arith, written_most z)) w
+-- from the start of a lent buffer
+pub put_whole : {a b : Writer} {xs : List ℕ} {most : ℕ} → a.at ≡ 0 → Puts a xs most b → Wrote a.out.now 0 xs b.out.now b.at
+put_whole {b = b} {xs = xs} e p = rw e at p.wrote
 
 -- ---- lines
 pub lines_more : (n : ℕ) (line : ℕ → List ℕ) → in_order (n + 1) line ≡ in_order n line ++ line n
 unfolding in_order
 lines_more n line = rw (add-one n)
 
+-- the lines so far, and one more
+pub lines_on_lem :
+    {a b c : List ℕ} {at p q : ℕ} (n : ℕ) (line : ℕ → List ℕ) → Wrote a at (in_order n line) b p → Wrote b p (line n) c q →
+    Wrote a at (in_order (n + 1) line) c q
+lines_on_lem n line f g = rw (lines_more n line) (then f g)
+
+-- a writer's lines: none so far, and one more of at most so many bytes
+pub puts_start : {a : Writer} (line : ℕ → List ℕ) → Puts a (in_order 0 line) 0 a
+unfolding in_order
+puts_start line = puts_none
+
+pub puts_line : {a b c : Writer} (n most : ℕ) (line : ℕ → List ℕ) → Puts a (in_order n line) (n * most) b → Puts b (line n) most c
+    → Puts a (in_order (n + 1) line) ((n + 1) * most) c
+puts_line n most line f g =
+    let p = puts_then f g in
+    record { wrote = lines_on_lem n line f.wrote g.wrote; few = rw (add-one n) (omega (arith, p.few, suc-mul n most)); room = p.room; same = p.same }
+
+-- how many bytes lines take at most
 pub lines_within : (n most : ℕ) (line : ℕ → List ℕ) → ((i : ℕ) → i < n → length (line i) ≤ most) → length (in_order n line) ≤ n * most
 unfolding in_order
 lines_within zero most line h = omega arith
@@ -118,24 +129,5 @@ lines_within (suc n) most line h =
 pub lines_most : (n most : ℕ) (line : ℕ → List ℕ) → ((i : ℕ) → length (line i) ≤ most) → length (in_order n line) ≤ n * most
 lines_most n most line h = lines_within n most line (λ i l. h i)
 
--- the lines so far, and one more
-pub lines_none : (a : List ℕ) (at : ℕ) (line : ℕ → List ℕ) → Wrote a at (in_order 0 line) a at
-unfolding in_order
-lines_none a at line = record { buffer = refl; place = omega arith }
-
-pub lines_on_lem :
-    {a b c : List ℕ} {at p q : ℕ} (n : ℕ) (line : ℕ → List ℕ) → Wrote a at (in_order n line) b p → Wrote b p (line n) c q →
-    Wrote a at (in_order (n + 1) line) c q
-lines_on_lem n line f g = rw (lines_more n line) (then f g)
-
--- room for one more line
-pub room_within :
-    {a b : List ℕ} {at p : ℕ} (n i most : ℕ) (line : ℕ → List ℕ) → ((j : ℕ) → j < n → length (line j) ≤ most) → at + n * most ≤ length a → i < n →
-    Wrote a at (in_order i line) b p → p + most ≤ length b
-room_within n i most line small room h w =
-    omega (arith, room, w.place, wrote_length w, lines_within i most line (λ j l. small j (omega arith)), mul-le-mul_right most h, suc-mul i most)
-
-pub lines_room :
-    {a b : List ℕ} {at p : ℕ} (n i most : ℕ) (line : ℕ → List ℕ) → ((j : ℕ) → length (line j) ≤ most) → at + n * most ≤ length a → i < n →
-    Wrote a at (in_order i line) b p → p + most ≤ length b
-lines_room n i most line small = room_within n i most line (λ j l. small j)
+-- what a writer's fields cite
+pub ruleset fields = (then, wrote_length, count_most, written_most, puts)

@@ -15,9 +15,8 @@ use lib.IntN.{ℤ, pos, negsuc, nat_abs}
 use lib.ListN.{length, get_or, length-append}
 use Rattle.text.specs.Decimal.{digits, digits_of, written}
 use Rattle.text.specs.Numbers.{read_digits, unsigned_of, plus, minus, numeral_within}
-use Rattle.text.specs.declared.number.Number.TheVariants.{Value}
-use Rattle.text.specs.declared.number.Digits.TheVariants.{Whole}
 use Rattle.text.proofs.Writing.{one_small, one_large, tenth}
+use Rattle.std.specs.Prelude.{Some}
 
 -- ---- the value of the digits
 -- one digit more, after the value v
@@ -44,7 +43,7 @@ reads_on : (f n : ℕ) → n < 10 ^ suc f → (rest : List ℕ) → read_digits 
 reads_on zero n h rest = reads_one 0 n rest (omega arith)
 reads_on (suc f) n h rest = reads_step (suc f) n rest (ltb n 10) refl (reads_on f (n / 10) (tenth (suc f) n h))
 
-pub reads_digits : (n : ℕ) → n < 10 ^ 20 → read_digits 0 (digits_of n) ≡ Whole n
+pub reads_digits : (n : ℕ) → n < 10 ^ 20 → read_digits 0 (digits_of n) ≡ Some n
 unfolding digits_of read_digits
 reads_digits n h = ap (read_digits 0) (sym (append-nil (digits 20 n))) ∙ reads_on 19 n h []
 
@@ -109,16 +108,16 @@ module _ (k : ℕ) (l : k < 20) where
   within : (n : ℕ) → n < 10 ^ suc k → n < 10 ^ 20
   within n h = omega (arith, pow-le-pow_right {n = 10} (lit< tt) l)
 
-  unsigned_back : (n : ℕ) → suc n < 10 ^ suc k → unsigned_of (suc k) (digits_of (suc n)) ≡ Whole (suc n)
+  unsigned_back : (n : ℕ) → suc n < 10 ^ suc k → unsigned_of (suc k) (digits_of (suc n)) ≡ Some (suc n)
   unsigned_back n h =
       unsigned_led (suc k) (digits_of (suc n)) (few_digits k (suc n) h) (leading (suc n) (within (suc n) h) (omega arith))
       ∙ reads_digits (suc n) (within (suc n) h)
 
-  zero_back : numeral_within (suc k) (written (pos 0)) ≡ Value (pos 0)
+  zero_back : numeral_within (suc k) (written (pos 0)) ≡ Some (pos 0)
   unfolding numeral_within written digits_of digits unsigned_of read_digits plus
   zero_back = rw (le-ltb (suc k) 1 (omega arith))
 
-  pub reads_back : (z : ℤ) → nat_abs z < 10 ^ suc k → numeral_within (suc k) (written z) ≡ Value z
+  pub reads_back : (z : ℤ) → nat_abs z < 10 ^ suc k → numeral_within (suc k) (written z) ≡ Some z
   unfolding numeral_within written plus minus
   reads_back (pos zero) h = zero_back
   reads_back (pos (suc n)) h =

@@ -35,7 +35,8 @@ module _ (t : ℕ → Bool) (l : ℕ → List ℕ) where
   some_at (suc n) = by_test (some_at n) (t n) refl
     where
       before : (x : List (List ℕ)) → in_order (rank t n) (λ m. get_or (gather n t l ++ x) m []) ≡ in_order (rank t n) (at n)
-      before x = order_ext (rank t n) (λ m. get_or (gather n t l ++ x) m []) (at n) (λ m k. get_or-append (gather n t l) x [] m (omega (arith, gather_rank t n l)))
+      before x =
+          order_ext (rank t n) (λ m. get_or (gather n t l ++ x) m []) (at n) (λ m k. get_or-append (gather n t l) x [] m (omega (arith, gather_rank t n l)))
 
       last : get_or (gather n t l ++ (l n ∷ [])) (rank t n) [] ≡ l n
       last = ap (λ (k : ℕ). get_or (gather n t l ++ (l n ∷ [])) k []) (sym (gather_rank t n l)) ∙ get_or-append_seam (gather n t l) (l n) [] []
@@ -91,7 +92,8 @@ module _ (file : List ℕ) where
     unfolding unended
     sifted_ended =
         let s = stacked many line in
-        rw sifted_stacked (le-ltb (bytes_of (lines_of s)) (length s) (omega (arith, stacked_bytes many line (λ h l. lines_free file (nth t (lines_in file) h)))))
+        rw sifted_stacked
+        (le-ltb (bytes_of (lines_of s)) (length s) (omega (arith, stacked_bytes many line (λ h l. lines_free file (nth t (lines_in file) h)))))
 
     pub sifted_long : length (sifted file t) ≤ length file
     sifted_long =

@@ -1,6 +1,5 @@
 -- Laws of the line reader: what the end of the search for an LF says, and how the list of all lines goes with the reader. Assumes nothing.
---   line_whole, line_none                          the line, by the search's end
---   status_whole, status_missing, status_none      the status, by the search's end
+--   line_none                                      no line, by the search's end
 --   whole_within, missing_past, none_past          the search's end, by the status
 --   line_next                                      the LF stands right after the line, so the next line starts one further
 --   lines_whole, lines_rest, lines_end             the list of lines from a start: the line there and those after its LF, or no line
@@ -9,71 +8,37 @@
 use mathlib.Core.Path.{◌≡◌, refl, sym, ◌∙◌, ap}
 use mathlib.Core.Bool.{Bool, true, false, cond}
 use mathlib.Core.List.{List, [], ◌∷◌}
-use Prim.Native.Nat.{ℕ, suc, ◌+◌, ◌-◌, ◌<◌, ◌≤◌}
+use Prim.Native.Nat.{ℕ, suc, ◌+◌, ◌<◌, ◌≤◌}
 use native.Mathlib.Omega.{arith}
 use borrow.Author.Tests.{lt-ltb, le-ltb, ltb-true, ltb-false}
 use lib.Dec.{ltb, eqb}
-use lib.ListN.{length, take, drop, drop_of_length-le, length-drop}
+use lib.ListN.{length, drop, drop_of_length-le, length-drop}
 use lib.Seq.{length-take-le}
 use Rattle.text.specs.Parts.{bytes_before, place_from, on_first, parted}
 use Rattle.text.specs.Lines.{LF, line_at, status_at, lines_of, bytes_of}
-use Rattle.text.specs.declared.line.LineStatus.{LineStatus}
 use Rattle.text.specs.declared.line.LineStatus.TheVariants.{Whole, NoneLeft, LfMissing}
 use Rattle.text.proofs.Parting.{parts_more, parts_dropped}
 
--- ---- what the end `e` of the search from `i` says
-module _ (s : List ℕ) (i e : ℕ) (q : e ≡ place_from LF s i) where
-  far : e - i ≡ bytes_before LF (drop i s)
-  unfolding place_from
-  far = omega arith
-
-  found : e < length s → ltb (place_from LF s i) (length s) ≡ true
-  found l = lt-ltb (place_from LF s i) (length s) (omega arith)
-
-  missed : length s ≤ e → ltb (place_from LF s i) (length s) ≡ false
-  missed l = le-ltb (place_from LF s i) (length s) (omega arith)
-
-  pub line_whole : e < length s → take (e - i) (drop i s) ≡ line_at s i
-  unfolding line_at
-  line_whole l = rw (far, found l)
-
-  pub line_none : length s ≤ e → [] ≡ line_at s i
-  unfolding line_at
-  line_none l = rw (missed l)
-
-  pub status_whole : i < length s → e < length s → Whole ≡ status_at s i
-  unfolding status_at
-  status_whole h l = rw (lt-ltb i (length s) h, found l)
-
-  pub status_missing : i < length s → length s ≤ e → LfMissing ≡ status_at s i
-  unfolding status_at
-  status_missing h l = rw (lt-ltb i (length s) h, missed l)
-
-pub status_none : (s : List ℕ) (i : ℕ) → length s ≤ i → NoneLeft ≡ status_at s i
-unfolding status_at
-status_none s i l = rw (le-ltb i (length s) l)
+-- ---- where the search from `i` ends past the text there is no line
+pub line_none : (s : List ℕ) (i e : ℕ) → e ≡ place_from LF s i → length s ≤ e → [] ≡ line_at s i
+unfolding line_at
+line_none s i e q l = rw (← q, le-ltb e (length s) l)
 
 -- ---- what a status says
--- the three are told apart by a number
-abbrev ordinal : LineStatus → ℕ
-ordinal Whole = 0
-ordinal NoneLeft = 1
-ordinal LfMissing = 2
-
 -- a: the start is within the file; b: the search ends within it
 by_whole : (a b : Bool) → cond a (cond b Whole LfMissing) NoneLeft ≡ Whole → b ≡ true
 by_whole true true e = refl
-by_whole true false e = absurd (omega (arith, ap ordinal e))
-by_whole false b e = absurd (omega (arith, ap ordinal e))
+by_whole true false e = cc
+by_whole false b e = cc
 
 by_missing : (a b : Bool) → cond a (cond b Whole LfMissing) NoneLeft ≡ LfMissing → b ≡ false
-by_missing true true e = absurd (omega (arith, ap ordinal e))
+by_missing true true e = cc
 by_missing true false e = refl
-by_missing false b e = absurd (omega (arith, ap ordinal e))
+by_missing false b e = cc
 
 by_none : (a b : Bool) → cond a (cond b Whole LfMissing) NoneLeft ≡ NoneLeft → a ≡ false
-by_none true true e = absurd (omega (arith, ap ordinal e))
-by_none true false e = absurd (omega (arith, ap ordinal e))
+by_none true true e = cc
+by_none true false e = cc
 by_none false b e = refl
 
 module _ (s : List ℕ) (i : ℕ) where

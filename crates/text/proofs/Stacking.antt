@@ -93,9 +93,17 @@ module _ (n : ℕ) (l : ℕ → List ℕ) (e : (h : ℕ) → h < n → Free LF (
         few = stacked_long n l;
         inside = omega (arith, ap length lines, length-append (tabulate n l) (lines_of rest), long);
         lines = ap (drop n) lines ∙ drop_at (tabulate n l) (lines_of rest) n long ∙ sym (ap lines_of (drop-append_seam (stacked n l) rest));
-        rest = omega (arith, ap bytes_of lines, bytes_append (tabulate n l) (lines_of rest), bytes_stacked n l, ap (λ (s : List ℕ). bytes_of (lines_of s)) (drop-append_seam (stacked n l) rest));
+        rest = omega (
+          arith,
+          ap bytes_of lines,
+          bytes_append (tabulate n l) (lines_of rest),
+          bytes_stacked n l,
+          ap (λ (s : List ℕ). bytes_of (lines_of s)) (drop-append_seam (stacked n l) rest),
+        );
         bytes = sym (ap bytes_of (ap (take n) lines ∙ take_at (tabulate n l) (lines_of rest) n long) ∙ bytes_stacked n l);
-        text = take-append_seam (stacked n l) rest ∙ order_ext n (λ h. l h ++ line_end) (λ h. line_no (stacked n l ++ rest) h ++ line_end) (λ h m. ap (λ (s : List ℕ). s ++ line_end) (sym (line_before rest h m)));
+        text = take-append_seam (stacked n l) rest
+            ∙ order_ext n (λ h. l h ++ line_end) (λ h. line_no (stacked n l ++ rest) h ++ line_end)
+            (λ h m. ap (λ (s : List ℕ). s ++ line_end) (sym (line_before rest h m)));
       }
 
   -- ---- with nothing behind them

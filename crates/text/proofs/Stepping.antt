@@ -92,7 +92,8 @@ module _ (file : List ℕ) where
 
       pub line_here : line_no file n ≡ line_at file start
       unfolding line_no
-      line_here = ap (λ (m : ℕ). get_or (lines_of file) m []) (sym (add-zero n)) ∙ sym (get_or-drop n (lines_of file) 0 []) ∙ ap (λ (lines : List (List ℕ)). get_or lines 0 []) left
+      line_here = ap (λ (m : ℕ). get_or (lines_of file) m []) (sym (add-zero n)) ∙ sym (get_or-drop n (lines_of file) 0 [])
+          ∙ ap (λ (lines : List (List ℕ)). get_or lines 0 []) left
 
       pub one_more : n < lines_in file
       one_more = omega (arith, length-drop n (lines_of file), ap length left)

@@ -13,7 +13,7 @@ use native.Mathlib.Omega.{arith}
 use borrow.Author.Tests.{lt-ltb, le-ltb, ltb-true, ltb-false}
 use lib.Dec.{ltb}
 use lib.IntN.{ℤ, pos, negsuc, nat_abs}
-use lib.ListN.{length, set, length-append}
+use lib.ListN.{length, set, length-append, length-set}
 use lib.Seq.{sets}
 use lib.Signed.{◌≤ℤ◌, ◌<ℤ◌}
 use Rattle.exact.proofs.Linear.{orders}
@@ -81,3 +81,8 @@ pub written_above : (z : ℤ) → pos 0 ≤ℤ z → written z ≡ digits_of (na
 unfolding written
 written_above (pos n) h = refl
 written_above (negsuc n) h = absurd h.le
+
+-- what `put_digits` and `put` cite
+pub ruleset digit_steps = (length_small, length_large, put_small, put_large)
+
+pub ruleset signs = (written_below, written_above, length-set)

@@ -18,15 +18,13 @@ use lib.ListN.{length, get_or, drop}
 use Rattle.exact.proofs.Searching.{neither}
 use Rattle.text.specs.Decimal.{digits, digits_of, written}
 use Rattle.text.specs.Numbers.{read_digits, unsigned_of, plus, minus, numeral_within}
-use Rattle.text.specs.declared.number.Digits.{Digits}
-use Rattle.text.specs.declared.number.Digits.TheVariants.{Whole, NoDigits}
-use Rattle.text.specs.declared.number.Number.TheVariants.{Value}
 use Rattle.text.proofs.Numerals.{small_next, number_minus, number_plus}
 use Rattle.text.proofs.Spanning.{first_by, digit_first, digit_bounds}
 use Rattle.text.proofs.Writing.{one_small, one_large}
+use Rattle.std.specs.Prelude.{Some, None, Option}
 
 -- ---- digits and their value
-whole_is : (v w : ℕ) → Whole v ≡ Whole w → v ≡ w
+whole_is : (v w : ℕ) → Some v ≡ Some w → v ≡ w
 whole_is v w e = cc
 
 -- one digit more than those of n
@@ -36,7 +34,7 @@ one_on f n d l h =
     let last : (10 * n + d) % 10 ≡ d = omega arith in
     one_large f (10 * n + d) (omega arith) ∙ rw (tenth, last)
 
-pub digits_on : (f n v : ℕ) (s : List ℕ) → 1 ≤ n → read_digits n s ≡ Whole v → digits (length s + f) v ≡ digits f n ++ s
+pub digits_on : (f n v : ℕ) (s : List ℕ) → 1 ≤ n → read_digits n s ≡ Some v → digits (length s + f) v ≡ digits f n ++ s
 unfolding read_digits
 digits_on f n v [] l e = rw (append-nil (digits f n), whole_is n v e) (ap (λ (m : ℕ). digits m v) (omega arith))
 digits_on f n v (b ∷ bs) l e =
@@ -53,7 +51,7 @@ first_digit : (f b : ℕ) → 48 ≤ b → b ≤ 57 → digits (suc f) (10 * 0 +
 first_digit f b l m =
     one_small f (10 * 0 + (b - 48)) (omega arith) ∙ ap (λ (c : ℕ). c ∷ []) (omega arith)
 
-pub digits_back : (v : ℕ) (s : List ℕ) → read_digits 0 s ≡ Whole v → 0 < length s → length s ≤ 20 → (1 < length s → get_or s 0 0 ≡ 48 → ⊥) → digits_of v ≡ s
+pub digits_back : (v : ℕ) (s : List ℕ) → read_digits 0 s ≡ Some v → 0 < length s → length s ≤ 20 → (1 < length s → get_or s 0 0 ≡ 48 → ⊥) → digits_of v ≡ s
 unfolding digits_of read_digits
 digits_back v [] e some few led = absurd (omega arith)
 digits_back v (b ∷ []) e some few led =
@@ -68,7 +66,7 @@ digits_back v (b ∷ c ∷ cs) e some few led =
     ∙ digits_on (suc (18 - length cs)) (10 * 0 + (b - 48)) v (c ∷ cs) above t.1
     ∙ ap (λ (x : List ℕ). x ++ (c ∷ cs)) (first_digit (18 - length cs) b r.0 r.1)
 
-small_on : (f n v : ℕ) (s : List ℕ) → n < 10 ^ f → read_digits n s ≡ Whole v → v < 10 ^ (f + length s)
+small_on : (f n v : ℕ) (s : List ℕ) → n < 10 ^ f → read_digits n s ≡ Some v → v < 10 ^ (f + length s)
 unfolding read_digits
 small_on f n v [] l e = rw (← whole_is n v e, add-zero f) l
 small_on f n v (b ∷ bs) l e =
@@ -76,7 +74,7 @@ small_on f n v (b ∷ bs) l e =
     let on : f + 1 + length bs ≡ f + suc (length bs) = omega arith in
     rw (← on) (small_on (f + 1) (10 * n + (b - 48)) v bs (small_next n (b - 48) f l (omega (arith, r.0, r.1))) t.1)
 
-pub value_small : (v : ℕ) (s : List ℕ) → read_digits 0 s ≡ Whole v → v < 10 ^ length s
+pub value_small : (v : ℕ) (s : List ℕ) → read_digits 0 s ≡ Some v → v < 10 ^ length s
 value_small v s e = let on : 0 + length s ≡ length s = omega arith in rw (← on) (small_on 0 0 v s (omega arith) e)
 
 -- ---- digits as the files' rule asks for them
@@ -84,14 +82,14 @@ pub record Numerals (most : ℕ) (s : List ℕ) (v : ℕ) : Type 0 where
   pub some : 0 < length s
   pub few : length s ≤ most
   pub led : 1 < length s → get_or s 0 0 ≡ 48 → ⊥
-  pub reads : read_digits 0 s ≡ Whole v
+  pub reads : read_digits 0 s ≡ Some v
 
 led_by : (a b : Bool) → (a && b) ≡ false → a ≡ true → b ≡ false
 led_by true b e t = e
-led_by false b e t = let z : ◌≡◌ {A = ℕ} 0 1 = cc in absurd (omega arith)
+led_by false b e t = cc
 
 module _ (most : ℕ) where
-  pub unsigned_told : (s : List ℕ) (v : ℕ) → unsigned_of most s ≡ Whole v → Numerals most s v
+  pub unsigned_told : (s : List ℕ) (v : ℕ) → unsigned_of most s ≡ Some v → Numerals most s v
   unfolding unsigned_of
   unsigned_told s v e =
       let long = ltb most (length s) in let zeros = ltb 1 (length s) && eqb (get_or s 0 0) 48 in
@@ -107,18 +105,18 @@ module _ (most : ℕ) where
       }
 
   module _ {P : Type 0} (z : ℤ) where
-    plus_by : (d : Digits) → plus d ≡ Value z → ((v : ℕ) → d ≡ Whole v → z ≡ pos v → P) → P
+    plus_by : (d : Option ℕ) → plus d ≡ Some z → ((v : ℕ) → d ≡ Some v → z ≡ pos v → P) → P
     unfolding plus
-    plus_by (Whole v) e k = k v refl (cc)
-    plus_by NoDigits e k = let z : ◌≡◌ {A = ℕ} 0 1 = cc in absurd (omega arith)
+    plus_by (Some v) e k = k v refl (cc)
+    plus_by None e k = cc
 
-    minus_by : (d : Digits) → minus d ≡ Value z → ((n : ℕ) → d ≡ Whole (suc n) → z ≡ negsuc n → P) → P
+    minus_by : (d : Option ℕ) → minus d ≡ Some z → ((n : ℕ) → d ≡ Some (suc n) → z ≡ negsuc n → P) → P
     unfolding minus
-    minus_by (Whole zero) e k = let z : ◌≡◌ {A = ℕ} 0 1 = cc in absurd (omega arith)
-    minus_by (Whole (suc n)) e k = let q = rw (ne_eqb (suc n) 0 (λ t. omega arith)) at e in k n refl (cc q)
-    minus_by NoDigits e k = let z : ◌≡◌ {A = ℕ} 0 1 = cc in absurd (omega arith)
+    minus_by (Some zero) e k = cc
+    minus_by (Some (suc n)) e k = let q = rw (ne_eqb (suc n) 0 (λ t. omega arith)) at e in k n refl (cc q)
+    minus_by None e k = cc
 
-    pub signed_by : (s : List ℕ) → numeral_within most s ≡ Value z
+    pub signed_by : (s : List ℕ) → numeral_within most s ≡ Some z
         → ((v : ℕ) → Numerals most s v → z ≡ pos v → P)
         → ((n : ℕ) → s ≡ 45 ∷ drop 1 s → Numerals most (drop 1 s) (suc n) → z ≡ negsuc n → P)
         → P
@@ -128,7 +126,7 @@ module _ (most : ℕ) where
         begun [] t = absurd (omega (arith, t))
         begun (b ∷ bs) t = ap (λ (c : ℕ). c ∷ bs) t
 
-        by_first : (s : List ℕ) (x : Bool) → eqb (get_or s 0 0) 45 ≡ x → numeral_within most s ≡ Value z
+        by_first : (s : List ℕ) (x : Bool) → eqb (get_or s 0 0) 45 ≡ x → numeral_within most s ≡ Some z
             → ((v : ℕ) → Numerals most s v → z ≡ pos v → P)
             → ((n : ℕ) → s ≡ 45 ∷ drop 1 s → Numerals most (drop 1 s) (suc n) → z ≡ negsuc n → P)
             → P
@@ -139,7 +137,7 @@ module _ (most : ℕ) where
             plus_by (unsigned_of most s) (number_plus most s (eqb-false (get_or s 0 0) 45 t) ∙ e) (λ v d q. p v (unsigned_told s v d) q)
 
 -- ---- a number's text
-module _ (most : ℕ) (s : List ℕ) (z : ℤ) (e : numeral_within most s ≡ Value z) where
+module _ (most : ℕ) (s : List ℕ) (z : ℤ) (e : numeral_within most s ≡ Some z) where
   digits_of_lem : (v : ℕ) (t : List ℕ) → most ≤ 20 → Numerals most t v → digits_of v ≡ t
   digits_of_lem v t l u = digits_back v t u.reads u.some (omega (arith, u.few)) u.led
 

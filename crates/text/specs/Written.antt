@@ -1,6 +1,7 @@
 -- Bytes written into a lent buffer: fields, the end of a line, lines in their order.
-use Rattle.std.specs.Prelude.{◌≡◌, List, [], ◌∷◌, ◌++◌, ℕ, zero, suc, ◌+◌, length, ℤ}
+use Rattle.std.specs.Prelude.{◌≡◌, List, [], ◌∷◌, ◌++◌, ℕ, zero, suc, ◌+◌, ◌≤◌, length, ℤ}
 use Rattle.std.proofs.lemmas.List.Edits.{sets}
+use Rattle.text.specs.declared.writer.Writer.{Writer}
 use Rattle.text.specs.Decimal.{digits_of, written}
 
 -- a field: a tab (9) and a number
@@ -23,3 +24,11 @@ in_order (suc n) line = in_order n line ++ line n
 pub record Wrote (before : List ℕ) (at : ℕ) (bytes after : List ℕ) (next : ℕ) : Type 0 where
   pub buffer : after ≡ sets before at bytes
   pub place : next ≡ at + length bytes
+
+-- these bytes, at most so many, go into a writer's buffer from its place on
+pub record Puts (before : Writer) (bytes : List ℕ) (most : ℕ) (after : Writer) : Type 0 where
+  pub wrote : Wrote before.out.now before.at bytes after.out.now after.at
+  pub few : after.at ≤ before.at + most
+  pub room : length after.out.now ≡ length before.out.now
+  -- it is still the same buffer
+  pub same : after.out.ghost_name ≡ before.out.ghost_name

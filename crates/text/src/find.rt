@@ -4,32 +4,23 @@ ghost use Rattle.std.specs.Prelude.{◌≡◌};
 ghost use Rattle.text.specs.Parts.{place_from, begins};
 
 // The first place at or after `start` where `byte` stands; the end, where there is none (`start` itself, where that is past the end).
+// A place and no Option, as the rules' "place_from": a caller that cuts a line asks first whether the place is before the end.
+#[tactic(auto, using(crate::proofs::Parting::place_steps))]
 pub fn place_from(text: &[u8], byte: u8, start: usize) -> usize
     ensures { result ≡ place_from byte text.now start }
 {
-    let mut i = start;
-    while i < text.len() {
+    for i in start..text.len() {
         if text[i] == byte {
             return i;
         }
-        i += 1;
     }
-    i
+    start.max(text.len())
 }
 
 // Whether the text begins with the word.
+#[tactic(auto, using(crate::proofs::Parting::begins_is))]
 pub fn begins(text: &[u8], word: &[u8]) -> bool
     ensures { result ≡ begins word.now text.now }
 {
-    let mut i = 0;
-    while i < word.len() {
-        if text.len() <= i {
-            return false;
-        }
-        if text[i] != word[i] {
-            return false;
-        }
-        i += 1;
-    }
-    true
+    text.starts_with(word)
 }

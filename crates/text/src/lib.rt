@@ -9,9 +9,9 @@ pub mod row;
 pub mod writer;
 
 // What ends a field, and what ends a line.
-pub const TAB: u8 = 9;
+pub const TAB: u8 = b'\t';
 
-pub const LF: u8 = 10;
+pub const LF: u8 = b'\n';
 
 // The most digits of a number in a network file or a sighting book.
 pub const MOST_DIGITS: usize = 11;

@@ -1,56 +1,52 @@
-// Bytes and fields written into a lent buffer, from a place on. Each answers the place after what it wrote.
+// Bytes and fields written into a lent buffer, one after another.
 ghost use Rattle.std.specs.Prelude.{[], ◌∷◌, ◌+◌, ◌≤◌, length};
-ghost use Rattle.text.specs.Written.{signed_field, count_field, Wrote};
+ghost use Rattle.text.specs.Written.{signed_field, count_field, Puts};
 
 use crate::{TAB, decimal};
 
-// One byte, from `at` on. Answers the place after it.
-pub fn put_byte(out: &mut [u8], at: usize, b: u8) -> usize
-    requires { at + 1 ≤ length out.old }
-    ensures { Wrote out.old at (b ∷ []) out.new result }
-{
-    out[at] = b;
-    at + 1
+// A lent buffer, and the place in it where the next byte goes.
+#[derive(Drop)]
+pub struct Writer<'a> {
+    pub out: &'a mut [u8],
+    pub at: usize,
 }
 
-// A word.
-pub fn put_word(out: &mut [u8], at: usize, word: &[u8]) -> usize
-    requires { at + length word.now ≤ length out.old }
-    ensures { Wrote out.old at word.now out.new result }
-{
-    let mut next = at;
-    let mut i = 0;
-    while i < word.len() {
-        next = put_byte(out, next, word[i]);
-        i += 1;
+impl<'a> Writer<'a> {
+    pub fn byte(&mut self, b: u8)
+        requires { self.old.at + 1 ≤ length self.old.out.now }
+        ensures { Puts self.old (b ∷ []) 1 self.new }
+    {
+        self.out[self.at] = b;
+        self.at += 1;
     }
-    next
-}
 
-// Three bytes of a word.
-pub fn put_three(out: &mut [u8], at: usize, a: u8, b: u8, c: u8) -> usize
-    requires { at + 3 ≤ length out.old }
-    ensures { Wrote out.old at (a ∷ b ∷ c ∷ []) out.new result }
-{
-    let second = put_byte(out, at, a);
-    let third = put_byte(out, second, b);
-    put_byte(out, third, c)
-}
+    #[tactic(auto, using(crate::proofs::Putting::copied))]
+    pub fn word(&mut self, word: &[u8])
+        requires { self.old.at + length word.now ≤ length self.old.out.now }
+        ensures { Puts self.old word.now (length word.now) self.new }
+    {
+        let end = self.at + word.len();
+        self.out[self.at..end].copy_from_slice(word);
+        self.at = end;
+    }
 
-// A tab and a signed number: at most 22 bytes.
-pub fn put_signed(out: &mut [u8], at: usize, z: i64) -> usize
-    requires { at + 22 ≤ length out.old }
-    ensures { Wrote out.old at (signed_field z) out.new result }
-{
-    let next = put_byte(out, at, TAB);
-    decimal::put(out, next, z)
-}
+    // A tab and a signed number: at most 22 bytes.
+    #[tactic(auto, using(crate::proofs::Putting::fields))]
+    pub fn signed(&mut self, z: i64)
+        requires { self.old.at + 22 ≤ length self.old.out.now }
+        ensures { Puts self.old (signed_field z) 22 self.new }
+    {
+        self.byte(TAB);
+        self.at = decimal::put(self.out, self.at, z);
+    }
 
-// A tab and a count: at most 21 bytes.
-pub fn put_count(out: &mut [u8], at: usize, n: u64) -> usize
-    requires { at + 22 ≤ length out.old }
-    ensures { Wrote out.old at (count_field n) out.new result }
-{
-    let next = put_byte(out, at, TAB);
-    decimal::put_digits(out, next, n)
+    // A tab and a count: at most 21 bytes. It asks for the room of n's own digits alone.
+    #[tactic(auto, using(crate::proofs::Putting::fields))]
+    pub fn count(&mut self, n: u64)
+        requires { self.old.at + length (count_field n) ≤ length self.old.out.now }
+        ensures { Puts self.old (count_field n) 21 self.new }
+    {
+        self.byte(TAB);
+        self.at = decimal::put_digits(self.out, self.at, n);
+    }
 }

@@ -1,18 +1,13 @@
--- `page::refused_line` meets its contract. Assumes nothing.
-use native.Mathlib.Omega.{arith}
-use Rattle.page.proofs.Composing.{refused_most}
-use Rattle.page.proofs.Printing.{no_line, whole_line}
+-- In a buffer with room the line of the refusal, and else nothing.
+use Rattle.std.proofs.Common.{rules}
+use borrow.Author.Tests.{lt-ltb, le-ltb}
+use Rattle.page.specs.Page.{refused_line_in}
 use Rattle.page.proofs.refused_line.Goals as goal
 
-pub returns-then-out-lt-REFUSED_LINE : goal.returns-then-out-lt-REFUSED_LINE
-returns-then-out-lt-REFUSED_LINE c = let a = c.args in record {
-  line = no_line a.refusal a.out.now c.if-out-lt-REFUSED_LINE.true;
-  within = omega arith;
-}
+pub returns-then-out-lt-REFUSED_LINE-clause-line : goal.returns-then-out-lt-REFUSED_LINE-clause-line
+unfolding refused_line_in
+returns-then-out-lt-REFUSED_LINE-clause-line c = rw (lt-ltb _ 52 c.if-out-lt-REFUSED_LINE.true) (search rules)
 
-pub returns : goal.returns
-returns c =
-    let a = c.args in let v = a.refusal in let roomy = c.if-out-lt-REFUSED_LINE.false in record {
-      line = whole_line v a.out.now (omega (arith, roomy)) c.put_refused.ensures;
-      within = omega (arith, roomy, c.put_refused.ensures.place, refused_most v.number v.place);
-    }
+pub returns-clause-line : goal.returns-clause-line
+unfolding refused_line_in
+returns-clause-line c = let w = c.put_refused.ensures.wrote in rw (le-ltb _ 52 c.if-out-lt-REFUSED_LINE.false) (search rules)

@@ -1,32 +1,7 @@
--- `page::lines::put_counts` meets its contract. Assumes nothing.
-use mathlib.Core.Path.{◌∙◌}
-use native.Mathlib.Omega.{arith}
-use Rattle.text.proofs.Putting.{Come, then, wrote_length, come_within, count_on, count_most}
+-- What was put, part by part.
+use Rattle.std.proofs.Common.{arith}
+use Rattle.text.proofs.Putting.{puts_then, puts_most}
 use Rattle.page.proofs.lines.put_counts.Goals as goal
-use Rattle.page.proofs.lines.put_counts.Goals.{After-put_count-one, After-put_count-two, Start}
-
--- how far each part has come
-abbrev start1 : After-put_count-one → Start
-start1 c = c.before.before.before
-
-come1 : (c : After-put_count-one) → Come (start1 c).args.out.now (start1 c).args.at 22 c.put_count-one.new.out c.put_count-one.result
-come1 c = come_within 22 (omega (arith, count_most (start1 c).args.first)) c.put_count-one.ensures
-
-pub put_count-two-requires : goal.put_count-two-requires
-put_count-two-requires c = let b = c.before.before.before in omega (arith, (start1 b).requires, (come1 b).far, (come1 b).kept)
-
-abbrev start2 : After-put_count-two → Start
-start2 c = start1 c.before.before.before.before
-
-come2 : (c : After-put_count-two) → Come (start2 c).args.out.now (start2 c).args.at 44 c.put_count-two.new.out c.put_count-two.result
-come2 c = count_on _ (come1 c.before.before.before.before) c.put_count-two.ensures
-
-pub put_byte-requires : goal.put_byte-requires
-put_byte-requires c = let b = c.before.before.before in omega (arith, (start2 b).requires, (come2 b).far, (come2 b).kept)
-
-pub shape_of-out : goal.shape_of-out
-shape_of-out c = wrote_length c.put_byte.ensures ∙ (come2 c.before.before.before.before.before.before.before).kept
 
 pub returns : goal.returns
-returns c =
-    then c.put_count-one.ensures (then c.put_count-two.ensures c.put_byte.ensures)
+returns c = puts_most (omega arith) (puts_then c.count.ensures (puts_then c.count-2.ensures c.byte.ensures))

@@ -1,44 +1,10 @@
--- `page::lines::put_head` meets its contract. Assumes nothing.
-use mathlib.Core.Path.{◌∙◌}
-use native.Mathlib.Omega.{arith}
-use Rattle.text.proofs.Putting.{Come, then, wrote_length, read_signed, come, count_on, signed_on}
+-- What was put, part by part.
+use Rattle.std.proofs.Common.{arith}
+use mir.ValLaws.{to_z-of_z}
+use Rattle.text.proofs.Putting.{puts_then, puts_most}
 use Rattle.page.proofs.lines.put_head.Goals as goal
-use Rattle.page.proofs.lines.put_head.Goals.{After-put_byte-head, After-put_count-numbered, After-put_signed-one, Start}
-
--- how far each part has come
-abbrev start1 : After-put_byte-head → Start
-start1 c = c.before.before.before
-
-come1 : (c : After-put_byte-head) → Come (start1 c).args.out.now (start1 c).args.at 1 c.put_byte-head.new.out c.put_byte-head.result
-come1 c = come c.put_byte-head.ensures
-
-pub put_count-numbered-requires : goal.put_count-numbered-requires
-put_count-numbered-requires c = let b = c.before.before.before in omega (arith, (start1 b).requires, (come1 b).far, (come1 b).kept)
-
-abbrev start2 : After-put_count-numbered → Start
-start2 c = start1 c.before.before.before.before
-
-come2 : (c : After-put_count-numbered) → Come (start2 c).args.out.now (start2 c).args.at 23 c.put_count-numbered.new.out c.put_count-numbered.result
-come2 c = count_on _ (come1 c.before.before.before.before) c.put_count-numbered.ensures
-
-pub put_signed-one-requires : goal.put_signed-one-requires
-put_signed-one-requires c = let b = c.before.before.before in omega (arith, (start2 b).requires, (come2 b).far, (come2 b).kept)
-
-abbrev start3 : After-put_signed-one → Start
-start3 c = start2 c.before.before.before.before
-
-come3 : (c : After-put_signed-one) → Come (start3 c).args.out.now (start3 c).args.at 45 c.put_signed-one.new.out c.put_signed-one.result
-come3 c = signed_on _ (come2 c.before.before.before.before) c.put_signed-one.ensures
-
-pub put_signed-requires : goal.put_signed-requires
-put_signed-requires c = let b = c.before.before.before in omega (arith, (start3 b).requires, (come3 b).far, (come3 b).kept)
-
-pub shape_of-out : goal.shape_of-out
-shape_of-out c = wrote_length c.put_signed.ensures ∙ (come3 c.before.before.before.before.before.before.before).kept
 
 pub returns : goal.returns
 returns c =
-    (then c.put_byte-head.ensures
-    (then c.put_count-numbered.ensures
-    (then (read_signed c.args.first c.ranges.first c.put_signed-one.ensures)
-    (read_signed c.args.second c.ranges.second c.put_signed.ensures))))
+    let f = c.ranges.first in let g = c.ranges.second in
+    puts_most (omega arith) (puts_then c.byte.ensures (puts_then c.count.ensures (puts_then (simp to_z-of_z at c.signed.ensures) (simp to_z-of_z at c.signed-2.ensures))))

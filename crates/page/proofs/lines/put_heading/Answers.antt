@@ -1,22 +1,7 @@
--- `page::lines::put_heading` meets its contract. Assumes nothing.
-use mathlib.Core.Path.{◌∙◌}
-use native.Mathlib.Omega.{arith}
-use Rattle.text.proofs.Putting.{Come, then, wrote_length, come}
+-- The word, and the counts behind it.
+use Rattle.std.proofs.Common.{arith}
+use Rattle.text.proofs.Putting.{puts_then, puts_most}
 use Rattle.page.proofs.lines.put_heading.Goals as goal
-use Rattle.page.proofs.lines.put_heading.Goals.{After-put_three-head, Start}
-
--- how far the word has come
-abbrev start : After-put_three-head → Start
-start c = c.before.before.before
-
-word : (c : After-put_three-head) → Come (start c).args.out.now (start c).args.at 3 c.put_three-head.new.out c.put_three-head.result
-word c = come c.put_three-head.ensures
-
-pub put_counts-requires : goal.put_counts-requires
-put_counts-requires c = let b = c.before.before.before in omega (arith, (start b).requires, (word b).far, (word b).kept)
-
-pub shape_of-out : goal.shape_of-out
-shape_of-out c = wrote_length c.put_counts.ensures ∙ (word c.before.before.before.before.before.before.before).kept
 
 pub returns : goal.returns
-returns c = then c.put_three-head.ensures c.put_counts.ensures
+returns c = puts_most (omega arith) (puts_then c.word.ensures c.put_counts.ensures)

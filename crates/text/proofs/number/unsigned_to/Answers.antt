@@ -1,113 +1,16 @@
--- `text::number::unsigned_to` meets its contract, by the byte that follows the digits. Assumes nothing.
-use mathlib.Core.Path.{◌≡◌, sym, ◌∙◌, ap}
-use mathlib.Core.List.{List}
-use Prim.Native.Nat.{ℕ, ◌+◌, ◌-◌, ◌<◌, ◌≤◌}
-use native.Mathlib.Omega.{arith}
-use lib.ListN.{length, get_or, take, drop}
-use Rattle.text.specs.Numbers.{unsigned_of, unsigned_to}
-use Rattle.text.specs.declared.number.Digits.TheVariants.{NoDigits}
-use Rattle.text.proofs.Numerals.{unsigned_empty, unsigned_zero, unsigned_many, unsigned_one}
-use Rattle.text.proofs.Spanning.{no_whole, span_length, span_first, ended_text, ended_here, ended_place, ended_other}
+-- `text::number::unsigned_to` meets its contract: one digit, or more of them and no 0 in front. Assumes nothing.
+use Rattle.std.proofs.Common.{sym, ◌∙◌}
+use Rattle.std.proofs.lemmas.Bool.{eqb-false}
+use Rattle.text.proofs.Spanning.{span_one, span_many}
+use Rattle.text.proofs.number.unsigned_to.Goals.{then-start-end, else-start-end}
 use Rattle.text.proofs.number.unsigned_to.Goals as goal
-use Rattle.text.proofs.number.unsigned_to.Goals.{then-start-end+else-text-start-eq-ZERO, else-start-end, After-digits_from-span, Else-end-start, Else-text-end-2}
-
--- ---- the digits that have been read
-module _ (c : After-digits_from-span) where
-  abbrev text : List ℕ
-  text = c.args.text.now
-
-  abbrev most : ℕ
-  most = c.args.most
-
-  abbrev start : ℕ
-  start = c.args.start
-
-  abbrev end : ℕ
-  end = c.digits_from-span.result.end
-
-  abbrev digits : List ℕ
-  digits = take (end - start) (drop start text)
-
-  long : length digits ≡ end - start
-  long = span_length most text start c.args.ending c.digits_from-span.result c.digits_from-span.ensures c.requires.2
-
-pub returns-then-text-end : goal.returns-then-text-end
-returns-then-text-end c =
-    let d : After-digits_from-span = record { before = c.before.before; type_inv = record { text = c.shared_slice_known-1.given } } in
-    record {
-      value = ended_text (most d) (text d) (start d) _ d.digits_from-span.result d.digits_from-span.ensures d.requires.2 c.if-text-end.true;
-      small = tt;
-      next = λ v e. no_whole v e;
-    }
-
-pub returns-then-text-end-2 : goal.returns-then-text-end-2
-returns-then-text-end-2 c =
-    let d : After-digits_from-span = record { before = c.before.before.before.before; type_inv = record { text = c.shared_slice_known-1.given } } in record {
-      value = ended_other (most d) (text d) (start d) _ d.digits_from-span.result d.digits_from-span.ensures d.requires.2 (omega arith) c.if-text-end-2.true;
-      small = tt;
-      next = λ v e. no_whole v e;
-    }
-
--- ---- the digits end at the byte
-module _ (c : Else-text-end-2) where
-  abbrev read : After-digits_from-span
-  read = (record { before = c.before.before.before.before; type_inv = record { text = c.shared_slice_known-1.given } })
-
-  within : end read < length (text read)
-  within = omega arith
-
-  whole : unsigned_to (most read) read.args.ending (text read) (start read) ≡ unsigned_of (most read) (digits read)
-  whole = ended_here (most read) (text read) (start read) _ read.digits_from-span.result read.digits_from-span.ensures read.requires.2 within c.if-text-end-2.false
-
-  -- no such number, by a law of its digits
-  none : NoDigits ≡ unsigned_of (most read) (digits read) → NoDigits ≡ unsigned_to (most read) read.args.ending (text read) (start read)
-  none e = e ∙ sym whole
-
-pub returns-then-end-start : goal.returns-then-end-start
-returns-then-end-start c =
-    let b : Else-text-end-2 = record { before = c.before.before; type_inv = record { text = c.shared_slice_known-2-1.given } } in
-    record {
-      value = none b (unsigned_empty (most (read b)) (digits (read b)) (omega (arith, long (read b), c.if-end-start.true)));
-      small = tt;
-      next = λ v e. no_whole v e;
-    }
-
--- ---- there are some
-module _ (c : Else-end-start) where
-  abbrev ended : Else-text-end-2
-  ended = (record { before = c.before.before; type_inv = record { text = c.shared_slice_known-2-1.given } })
-
-  from : start (read ended) < end (read ended)
-  from = omega (arith, (read ended).digits_from-span.ensures.from, c.if-end-start.false)
-
-  some : length (digits (read ended)) ≡ 0 → ⊥
-  some e = omega (arith, e, long (read ended), from)
-
-  few : length (digits (read ended)) ≤ most (read ended)
-  few = omega (arith, long (read ended), (read ended).digits_from-span.ensures.few)
-
-  first : get_or (digits (read ended)) 0 0 ≡ get_or (text (read ended)) (start (read ended)) 0
-  first = let d = read ended in span_first (most d) (text d) (start d) d.args.ending d.digits_from-span.result d.digits_from-span.ensures d.requires.2 from
-
-pub returns-then-text-start-eq-ZERO : goal.returns-then-text-start-eq-ZERO
-returns-then-text-start-eq-ZERO c =
-    let b : Else-end-start = record { before = c.before.before.before.before; type_inv = record { text = c.shared_slice_known-2-1.given } } in let e = ended b in
-    record {
-      value = none e (unsigned_zero (most (read e)) (digits (read e)) (some b) (few b) (omega (arith, long (read e), c.if-start-end.true)) (first b ∙ c.if-text-start-eq-ZERO.true));
-      small = tt;
-      next = λ v x. no_whole v x;
-    }
 
 pub returns : goal.returns
 returns c =
-    let b : Else-end-start = record { before = c.before.before; type_inv = record { text = c.shared_slice_known-2-1.given } } in let e = ended b in let d = read e in record {
-      value = sym d.digits_from-span.ensures.value
-          ∙ elim c.if-start-end.branch [
-            | then-start-end+else-text-start-eq-ZERO w ↦
-                unsigned_many (most d) (digits d) (some b) (few b) (omega (arith, long d, w.if-start-end.true)) (λ z. w.if-text-start-eq-ZERO.false (sym (first b) ∙ z))
-            | else-start-end w ↦ unsigned_one (most d) (digits d) (some b) (few b) (omega (arith, long d, w.if-start-end.false))
-          ]
-          ∙ sym (whole e);
-      small = d.digits_from-span.ensures.small;
-      next = λ v q. ap (λ (n : ℕ). n + 1) (sym (ended_place (most d) (text d) (start d) _ d.digits_from-span.result d.digits_from-span.ensures d.requires.2 (within e) e.if-text-end-2.false));
-    }
+    let s = c.digits_from-span in
+    elim c.if-start-end.branch [
+      | then-start-end w ↦
+          span_many _ _ _ _ s.result s.ensures c.requires.2 c.if-end-text.false c.if-text-end.false c.if-end-start.false w.if-start-end.true
+          (eqb-false _ 48 (sym w.value-is ∙ c.if-text-start-eq48.false))
+      | else-start-end w ↦ span_one _ _ _ _ s.result s.ensures c.requires.2 c.if-end-text.false c.if-text-end.false c.if-end-start.false w.if-start-end.false
+    ]
