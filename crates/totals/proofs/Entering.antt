@@ -3,11 +3,12 @@
 --   no_numbers, some_numbers                         what a line says, by what the reader of its numbers told
 --   other_head, due_head                             and by whether it begins with the head that is due
 --   fits, second_fits                                totals that do not pass 18 digits have room for what is added
---   not_passing, ill_entered, well_entered_lem           a line that has been read, by whether it is at fault
+--   not_passing, ill_entered, well_entered_lem       a line that has been read, by whether it is at fault; line_due: where none was before
 use mathlib.Core.Path.{◌≡◌, refl, sym, ◌∙◌, ap}
 use mathlib.Core.Bool.{Bool, true, false, cond, ◌&&◌, not}
 use mathlib.Core.List.{List, [], ◌∷◌, ◌++◌}
-use mathlib.Core.Option.{Option, none, some}
+use Rattle.std.specs.Prelude.{Option, None, Some}
+use Rattle.std.specs.Option.{is_some}
 use Prim.Native.Nat.{ℕ, ◌+◌, ◌≤◌}
 use native.Mathlib.Omega.{arith}
 use lib.IntN.{ℤ, pos, negsuc, nat_abs}
@@ -20,24 +21,23 @@ use Rattle.text.specs.Fields.{TAB}
 use Rattle.text.specs.Rows.{row_within}
 use Rattle.totals.specs.Promise.{too_large}
 use Rattle.totals.specs.Text.{head_of, place_of, pair_on}
-use Rattle.totals.specs.Adding.{entry_with, entry_of, entry_at, miscounted, passes, fault_in, entered_with, faulty, well_entered, counted_after, past_after, entered}
-use Rattle.totals.specs.declared.adding.Entry.TheVariants.{Numbers, Malformed}
+use Rattle.totals.specs.Adding.{entry_with, entry_of, entry_at, miscounted, passes, fault_in, entered_with, faulty, well_entered, counted_after, past_after, entered, after_line}
 use Rattle.totals.specs.declared.adding.Tally.{Tally}
 use Rattle.totals.proofs.Promising.{small_at}
 
 -- ---- the numbers of a line
-pub entry_below : (x y : ℤ) → x <ℤ pos 0 → Malformed ≡ entry_with x y
+pub entry_below : (x y : ℤ) → x <ℤ pos 0 → None ≡ entry_with x y
 unfolding entry_with
 entry_below (pos x) y h = absurd (omega (arith, orders))
 entry_below (negsuc x) y h = refl
 
-pub entry_second_below : (x y : ℤ) → pos 0 ≤ℤ x → y <ℤ pos 0 → Malformed ≡ entry_with x y
+pub entry_second_below : (x y : ℤ) → pos 0 ≤ℤ x → y <ℤ pos 0 → None ≡ entry_with x y
 unfolding entry_with
 entry_second_below (pos x) (pos y) g h = absurd (omega (arith, orders))
 entry_second_below (pos x) (negsuc y) g h = refl
 entry_second_below (negsuc x) y g h = refl
 
-pub entry_numbers : (x y : ℤ) → pos 0 ≤ℤ x → pos 0 ≤ℤ y → Numbers (nat_abs x) (nat_abs y) ≡ entry_with x y
+pub entry_numbers : (x y : ℤ) → pos 0 ≤ℤ x → pos 0 ≤ℤ y → Some (nat_abs x, nat_abs y) ≡ entry_with x y
 unfolding entry_with
 entry_numbers (pos x) (pos y) g h = refl
 entry_numbers (pos x) (negsuc y) g h = absurd h.le
@@ -45,17 +45,17 @@ entry_numbers (negsuc x) y g h = absurd g.le
 
 -- what the reader of the row told
 module _ {row : Option (List ℤ)} where
-  pub no_numbers : row ≡ none → Malformed ≡ entry_of row
+  pub no_numbers : row ≡ None → None ≡ entry_of row
   unfolding entry_of
   no_numbers e = rw e
 
-  pub some_numbers : (x : List ℤ) → row ≡ some x → entry_with (get_or x 0 (pos 0)) (get_or x 1 (pos 0)) ≡ entry_of row
+  pub some_numbers : (x : List ℤ) → row ≡ Some x → entry_with (get_or x 0 (pos 0)) (get_or x 1 (pos 0)) ≡ entry_of row
   unfolding entry_of
   some_numbers x e = rw e
 
 -- ---- the line that is due
 module _ (due : ℕ) (text : List ℕ) where
-  pub other_head : begins (head_of due ++ (TAB ∷ [])) text ≡ false → Malformed ≡ entry_at due text
+  pub other_head : begins (head_of due ++ (TAB ∷ [])) text ≡ false → None ≡ entry_at due text
   unfolding entry_at
   other_head e = rw e
 
@@ -86,10 +86,15 @@ module _ (t : Tally) (past : Bool) (counted x y : ℕ) where
   not_passing e p = sym (ap (λ (b : Bool). not b && passes t.sum t.due x y) p) ∙ (neither (miscounted t.due t.nets counted) (not past && passes t.sum t.due x y) e).1
 
   module _ (p : past ≡ past_after t.due t.past (get_or t.sum 0 0) x) (q : counted ≡ counted_after t.due t.counted x) where
-    pub ill_entered : fault_in t past counted x y ≡ true → faulty t ≡ entered t (Numbers x y)
+    pub ill_entered : fault_in t past counted x y ≡ true → faulty t ≡ entered t (Some (x, y))
     unfolding entered entered_with
     ill_entered e = rw (← p, ← q, e)
 
-    pub well_entered_lem : fault_in t past counted x y ≡ false → well_entered t past counted x y ≡ entered t (Numbers x y)
+    pub well_entered_lem : fault_in t past counted x y ≡ false → well_entered t past counted x y ≡ entered t (Some (x, y))
     unfolding entered entered_with
     well_entered_lem e = rw (← p, ← q, e)
+
+-- what the line that is due says is entered, where none has been at fault
+pub line_due : (t : Tally) (text : List ℕ) → t.fault ≡ None → after_line t text ≡ entered t (entry_at t.due text)
+unfolding after_line
+line_due t text e = ap (λ (fault : Option ℕ). cond (is_some fault) t (entered t (entry_at t.due text))) e

@@ -1,13 +1,12 @@
 -- Laws of the text of a report. Assumes nothing.
---   head_nets, -accepted, -angles, -sides, -count, -shared   what a line begins with
---   pair_angles, pair_else, pair_within                      whether it has two numbers; there are totals for both
---   ending_pair, ending_one, last_past, last_none            what stands behind its first number, and behind the fourteen lines
---   head_most, ending_most, line_most, fourteen_most         how many bytes each takes at most, and the lines together
---   last_most, report_most                                   the same of the last line, and of the report
---   no_totals, no_room, reported, nothing_wrote              what is printed, by the totals and the buffer; nothing
+--   pair_within                                        where a line has two numbers there are totals for both
+--   ending_pair, ending_one                            what stands behind its first number
+--   head_most, ending_most, line_most, fourteen_most   how many bytes each takes at most, and the lines together
+--   last_most, report_most                             the same of the last line, and of the report
+--   no_totals, no_room, reported, nothing_wrote        what is printed, by the totals and the buffer; nothing
 use mathlib.Core.Path.{◌≡◌, refl, sym}
 use mathlib.Core.Bool.{Bool, true, false, cond}
-use mathlib.Core.List.{List, [], ◌∷◌, ◌++◌}
+use mathlib.Core.List.{List, [], ◌++◌}
 use Prim.Native.Nat.{ℕ, ◌+◌, ◌-◌, ◌≤◌, ◌<◌}
 use native.Mathlib.Omega.{arith}
 use borrow.Author.Tests.{eq-eqb, ne_eqb, lt-ltb, le-ltb, eqb-true}
@@ -22,45 +21,8 @@ use Rattle.page.proofs.Composing.{refused_most}
 use Rattle.totals.specs.Promise.{most_nets}
 use Rattle.totals.specs.Text.{head_of, place_of, pair_on, ending_of, line_of, last_line, report_text, report_in}
 
--- ---- what a line begins with
+-- ---- a line's numbers
 module _ (line : ℕ) where
-  pub head_nets : line ≡ 0 → (78 ∷ 69 ∷ 84 ∷ 83 ∷ []) ≡ head_of line
-  unfolding head_of
-  head_nets e = rw (eq-eqb line 0 e)
-
-  module _ (a : line ≡ 0 → ⊥) where
-    pub head_accepted : line ≡ 1 → (65 ∷ 67 ∷ 67 ∷ 69 ∷ 80 ∷ 84 ∷ 69 ∷ 68 ∷ []) ≡ head_of line
-    unfolding head_of
-    head_accepted e = rw (ne_eqb line 0 a, eq-eqb line 1 e)
-
-    module _ (b : line ≡ 1 → ⊥) where
-      pub head_angles : line ≡ 11 → (65 ∷ []) ≡ head_of line
-      unfolding head_of
-      head_angles e = rw (ne_eqb line 0 a, ne_eqb line 1 b, eq-eqb line 11 e)
-
-      module _ (c : line ≡ 11 → ⊥) where
-        pub head_sides : line ≡ 12 → (83 ∷ []) ≡ head_of line
-        unfolding head_of
-        head_sides e = rw (ne_eqb line 0 a, ne_eqb line 1 b, ne_eqb line 11 c, eq-eqb line 12 e)
-
-        module _ (d : line ≡ 12 → ⊥) where
-          pub head_count : line < 11 → (67 ∷ 79 ∷ 85 ∷ 78 ∷ 84 ∷ []) ++ count_field (line - 1) ≡ head_of line
-          unfolding head_of
-          head_count l = rw (ne_eqb line 0 a, ne_eqb line 1 b, ne_eqb line 11 c, ne_eqb line 12 d, lt-ltb line 11 l)
-
-          pub head_shared : 11 ≤ line → (83 ∷ 72 ∷ 65 ∷ 82 ∷ 69 ∷ 68 ∷ []) ≡ head_of line
-          unfolding head_of
-          head_shared l = rw (ne_eqb line 0 a, ne_eqb line 1 b, ne_eqb line 11 c, ne_eqb line 12 d, le-ltb line 11 l)
-
-  -- ---- its numbers
-  pub pair_angles : line ≡ 11 → true ≡ pair_on line
-  unfolding pair_on
-  pair_angles e = rw (eq-eqb line 11 e)
-
-  pub pair_else : (line ≡ 11 → ⊥) → eqb line 12 ≡ pair_on line
-  unfolding pair_on
-  pair_else e = rw (ne_eqb line 11 e)
-
   pub pair_within : pair_on line ≡ true → place_of line + 1 < 16
   unfolding pair_on place_of
   pair_within e = by_line (eqb line 11) refl
@@ -81,14 +43,6 @@ module _ (line : ℕ) where
     pub ending_one : pair_on line ≡ false → line_end ≡ ending_of totals line
     unfolding ending_of
     ending_one e = rw e
-
-pub last_past : (past : Bool) → past ≡ true → refused_line 30 (most_nets + 1) ≡ last_line past
-unfolding last_line
-last_past past e = rw e
-
-pub last_none : (past : Bool) → past ≡ false → [] ≡ last_line past
-unfolding last_line
-last_none past e = rw e
 
 -- ---- lengths
 either_most : (b : Bool) (x y : List ℕ) (most : ℕ) → length x ≤ most → length y ≤ most → length (cond b x y) ≤ most

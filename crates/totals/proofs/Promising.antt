@@ -1,59 +1,47 @@
 -- The promise of `add_reports`, from what its checks have said. Assumes nothing.
---   by_first, by_second, by_room, by_sizes      the reply, where the checks before have accepted
+--   by_lengths, by_sizes                        the reply, where the checks before have accepted
 --   past_nets, within_nets                      and by the number of nets
 --   small_at, small                             numbers that are not too large fit, and so does what they make
 --   refused_adds, accepted_adds                 a refusal with the third list as it was lent keeps the promise, and so does an acceptance with the sum
 --   one_sum                                     two answers that keep the promise are equal, and leave equal lists
 use mathlib.Core.Path.{◌≡◌, refl, sym, ◌∙◌, ap}
-use mathlib.Core.Bool.{false}
+use mathlib.Core.Bool.{false, true}
 use mathlib.Core.List.{List}
 use Prim.Native.Nat.{ℕ, ◌+◌, ◌≤◌, ◌<◌}
 use native.Mathlib.Omega.{arith}
-use borrow.Author.Tests.{eq-eqb, ne_eqb, lt-ltb, le-ltb, ltb-false}
+use borrow.Author.Tests.{lt-ltb, le-ltb, ltb-false}
 use lib.Dec.{ltb}
 use lib.ListN.{length, get_or}
 use Rattle.exact.proofs.Searching.{neither}
 use Rattle.exact.proofs.Unique.{only}
 use Rattle.reply.specs.declared.Refusal.{Refusal}
 use Rattle.reply.specs.declared.Refusal.TheVariants.{Count, OutOfRange, Nets}
-use Rattle.reply.specs.declared.Reply.{Reply}
-use Rattle.reply.specs.declared.Reply.TheVariants.{Accepted, Refused}
-use Rattle.reply.specs.Checks.{refuse_if, leaves}
+use Rattle.reply.specs.Reply.{Reply}
+use Rattle.reply.specs.Checks.{leaves}
 use Rattle.reply.specs.Verdicts.{verdict_of}
 use Rattle.reply.proofs.Checking.{none_refused}
 use Rattle.totals.specs.Totals.{sum_of}
 use Rattle.totals.specs.Promise.{most_nets, most_total, lengths_amiss, too_large, too_large_at, sizes_reply, sum_reply, Adds}
+use Rattle.std.specs.Prelude.{Ok, Err}
 
 module _ (first second : List ℕ) (room : ℕ) where
-  pub by_first : (length first ≡ 16 → ⊥) → sum_reply first second room ≡ Refused (Count 0)
-  unfolding sum_reply lengths_amiss
-  by_first e = rw (ne_eqb (length first) 16 e)
+  pub by_lengths : lengths_amiss (length first) (length second) room ≡ true → sum_reply first second room ≡ Err (Count 0)
+  unfolding sum_reply
+  by_lengths e = rw e
 
-  module _ (f : length first ≡ 16) where
-    pub by_second : (length second ≡ 16 → ⊥) → sum_reply first second room ≡ Refused (Count 0)
-    unfolding sum_reply lengths_amiss
-    by_second e = rw (eq-eqb (length first) 16 f, ne_eqb (length second) 16 e)
+  module _ (s : lengths_amiss (length first) (length second) room ≡ false) where
+    pub by_sizes : (why : Refusal) → sizes_reply first second ≡ Err why → sum_reply first second room ≡ Err why
+    unfolding sum_reply
+    by_sizes why e = rw (s, e)
 
-    module _ (s : length second ≡ 16) where
-      pub by_room : (room ≡ 16 → ⊥) → sum_reply first second room ≡ Refused (Count 0)
-      unfolding sum_reply lengths_amiss
-      by_room e = rw (eq-eqb (length first) 16 f, eq-eqb (length second) 16 s, ne_eqb room 16 e)
+    module _ (a : sizes_reply first second ≡ Ok tt) where
+      pub past_nets : most_nets < get_or first 0 0 + get_or second 0 0 → sum_reply first second room ≡ Err (Nets (most_nets + 1))
+      unfolding sum_reply
+      past_nets l = rw (s, a, lt-ltb most_nets (get_or first 0 0 + get_or second 0 0) l)
 
-      module _ (r : room ≡ 16) where
-        pub by_sizes : (why : Refusal) → sizes_reply first second ≡ Refused why → sum_reply first second room ≡ Refused why
-        unfolding sum_reply lengths_amiss
-        by_sizes why e = rw (eq-eqb (length first) 16 f, eq-eqb (length second) 16 s, eq-eqb room 16 r, e)
-
-        module _ (a : sizes_reply first second ≡ Accepted) where
-          by_nets : sum_reply first second room ≡ refuse_if (ltb most_nets (get_or first 0 0 + get_or second 0 0)) (Nets (most_nets + 1))
-          unfolding sum_reply lengths_amiss
-          by_nets = rw (eq-eqb (length first) 16 f, eq-eqb (length second) 16 s, eq-eqb room 16 r, a)
-
-          pub past_nets : most_nets < get_or first 0 0 + get_or second 0 0 → sum_reply first second room ≡ Refused (Nets (most_nets + 1))
-          past_nets l = by_nets ∙ rw (lt-ltb most_nets (get_or first 0 0 + get_or second 0 0) l)
-
-          pub within_nets : get_or first 0 0 + get_or second 0 0 ≤ most_nets → sum_reply first second room ≡ Accepted
-          within_nets l = by_nets ∙ rw (le-ltb most_nets (get_or first 0 0 + get_or second 0 0) l)
+      pub within_nets : get_or first 0 0 + get_or second 0 0 ≤ most_nets → sum_reply first second room ≡ Ok tt
+      unfolding sum_reply
+      within_nets l = rw (s, a, le-ltb most_nets (get_or first 0 0 + get_or second 0 0) l)
 
 pub small_at : (i x y : ℕ) → too_large i x y ≡ false → x + y ≤ 1999999999999999998
 unfolding too_large
@@ -61,15 +49,15 @@ small_at i x y e =
     let n = neither (ltb most_total x) _ e in let m = neither (ltb most_total y) _ n.1 in
     omega (arith, ltb-false most_total x n.0, ltb-false most_total y m.0)
 
-pub small : (first second : List ℕ) → sizes_reply first second ≡ Accepted → (i : ℕ) → i < 16 → get_or first i 0 + get_or second i 0 ≤ 1999999999999999998
+pub small : (first second : List ℕ) → sizes_reply first second ≡ Ok tt → (i : ℕ) → i < 16 → get_or first i 0 + get_or second i 0 ≤ 1999999999999999998
 small first second a i l =
     small_at i (get_or first i 0) (get_or second i 0) (none_refused 16 (too_large_at first second) (λ i. OutOfRange (i + 1)) a i l)
 
 module _ (first second lent : List ℕ) where
-  pub refused_adds : (why : Refusal) → sum_reply first second (length lent) ≡ Refused why → Adds first second lent (Refused why) lent
+  pub refused_adds : (why : Refusal) → sum_reply first second (length lent) ≡ Err why → Adds first second lent (Err why) lent
   refused_adds why e = record { answer = sym e; verdict = ap verdict_of (sym e); sum = refl }
 
-  pub accepted_adds : sum_reply first second (length lent) ≡ Accepted → {left : List ℕ} → left ≡ sum_of first second → Adds first second lent Accepted left
+  pub accepted_adds : sum_reply first second (length lent) ≡ Ok tt → {left : List ℕ} → left ≡ sum_of first second → Adds first second lent (Ok tt) left
   accepted_adds e s = record { answer = sym e; verdict = ap verdict_of (sym e); sum = s }
 
   pub one_sum : (r r' : Reply) (left left' : List ℕ) → Adds first second lent r left → Adds first second lent r' left' → (r ≡ r') × (left ≡ left')

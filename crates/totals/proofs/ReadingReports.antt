@@ -40,7 +40,6 @@ use Rattle.text.specs.Numbers.{numeral_within}
 use Rattle.text.specs.Rows.{before, numbers_within}
 use Rattle.text.specs.Decimal.{digits, digits_of, written}
 use Rattle.text.specs.Written.{count_field, line_end, in_order}
-use Rattle.text.specs.declared.number.Number.TheVariants.{Value}
 use Rattle.text.proofs.Parting.{begins_word}
 use Rattle.text.proofs.Spanning.{High, numeral_high}
 use Rattle.text.proofs.Sparing.{Free, free_both, free_high, part_first, row_written}
@@ -53,13 +52,14 @@ use Rattle.totals.specs.Text.{head_of, place_of, pair_on, ending_of, line_of, la
 use Rattle.totals.specs.Adding.{entry_with, entry_of, entry_at, line_after, due_after, nets_after, counted_after, miscounted, past_after, passes, added, sum_after}
 use Rattle.totals.specs.Adding.{added_first, joined_at}
 use Rattle.totals.specs.Adding.{faulty, fault_in, well_entered, entered, Stream, cut, after_line, after_lines, none_read, unfinished, answer_of, sum_text}
-use Rattle.totals.specs.declared.adding.Entry.TheVariants.{Numbers}
+use Rattle.std.specs.Prelude.{Some, None}
 use Rattle.totals.specs.declared.adding.Tally.{Tally}
 use Rattle.totals.proofs.Totalling.{joined_sum, joined_none, joined_comm, joined_assoc, sum_length, sum_at_lem, sum_none, sum_comm, sum_more}
 use Rattle.totals.proofs.Totalling.{report_at, report_first, report_length, report_joined}
 use Rattle.totals.proofs.Printing.{pair_within}
-use Rattle.totals.proofs.Entering.{other_head, due_head, well_entered_lem}
+use Rattle.totals.proofs.Entering.{other_head, due_head, well_entered_lem, line_due}
 use Rattle.totals.proofs.Summing.{lines_in, lines_on_lem}
+use Rattle.std.specs.Prelude.{Some}
 
 -- ---- the first line of a text
 pub next_line : (t : Tally) (line rest : List ℕ) → Free LF line
@@ -83,7 +83,7 @@ unfolding first place_of
 place_within d l = ltb-true (place_of d) 16 (fourteen (λ d. ltb (place_of d) 16) refl d l)
 
 -- ---- a line of a report is read as its numbers
-read_number : (n : ℕ) → n ≤ most_total → numeral_within 18 (digits_of n) ≡ Value (pos n)
+read_number : (n : ℕ) → n ≤ most_total → numeral_within 18 (digits_of n) ≡ Some (pos n)
 unfolding written
 read_number n l = reads_back 17 (omega arith) (pos n) (omega arith)
 
@@ -107,7 +107,7 @@ figures_short true a b l m = omega (arith, length-append (digits_of a) (count_fi
 figures_short false a b l m = omega (arith, length-append (digits_of a) [], few_digits 17 a (omega arith))
 
 figures_read : (pair : Bool) (a b : ℕ) → a ≤ most_total → b ≤ most_total
-    → entry_of (numbers_within 18 (cond pair 2 1) (fields_of (figures pair a b))) ≡ Numbers a (cond pair b 0)
+    → entry_of (numbers_within 18 (cond pair 2 1) (fields_of (figures pair a b))) ≡ Some (a, cond pair b 0)
 unfolding entry_of entry_with numbers_within before
 figures_read true a b l m =
     rw (fields_tab (digits_of a) (digits_of b) (number_high a l), fields_plain (digits_of b) (number_high b m), read_number a l, read_number b m)
@@ -149,7 +149,7 @@ module _ (x : List ℕ) (d : ℕ) where
           figures_short (pair_on d) first_on second_on m n,
         ))
 
-    pub line_read : entry_at d (cut (line_of x d)) ≡ Numbers first_on (cond (pair_on d) second_on 0)
+    pub line_read : entry_at d (cut (line_of x d)) ≡ Some (first_on, cond (pair_on d) second_on 0)
     line_read =
         let f = figures (pair_on d) first_on second_on in
         let text = (head_of d ++ (TAB ∷ [])) ++ (f ++ line_end) in
@@ -245,7 +245,7 @@ module _ (t : Tally) (x : List ℕ) where
     pub nets : 1 ≤ k → now.nets ≡ get_or x 0 0
     pub counted : (j : ℕ) → k ≡ suc j → j ≤ 10 → now.counted ≡ counts_in x j
     pub past : now.past ≡ false
-    pub fault : now.fault ≡ 0
+    pub fault : now.fault ≡ None
     pub sum : Filled 0 sum_at 0 (places_in k) t.sum now.sum
 
   module _ (long : length t.sum ≡ 16) (adds : Addable t.sum x) where
@@ -338,11 +338,10 @@ module _ (t : Tally) (x : List ℕ) where
       no_fault = rw (due_here, counts_well, not_passing)
 
       stepped : after_line now (cut (line_of x k)) ≡ well_entered now false (counted_after k now.counted a) a b
-      unfolding after_line
       stepped =
-          rw (eq-eqb now.fault 0 r.fault)
-          (ap (entered now) (ap (λ (n : ℕ). entry_at n (cut (line_of x k))) due_here ∙ line_read x k l (all_small (place_of k)) (all_small (place_of k + 1)))
-          ∙ sym (well_entered_lem now false (counted_after k now.counted a) a b (rw due_here (sym not_past)) (rw due_here) no_fault))
+          line_due now (cut (line_of x k)) r.fault
+          ∙ ap (entered now) (ap (λ (n : ℕ). entry_at n (cut (line_of x k))) due_here ∙ line_read x k l (all_small (place_of k)) (all_small (place_of k + 1)))
+          ∙ sym (well_entered_lem now false (counted_after k now.counted a) a b (rw due_here (sym not_past)) (rw due_here) no_fault)
 
       nets_on : nets_after k now.nets a ≡ get_or x 0 0
       unfolding nets_after
@@ -370,7 +369,7 @@ module _ (t : Tally) (x : List ℕ) where
     lines_read_lem zero = t
     lines_read_lem (suc k) = after_line (lines_read_lem k) (cut (line_of x k))
 
-    module _ (d : t.due ≡ 0) (p : t.past ≡ false) (f : t.fault ≡ 0) where
+    module _ (d : t.due ≡ 0) (p : t.past ≡ false) (f : t.fault ≡ None) where
       reading : (k : ℕ) → k ≤ 14 → Reading k (lines_read_lem k)
       unfolding lines_read_lem lines_on places_in place_of
       reading zero l = record {
@@ -399,7 +398,7 @@ module _ (t : Tally) (x : List ℕ) where
 pub record AtStart (t : Tally) : Type 0 where
   pub due : t.due ≡ 0
   pub past : t.past ≡ false
-  pub fault : t.fault ≡ 0
+  pub fault : t.fault ≡ None
   pub sixteen : length t.sum ≡ 16
 
 -- the totals x are added, and the next report is due
@@ -522,7 +521,7 @@ reports_read (x ∷ xs) t start rs m =
 answer_sum : (t : Tally) (begun : ℕ) → AtStart t → 1 ≤ t.line → begun ≡ 0 → answer_of t begun ≡ report_text t.sum false
 unfolding answer_of unfinished
 answer_sum t begun start l e =
-    rw (eq-eqb t.fault 0 start.fault, ne_eqb t.line 0 (λ z. omega arith), eq-eqb t.due 0 start.due, eq-eqb begun 0 e, start.past)
+    rw (start.fault, ne_eqb t.line 0 (λ z. omega arith), eq-eqb t.due 0 start.due, eq-eqb begun 0 e, start.past)
 
 none_start : AtStart none_read
 unfolding none_read
@@ -608,12 +607,12 @@ reports_split [] ys rs = (tt, rs)
 reports_split (x ∷ xs) ys rs = let s = reports_split xs ys rs.1 in ((rs.0, s.0), s.1)
 
 reports_each : (groups : List (List (List ℕ))) → Reports (flatten groups) → Reports (map report_of groups)
-unfolding Reports flatten map
+unfolding Reports flatten
 reports_each [] rs = tt
 reports_each (xs ∷ groups) rs = let s = reports_split xs (flatten groups) rs in (reports_report xs s.0, reports_each groups s.1)
 
 report_flat : (groups : List (List (List ℕ))) → report_of (map report_of groups) ≡ report_of (flatten groups)
-unfolding flatten map
+unfolding flatten
 report_flat [] = refl
 report_flat (xs ∷ groups) =
     report_first (report_of xs) (map report_of groups) ∙ ap (sum_of (report_of xs)) (report_flat groups) ∙ sym (report_joined xs (flatten groups))
@@ -629,12 +628,12 @@ groups_back groups one rs few fits =
 
 -- ---- a report that ends with REFUSED
 -- what comes after a line at fault changes nothing
-fault_kept : (t : Tally) → (t.fault ≡ 0 → ⊥) → (lines : List (List ℕ)) → (after_lines t lines).tally ≡ t
+fault_kept : (t : Tally) → (line : ℕ) → t.fault ≡ Some line → (lines : List (List ℕ)) → (after_lines t lines).tally ≡ t
 unfolding after_lines after_line
-fault_kept t f [] = refl
-fault_kept t f (last ∷ []) = refl
-fault_kept t f (line ∷ next ∷ lines) =
-    ap (λ (u : Tally). (after_lines u (next ∷ lines)).tally) (rw (ne_eqb t.fault 0 f)) ∙ fault_kept t f (next ∷ lines)
+fault_kept t at f [] = refl
+fault_kept t at f (last ∷ []) = refl
+fault_kept t at f (line ∷ next ∷ lines) =
+    ap (λ (u : Tally). (after_lines u (next ∷ lines)).tally) (rw f) ∙ fault_kept t at f (next ∷ lines)
 
 abbrev refused_body : List ℕ
 refused_body = (82 ∷ 69 ∷ 70 ∷ 85 ∷ 83 ∷ 69 ∷ 68 ∷ []) ++ (count_field 30 ++ count_field 100001)
@@ -648,14 +647,14 @@ unfolding digits digits_of bytes_before
 refused_free = refl
 
 refused_read : (t : Tally) → AtStart t → after_line t (cut (refused_body ++ line_end)) ≡ faulty t
-unfolding after_line entered begins head_of
+unfolding entered begins head_of
 refused_read t start =
     let text = cut (refused_body ++ line_end) in
-    rw (eq-eqb t.fault 0 start.fault) (ap (entered t) (ap (λ (n : ℕ). entry_at n text) start.due ∙ sym (other_head 0 text refl)))
+    line_due t text start.fault ∙ ap (entered t) (ap (λ (n : ℕ). entry_at n text) start.due ∙ sym (other_head 0 text refl))
 
-answer_fault : (t : Tally) (begun line : ℕ) → t.fault ≡ suc line → answer_of t begun ≡ refused_line 1 (suc line)
+answer_fault : (t : Tally) (begun line : ℕ) → t.fault ≡ Some line → answer_of t begun ≡ refused_line 1 line
 unfolding answer_of
-answer_fault t begun line e = rw (ne_eqb t.fault 0 (λ z. omega arith)) (ap (refused_line 1) e)
+answer_fault t begun line e = rw e
 
 none_addable : (x : List ℕ) → Report x → get_or x 0 0 ≤ most_nets → ((i : ℕ) → i < 16 → get_or x i 0 ≤ most_total) → Addable none_read.sum x
 unfolding none_read
@@ -668,7 +667,7 @@ none_addable x r few fits = record {
 
 -- a report printed with a net past the most is refused at its fifteenth line, whatever follows
 pub past_read : (t : Tally) (x : List ℕ) → AtStart t → Addable t.sum x → (rest : List ℕ)
-    → (after_lines t (lines_in (report_text x true ++ rest))).tally.fault ≡ lines_on 15 t.line
+    → (after_lines t (lines_in (report_text x true ++ rest))).tally.fault ≡ Some (lines_on 15 t.line)
 unfolding last_line lines_on faulty
 past_read t x start adds rest =
     let now = fourteen_read t x start adds in
@@ -679,15 +678,15 @@ past_read t x start adds rest =
     ∙ next_line now refused_body rest refused_free
     ∙ ap (λ (u : Tally). after_lines u (lines_in rest)) (refused_read now a.start) in
     ap (λ (s : Stream). s.tally.fault) read
-    ∙ ap (λ (u : Tally). u.fault) (fault_kept (faulty now) (λ z. omega (arith, line_on now.line)) (lines_in rest))
-    ∙ ap line_after a.line
+    ∙ ap (λ (u : Tally). u.fault) (fault_kept (faulty now) (line_after now.line) refl (lines_in rest))
+    ∙ ap (λ (n : ℕ). Some (line_after n)) a.line
 
 pub past_refused_on : (x : List ℕ) → Report x → get_or x 0 0 ≤ most_nets → ((i : ℕ) → i < 16 → get_or x i 0 ≤ most_total)
     → (rest : List ℕ) → sum_text (report_text x true ++ rest) ≡ refused_line 1 15
 unfolding sum_text lines_on line_after none_read
 past_refused_on x r few fits rest =
     let s = after_lines none_read (lines_in (report_text x true ++ rest)) in
-    answer_fault s.tally (length s.begun) 14 (past_read none_read x none_start (none_addable x r few fits) rest)
+    answer_fault s.tally (length s.begun) 15 (past_read none_read x none_start (none_addable x r few fits) rest)
 
 pub past_refused : (x : List ℕ) → Report x → get_or x 0 0 ≤ most_nets → ((i : ℕ) → i < 16 → get_or x i 0 ≤ most_total) → sum_text (report_text x true) ≡ refused_line 1 15
 past_refused x r few fits = ap sum_text (sym (append-nil (report_text x true))) ∙ past_refused_on x r few fits []

@@ -12,6 +12,7 @@ use native.Mathlib.Omega.{arith}
 use borrow.Author.Tests.{eq-eqb, ne_eqb, lt-ltb, le-ltb}
 use lib.ListN.{length, get_or, set, take, drop, length-set, drop_of_length-le}
 use lib.Seq.{length-take-le, take-suc-set, drop-cons}
+use Rattle.std.specs.Prelude.{Some, None}
 use Rattle.text.specs.Lines.{LF}
 use Rattle.page.specs.Lines.{refused_line}
 use Rattle.totals.specs.Promise.{most_nets}
@@ -69,20 +70,20 @@ module _ (room : ℕ) (t : Tally) (begun : ℕ) where
   no_room l = rw (lt-ltb room 1060 l)
 
   module _ (l : 1060 ≤ room) where
-    pub at_fault : (t.fault ≡ 0 → ⊥) → refused_line 1 t.fault ≡ answer_in room t begun
+    pub at_fault : (line : ℕ) → t.fault ≡ Some line → refused_line 1 line ≡ answer_in room t begun
     unfolding answer_in answer_of
-    at_fault f = rw (le-ltb room 1060 l, ne_eqb t.fault 0 f)
+    at_fault line f = rw (le-ltb room 1060 l, f)
 
-    module _ (f : t.fault ≡ 0) where
+    module _ (f : t.fault ≡ None) where
       pub ends_early : unfinished t.line t.due begun ≡ true → refused_line 1 (line_after t.line) ≡ answer_in room t begun
       unfolding answer_in answer_of
-      ends_early u = rw (le-ltb room 1060 l, eq-eqb t.fault 0 f, u)
+      ends_early u = rw (le-ltb room 1060 l, f, u)
 
       module _ (u : unfinished t.line t.due begun ≡ false) where
         pub too_many : t.past ≡ true → refused_line 30 (most_nets + 1) ≡ answer_in room t begun
         unfolding answer_in answer_of
-        too_many p = rw (le-ltb room 1060 l, eq-eqb t.fault 0 f, u, p)
+        too_many p = rw (le-ltb room 1060 l, f, u, p)
 
         pub summed : t.past ≡ false → report_text t.sum false ≡ answer_in room t begun
         unfolding answer_in answer_of
-        summed p = rw (le-ltb room 1060 l, eq-eqb t.fault 0 f, u, p)
+        summed p = rw (le-ltb room 1060 l, f, u, p)

@@ -1,5 +1,5 @@
 -- Laws of the sixteen totals: how they come of the shares, in whatever order and parts. Assumes nothing.
---   joined_largest, joined_sum                       two numbers of one place: the larger, or their sum
+--   joined_sum                                       two numbers of one place that hold a sum
 --   joined_none, joined_comm, joined_assoc           none is 0, and the order of three numbers does not matter
 --   joined_most                                      no more than their sum
 --   sum_length, sum_at_lem                               the sum of two reports, place by place
@@ -25,10 +25,6 @@ max_assoc (suc x) (suc y) zero = rw (max-zero, max-zero)
 max_assoc (suc x) (suc y) (suc z) = simp suc-max-suc (ap suc (max_assoc x y z))
 
 module _ (i : ℕ) where
-  pub joined_largest : (x y : ℕ) → largest_at i ≡ true → joined i x y ≡ max x y
-  unfolding joined
-  joined_largest x y e = rw e
-
   pub joined_sum : (x y : ℕ) → largest_at i ≡ false → joined i x y ≡ x + y
   unfolding joined
   joined_sum x y e = rw e

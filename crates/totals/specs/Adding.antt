@@ -6,8 +6,8 @@
 --   answer_of        the answer then
 --   sum_text         the rule: the answer to a whole text
 --   after_byte, after_bytes   the same byte by byte, as a stream comes
-use Rattle.std.specs.Prelude.{Bool, false, cond, ◌||◌, ◌&&◌, not, List, [], ◌∷◌, ◌++◌, ℕ, ◌+◌, eqb, ltb, ℤ, pos, negsuc, length, get_or, set, take, replicate}
-use Rattle.std.proofs.Math.Option.{Option, none, some}
+use Rattle.std.specs.Prelude.{Bool, false, cond, ◌||◌, ◌&&◌, not, List, [], ◌∷◌, ◌++◌, ℕ, ◌+◌, eqb, ltb, ℤ, pos, negsuc, length, get_or, set, take, replicate, Option, None, Some}
+use Rattle.std.specs.Option.{is_some, option_map_or}
 use Rattle.text.specs.Parts.{begins, parted}
 use Rattle.text.specs.Lines.{LF}
 use Rattle.text.specs.Fields.{TAB}
@@ -17,25 +17,23 @@ use Rattle.page.specs.Lines.{refused_line}
 use Rattle.totals.specs.Totals.{joined}
 use Rattle.totals.specs.Promise.{most_nets, most_total, too_large}
 use Rattle.totals.specs.Text.{head_of, place_of, pair_on, report_text, longest_report}
-use Rattle.totals.specs.declared.adding.Entry.{Entry}
-use Rattle.totals.specs.declared.adding.Entry.TheVariants.{Numbers, Malformed}
 use Rattle.totals.specs.declared.adding.Tally.{Tally}
 use Rattle.totals.specs.declared.adding.Adding.{Adding}
 
 -- ---- one line
 -- numbers without a minus; the second is 0 on a line of one
-unfoldable pub entry_with : (x y : ℤ) → Entry
-entry_with (pos x) (pos y) = Numbers x y
-entry_with (pos x) (negsuc y) = Malformed
-entry_with (negsuc x) y = Malformed
+unfoldable pub entry_with : (x y : ℤ) → Option (ℕ × ℕ)
+entry_with (pos x) (pos y) = Some (x, y)
+entry_with (pos x) (negsuc y) = None
+entry_with (negsuc x) y = None
 
-unfoldable pub entry_of : Option (List ℤ) → Entry
-entry_of none = Malformed
-entry_of (some zs) = entry_with (get_or zs 0 (pos 0)) (get_or zs 1 (pos 0))
+unfoldable pub entry_of : Option (List ℤ) → Option (ℕ × ℕ)
+entry_of None = None
+entry_of (Some zs) = entry_with (get_or zs 0 (pos 0)) (get_or zs 1 (pos 0))
 
 -- the line that is due, with its LF: its head, a tab, and its one or two numbers of 1 to 18 digits
-unfoldable pub entry_at : (due : ℕ) (text : List ℕ) → Entry
-entry_at due text = cond (begins (head_of due ++ (TAB ∷ [])) text) (entry_of (row_within 18 text (length (head_of due) + 1) (cond (pair_on due) 2 1))) Malformed
+unfoldable pub entry_at : (due : ℕ) (text : List ℕ) → Option (ℕ × ℕ)
+entry_at due text = cond (begins (head_of due ++ (TAB ∷ [])) text) (entry_of (row_within 18 text (length (head_of due) + 1) (cond (pair_on due) 2 1))) None
 
 -- ---- what is known of the reports read so far
 -- lines are counted from 1, to 999,999,999,999,999,999 and no further: no text is so long
@@ -87,7 +85,7 @@ faulty t = record {
   nets = t.nets;
   counted = t.counted;
   past = t.past;
-  fault = line_after t.line;
+  fault = Some (line_after t.line);
   sum = t.sum;
 }
 
@@ -108,13 +106,13 @@ well_entered t past counted x y = record {
 unfoldable pub entered_with : Tally → (past : Bool) (counted x y : ℕ) → Tally
 entered_with t past counted x y = cond (fault_in t past counted x y) (faulty t) (well_entered t past counted x y)
 
-unfoldable pub entered : Tally → Entry → Tally
-entered t Malformed = faulty t
-entered t (Numbers x y) = entered_with t (past_after t.due t.past (get_or t.sum 0 0) x) (counted_after t.due t.counted x) x y
+unfoldable pub entered : Tally → Option (ℕ × ℕ) → Tally
+entered t None = faulty t
+entered t (Some (x, y)) = entered_with t (past_after t.due t.past (get_or t.sum 0 0) x) (counted_after t.due t.counted x) x y
 
 -- what comes after a line at fault changes nothing
 unfoldable pub after_line : Tally → (text : List ℕ) → Tally
-after_line t text = cond (eqb t.fault 0) (entered t (entry_at t.due text)) t
+after_line t text = cond (is_some t.fault) t (entered t (entry_at t.due text))
 
 -- ---- a text
 -- the first 64 bytes: no line of a report has more
@@ -132,7 +130,7 @@ after_lines t (last ∷ []) = record { tally = t; begun = cut last }
 after_lines t (line ∷ next ∷ lines) = after_lines (after_line t (cut (line ++ line_end))) (next ∷ lines)
 
 unfoldable pub none_read : Tally
-none_read = record { line = 0; due = 0; nets = 0; counted = 0; past = false; fault = 0; sum = replicate 16 0 }
+none_read = record { line = 0; due = 0; nets = 0; counted = 0; past = false; fault = None; sum = replicate 16 0 }
 
 -- ---- the answer
 -- no line, a line that is missing, or one without its LF: refused where it was due
@@ -142,10 +140,9 @@ unfinished line due begun = eqb line 0 || (not (eqb due 0) || not (eqb begun 0))
 -- 1 by line, then "30 for a net past 100,000", and else the sum
 unfoldable pub answer_of : Tally → (begun : ℕ) → List ℕ
 answer_of t begun =
-    cond (eqb t.fault 0)
+    option_map_or (refused_line 1) t.fault
     (cond (unfinished t.line t.due begun) (refused_line 1 (line_after t.line))
     (cond t.past (refused_line 30 (most_nets + 1)) (report_text t.sum false)))
-    (refused_line 1 t.fault)
 
 unfoldable pub sum_text : (text : List ℕ) → List ℕ
 sum_text text = let s = after_lines none_read (parted LF ([] ∷ []) text) in answer_of s.tally (length s.begun)

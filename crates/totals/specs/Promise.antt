@@ -1,7 +1,7 @@
 -- What the operation on two lent reports promises for every input.
 use Rattle.std.specs.Prelude.{◌≡◌, Bool, ◌||◌, not, List, ℕ, ◌+◌, eqb, ltb, length, get_or}
 use Rattle.reply.specs.declared.Refusal.TheVariants.{Count, OutOfRange, Nets}
-use Rattle.reply.specs.declared.Reply.{Reply}
+use Rattle.reply.specs.Reply.{Reply}
 use Rattle.reply.specs.Checks.{refuse_if, refuse_first, ◌and_then◌, leaves}
 use Rattle.reply.specs.Verdicts.{verdict_of}
 use Rattle.totals.specs.Totals.{joined, sum_of}

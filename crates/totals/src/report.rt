@@ -1,10 +1,12 @@
 // The text of a season report, written into a lent buffer: its fourteen lines in their order, and a last one where a net past those that it holds came.
 ghost use Rattle.std.specs.Prelude.{◌≡◌, ◌+◌, ◌<◌, ◌≤◌, length};
-ghost use Rattle.text.specs.Written.{Wrote, in_order};
+ghost use Rattle.text.specs.Written.{Wrote, Puts, in_order};
 ghost use Rattle.totals.specs.Text.{head_of, place_of, pair_on, ending_of, line_of, last_line, report_in};
 
 use crate::{MOST_NETS, TOTALS};
-use text::{LF, writer};
+use reply::{Refusal, Verdict};
+use text::LF;
+use text::writer::Writer;
 
 // How many lines every report has.
 const LINES: usize = 14;
@@ -13,114 +15,100 @@ const LINES: usize = 14;
 pub const REPORT: usize = 1_060;
 
 // What a line begins with: at most 27 bytes.
-pub fn put_head(out: &mut [u8], at: usize, line: usize) -> usize
-    requires { at + 27 ≤ length out.old }
-    ensures { Wrote out.old at (head_of line) out.new result }
+#[tactic(auto, unfolding(crate::specs::Text::head_of), using(text::proofs::Putting::count_most))]
+pub fn put_head(w: &mut Writer, line: usize)
+    requires { w.old.at + 27 ≤ length w.old.out.now }
+    ensures { Puts w.old (head_of line) 27 w.new }
 {
-    if line == 0 {
-        return writer::put_word(out, at, b"NETS");
+    match line {
+        0 => w.word(b"NETS"),
+        1 => w.word(b"ACCEPTED"),
+        2..=10 => {
+            w.word(b"COUNT");
+            w.count(line as u64 - 1);
+        }
+        11 => w.word(b"A"),
+        12 => w.word(b"S"),
+        _ => w.word(b"SHARED"),
     }
-    if line == 1 {
-        return writer::put_word(out, at, b"ACCEPTED");
-    }
-    if line == 11 {
-        return writer::put_word(out, at, b"A");
-    }
-    if line == 12 {
-        return writer::put_word(out, at, b"S");
-    }
-    if line < 11 {
-        let word = writer::put_word(out, at, b"COUNT");
-        return writer::put_count(out, word, (line - 1) as u64);
-    }
-    writer::put_word(out, at, b"SHARED")
 }
 
 // Where the line's number stands among the totals.
+#[tactic(auto, unfolding(crate::specs::Text::place_of))]
 pub fn place_of(line: usize) -> usize
     ensures place { result ≡ place_of line }
     ensures within { result < 16 }
 {
-    if line < 12 {
-        return line;
+    match line {
+        0..=11 => line,
+        12 => 13,
+        _ => 15,
     }
-    if line == 12 {
-        return 13;
-    }
-    15
 }
 
 // Whether the line has two numbers.
+#[tactic(auto, unfolding(crate::specs::Text::pair_on))]
 pub fn pair_on(line: usize) -> bool
     ensures { result ≡ pair_on line }
 {
-    if line == 11 {
-        return true;
-    }
-    line == 12
+    matches!(line, 11 | 12)
 }
 
 // What stands behind the line's first number.
-fn put_ending(out: &mut [u8], at: usize, line: usize, totals: &[u64]) -> usize
-    requires { (at + 23 ≤ length out.old) × (length totals.now ≡ 16) }
-    ensures { Wrote out.old at (ending_of totals.now line) out.new result }
+#[tactic(auto, unfolding(crate::specs::Text::ending_of), using(crate::proofs::Printing::pair_within, text::proofs::Putting::count_most))]
+fn put_ending(w: &mut Writer, line: usize, totals: &[u64])
+    requires { (w.old.at + 23 ≤ length w.old.out.now) × (length totals.now ≡ 16) }
+    ensures { Puts w.old (ending_of totals.now line) 23 w.new }
 {
     if pair_on(line) {
-        let place = place_of(line);
-        let end = writer::put_count(out, at, totals[place + 1]);
-        return writer::put_byte(out, end, LF);
+        w.count(totals[place_of(line) + 1]);
     }
-    writer::put_byte(out, at, LF)
+    w.byte(LF);
 }
 
 // One line: at most 72 bytes.
-fn put_line(out: &mut [u8], at: usize, line: usize, totals: &[u64]) -> usize
-    requires { (at + 72 ≤ length out.old) × (length totals.now ≡ 16) }
-    ensures { Wrote out.old at (line_of totals.now line) out.new result }
+#[tactic(auto, using(text::proofs::Putting::count_most))]
+fn put_line(w: &mut Writer, line: usize, totals: &[u64])
+    requires { (w.old.at + 72 ≤ length w.old.out.now) × (length totals.now ≡ 16) }
+    ensures { Puts w.old (line_of totals.now line) 72 w.new }
 {
-    let head = put_head(out, at, line);
-    let place = place_of(line);
-    let first = writer::put_count(out, head, totals[place]);
-    put_ending(out, first, line, totals)
+    put_head(w, line);
+    w.count(totals[place_of(line)]);
+    put_ending(w, line, totals);
 }
 
-// The fourteen lines, from the start of the buffer.
-fn put_lines(out: &mut [u8], totals: &[u64]) -> usize
-    requires { (1008 ≤ length out.old) × (length totals.now ≡ 16) }
-    ensures { Wrote out.old 0 (in_order 14 (line_of totals.now)) out.new result }
+// The fourteen lines.
+fn put_lines(w: &mut Writer, totals: &[u64])
+    requires { (w.old.at + 1008 ≤ length w.old.out.now) × (length totals.now ≡ 16) }
+    ensures { Puts w.old (in_order 14 (line_of totals.now)) 1008 w.new }
 {
-    let mut next = 0;
-    let mut line = 0;
-    while line < LINES {
-        next = put_line(out, next, line, totals);
-        line += 1;
+    for line in 0..LINES {
+        put_line(w, line, totals);
     }
-    next
 }
 
 // The line that tells of a net past those that a report holds, where one came.
-fn put_last(out: &mut [u8], at: usize, past: bool) -> usize
-    requires { at + 52 ≤ length out.old }
-    ensures { Wrote out.old at (last_line past) out.new result }
+#[tactic(auto, unfolding(crate::specs::Text::last_line))]
+fn put_last(w: &mut Writer, past: bool)
+    requires { w.old.at + 52 ≤ length w.old.out.now }
+    ensures { Puts w.old (last_line past) 52 w.new }
 {
     if past {
-        return page::lines::put_refused(out, at, 30, MOST_NETS + 1);
+        page::lines::put_refused(w, Verdict::from(Refusal::Nets(MOST_NETS + 1)));
     }
-    at
 }
 
 // The report, from the start of the buffer; how many bytes it has. Where the totals are not sixteen, or the buffer is shorter than REPORT, it stays as it
-// was, and the answer is 0.
+// was, and the answer is 0: nothing is written, and that is how many bytes it has.
 pub fn print(totals: &[u64], past: bool, out: &mut [u8]) -> usize
     ensures text { Wrote out.old 0 (report_in (length out.old) totals.now past) out.new result }
     ensures within { result ≤ length out.old }
 {
-    if totals.len() != TOTALS {
+    if totals.len() != TOTALS || out.len() < REPORT {
         return 0;
     }
-    if out.len() < REPORT {
-        return 0;
-    }
-    let last = put_lines(out, totals);
-    put_last(out, last, past)
+    let mut w = Writer { out, at: 0 };
+    put_lines(&mut w, totals);
+    put_last(&mut w, past);
+    w.at
 }

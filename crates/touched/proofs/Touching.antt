@@ -2,7 +2,7 @@
 --   shared_ones_lem            the ones of the `and` of the words of two conditions are the directions that both touch, counted from the coefficients
 --   word_fits              the touched directions of a condition fit one 64-bit number
 --   shares_three_lem           two conditions share three or more directions where two of their words have three or more ones in common
---   word_below, word_more  the word of n directions is below 2^n; the word with one direction more
+--   word_below, word_none, word_more    the word of n directions is below 2^n; of none; with one direction more
 use mathlib.Core.Path.{◌≡◌, refl, ◌∙◌, ap, ap₂}
 use mathlib.Core.Bool.{Bool, true, false, ◌&&◌}
 use mathlib.Core.List.{List}
@@ -12,12 +12,12 @@ use native.Mathlib.Numerals.{add-one}
 use native.Mathlib.Omega.{arith}
 use lib.Bits.{bit_and, and_block, and_lt}
 use lib.Count.{ones, ones_cat}
-use lib.Dec.{ltb, leb, lit<}
+use lib.Dec.{leb, lit<}
 use lib.ListN.{get_or}
 use lib.Pow.{pow_mono}
 use lib.IntN.{ℤ}
 use Rattle.exact.specs.First.{some_below}
-use Rattle.exact.proofs.Searching.{first_ext}
+use Rattle.exact.proofs.Searching.{some_ext}
 use Rattle.touched.specs.Shared.{one_if, touches, count, shared_by, shares_three}
 use Rattle.touched.specs.Inner.{word, word_of, shared_ones, shares_before, WordsOf}
 
@@ -30,6 +30,10 @@ pub word_below : (n : ℕ) (p : ℕ → Bool) → word n p < 2 ^ n
 unfolding word
 word_below zero p = lit< tt
 word_below (suc n) p = rw (pow-suc 2 n) (digit_below (p n) (word_below n p))
+
+pub word_none : (p : ℕ → Bool) → word 0 p ≡ 0
+unfolding word
+word_none p = refl
 
 pub word_more : (n : ℕ) (p : ℕ → Bool) → word (n + 1) p ≡ one_if (p n) * 2 ^ n + word n p
 unfolding word
@@ -66,8 +70,5 @@ pub shares_three_lem : (a : List ℤ) (m n : ℕ) (words : List ℕ) → WordsOf
 unfolding shares_three
 shares_three_lem a m n words w = some_ext n _ _ (λ j l. some_ext j _ _ (λ k h. ap (leb 3) (both j k l (omega arith))))
   where
-    some_ext : (n : ℕ) (p r : ℕ → Bool) → ((i : ℕ) → i < n → p i ≡ r i) → some_below n p ≡ some_below n r
-    some_ext n p r e = ap (λ (h : ℕ). ltb h n) (first_ext n p r e)
-
     both : (j k : ℕ) → j < n → k < n → shared_ones (get_or words j 0) (get_or words k 0) ≡ shared_by a m j k
     both j k l h = ap₂ shared_ones (w j l) (w k h) ∙ shared_ones_lem a m j k

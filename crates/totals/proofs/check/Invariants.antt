@@ -1,11 +1,7 @@
 -- `totals::check` meets its contract: no place before i is at fault. Assumes nothing.
-use Prim.Native.Nat.{◌-◌, ◌≤◌}
 use Rattle.exact.proofs.Searching.{Failed}
 use Rattle.totals.specs.Promise.{too_large_at}
 use Rattle.totals.proofs.check.Given as goal
 
 abbrev pub invariant-loop-i : goal.invariant-loop-i
-invariant-loop-i l = (l.i ≤ 16) × Failed (too_large_at l.first l.second) l.i
-
-abbrev pub decreases-loop-i : goal.decreases-loop-i
-decreases-loop-i l = 16 - l.i
+invariant-loop-i l = Failed (too_large_at l.first l.second) l.i

@@ -1,23 +1,10 @@
--- `totals::clear` meets its contract: the places before i hold 0, the total of no nets. Assumes nothing.
-use mathlib.Core.Path.{◌≡◌, refl, subst}
-use mathlib.Core.List.{[]}
-use Prim.Native.Nat.{ℕ}
-use native.Mathlib.Omega.{arith}
-use Rattle.exact.proofs.Filling.{Filled, filled_none, filled_more, filled_all}
-use Rattle.totals.specs.Totals.{total, report_of}
+-- `totals::clear` meets its contract: each place holds 0, the total of no nets. Assumes nothing.
+use Rattle.std.proofs.Common.{◌∙◌, ap, ℕ}
+use Rattle.std.specs.Prelude.{replicate}
+use Rattle.exact.specs.Tabulate as X
+use Rattle.totals.specs.Totals.{report_of, total}
 use Rattle.totals.proofs.clear.Goals as goal
 
-pub loop-i-init : goal.loop-i-init
-loop-i-init c = (omega arith, filled_none 0 _ 0 _)
-
-pub loop-i-preserved : goal.loop-i-preserved
-unfolding total
-loop-i-preserved c =
-    (omega arith, filled_more 0 (λ k. total k []) 0 c.loop-i.i c.args.totals.now c.loop-i.totals 0 (omega (arith, c.requires)) c.loop-i.invariant.1 refl)
-
 pub returns : goal.returns
-unfolding report_of
-returns c =
-    let g : ℕ → ℕ = λ k. total k [] in
-    let e : c.loop-i.i ≡ 16 = omega arith in
-    filled_all 0 g 16 c.args.totals.now c.loop-i.totals c.requires (subst (λ (n : ℕ). Filled 0 g 0 n c.args.totals.now c.loop-i.totals) e c.loop-i.invariant.1)
+unfolding report_of total X.tabulate
+returns c = c.fill.ensures.after (λ y e. e) ∙ ap (λ (n : ℕ). replicate n 0) c.requires

@@ -1,48 +1,21 @@
 -- `touched::touched` meets its contract: the loop has the word of the directions before i. Assumes nothing.
-use mathlib.Core.Path.{◌≡◌, refl, sym, ◌∙◌, ap}
-use mathlib.Core.Bool.{not}
-use mathlib.Core.List.{List}
-use Prim.Native.Nat.{ℕ, ◌+◌, ◌*◌, ◌-◌, ◌^◌, ◌≤◌, ◌<◌}
-use native.Mathlib.Omega.{arith}
-use borrow.Author.Rules.{rules}
-use lib.ListN.{get_or}
-use lib.IntN.{ℤ, pos}
-use Rattle.exact.specs.Same.{same}
-use Rattle.exact.proofs.Bound.{read_at}
-use Rattle.touched.specs.Shared.{one_if, touches}
-use Rattle.touched.specs.Inner.{word}
-use Rattle.touched.proofs.Touching.{word_below, word_more}
+use Rattle.std.proofs.Common.{◌≡◌, sym, ◌∙◌, arith, rules, ◌+◌, ◌*◌, ◌-◌, pos, get_or, take, drop, FitsSigned, w64}
+use Rattle.std.proofs.lemmas.Int.{to_z-of_z}
+use Rattle.std.proofs.lemmas.List.{get_or-take, get_or-drop}
+use Rattle.touched.specs.Shared.{touches}
+use Rattle.touched.proofs.Touching.{word_none, word_below, word_more}
 use Rattle.touched.proofs.touched.Goals as goal
-use Rattle.touched.proofs.touched.Goals.{At-loop-i}
 
 pub loop-i-init : goal.loop-i-init
-unfolding word
-loop-i-init c = (omega arith, refl)
-
--- in a turn: the directions before i, each with whether the condition touches it
-module _ (l : At-loop-i) where
-  abbrev a : List ℤ
-  a = l.args.a.now
-
-  abbrev at : ℕ
-  at = l.args.j * l.args.m + l.loop-i.i
-
-  before_i : l.loop-i.word < 2 ^ l.loop-i.i
-  before_i = rw l.loop-i.invariant.1 (word_below l.loop-i.i (touches a l.args.m l.args.j))
+loop-i-init c = sym (word_none _)
 
 pub with_direction-word-requires : goal.with_direction-word-requires
-with_direction-word-requires c = let l = c.before.before in (omega arith, before_i l)
+with_direction-word-requires c = (omega arith, rw c.loop-i.invariant (word_below c.loop-i.i (touches c.args.a.now c.args.m c.args.j)))
 
 pub loop-i-preserved : goal.loop-i-preserved
 loop-i-preserved c =
-    let l = c.before.before.before in let i = l.loop-i.i in (
-      omega arith,
-      c.with_direction-word.ensures ∙ ap (λ (z : ℤ). one_if (not (same z (pos 0))) * 2 ^ i + l.loop-i.word) (read_at (get_or (a l) (at l) (pos 0)) c.x-1.given)
-          ∙ ap (λ (w : ℕ). one_if (not (same (get_or (a l) (at l) (pos 0)) (pos 0))) * 2 ^ i + w) l.loop-i.invariant.1
-          ∙ sym (word_more i (touches (a l) l.args.m l.args.j)),
-    )
-
-pub returns : goal.returns
-returns c =
-    let e : c.loop-i.i ≡ c.args.m = omega arith in
-    c.loop-i.invariant.1 ∙ ap (λ (n : ℕ). word n (touches c.args.a.now c.args.m c.args.j)) e
+    let a = c.args.a.now in let s = c.args.j * c.args.m in let i = c.loop-i.i in
+    let here : get_or (take (s + c.args.m - s) (drop s a)) i (pos 0) ≡ get_or a (s + i) (pos 0) =
+    get_or-take (s + c.args.m - s) (drop s a) i (pos 0) (omega arith) ∙ get_or-drop s a i (pos 0) in
+    let fits : FitsSigned w64 (get_or a (s + i) (pos 0)) = search rules in
+    simp (here, to_z-of_z, c.loop-i.invariant) at c.with_direction-word.ensures ∙ sym (word_more i (touches a c.args.m c.args.j))

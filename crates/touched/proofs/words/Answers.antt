@@ -1,25 +1,12 @@
 -- `touched::words` meets its contract: the loop has filled in the words of the conditions before j. Assumes nothing.
-use Prim.Native.Nat.{◌-◌, ◌≤◌, ◌<◌, zero-le}
-use native.Mathlib.Nat.{mul-le-mul_right, suc-mul}
-use native.Mathlib.Omega.{arith}
-use borrow.Author.Rules.{rules}
-use Rattle.exact.proofs.Filling.{Filled, filled_none, filled_more}
+use Rattle.std.proofs.Common.{◌≡◌, ◌∙◌, arith, length-set}
+use Rattle.exact.proofs.Filling.{set_more}
 use Rattle.touched.specs.Inner.{word_of}
 use Rattle.touched.proofs.words.Goals as goal
 
-pub loop-j-init : goal.loop-j-init
-loop-j-init c = (omega arith, filled_none 0 (word_of c.args.a.now c.args.m) 0 _)
-
--- row j ends within the coefficients
-pub touched-requires : goal.touched-requires
-touched-requires c =
-    let j = c.loop-j.j in let l : j < c.args.n = omega arith in
-    (c.requires.0, omega (arith, mul-le-mul_right c.args.m l, suc-mul j c.args.m, c.requires.2))
-
 pub loop-j-preserved : goal.loop-j-preserved
 loop-j-preserved c =
-    let a = c.args in
-    (omega arith, filled_more 0 (word_of a.a.now a.m) 0 c.loop-j.j _ c.loop-j.all c.touched.result (omega arith) c.loop-j.invariant.1 c.touched.ensures)
-
-pub returns : goal.returns
-returns c = λ j h. c.loop-j.invariant.1.done j zero-le (omega arith)
+    let w = c.loop-j.all in let j = c.loop-j.j in (
+      length-set w j c.touched.result ∙ c.loop-j.invariant.0,
+      set_more (λ j w. w ≡ word_of c.args.a.now c.args.m j) 0 j w c.touched.result (omega arith) c.loop-j.invariant.1 c.touched.ensures,
+    )

@@ -1,45 +1,27 @@
 -- `totals::adding::after_byte` meets its contract. Assumes nothing.
-use mathlib.Core.Path.{sym, ◌∙◌}
-use native.Mathlib.Omega.{arith}
-use lib.Seq.{length-take-le}
-use Rattle.totals.specs.Adding.{stream_of}
-use Rattle.totals.proofs.Streaming.{Held, held_more, held_full, byte_ended, byte_held}
+use Rattle.std.proofs.Common.{◌≡◌}
+use Rattle.std.specs.Prelude.{take}
+use Rattle.totals.specs.Adding.{stream_of, lengthened}
+use Rattle.totals.proofs.Streaming.{held_more, held_full, byte_ended, byte_held}
 use Rattle.totals.proofs.adding.after_byte.Goals as goal
-use Rattle.totals.proofs.adding.after_byte.Goals.{then-n-lt-HELD, else-n-lt-HELD, Joined-n-lt-HELD}
+use Rattle.totals.proofs.adding.after_byte.Goals.{then-length-lt-HELD, else-length-lt-HELD}
 
--- the line being read, with the byte
-held : (c : Joined-n-lt-HELD) → let a = c.args in Held a.a.length a.held.now a.b c.if-n-lt-HELD.n c.if-n-lt-HELD.held
-held c =
-    let a = c.args in
-    elim c.if-n-lt-HELD.branch [
-      | then-n-lt-HELD w ↦ held_more a.a.length a.held.now a.b c.if-n-lt-HELD.n c.if-n-lt-HELD.held c.requires.0 w.if-n-lt-HELD.true w.n-is w.held-is
-      | else-n-lt-HELD w ↦ held_full a.a.length a.held.now a.b c.if-n-lt-HELD.n c.if-n-lt-HELD.held c.requires.0 w.if-n-lt-HELD.false c.requires.1 w.n-is w.held-is
-    ]
+pub returns-then-b-eq-LF-clause-stream : goal.returns-then-b-eq-LF-clause-stream
+returns-then-b-eq-LF-clause-stream c =
+    let a = c.args in let l = c.if-length-lt-HELD in
+    let line : take l.length l.held ≡ lengthened (take a.a.length a.held.now) a.b =
+    elim l.branch [
+      | then-length-lt-HELD w ↦ (held_more a.a.length a.held.now a.b l.length l.held c.requires.0 w.if-length-lt-HELD.true w.length-is w.held-is).text
+      | else-length-lt-HELD w ↦ (held_full a.a.length a.held.now a.b l.length l.held c.requires.0 w.if-length-lt-HELD.false c.requires.1 w.length-is w.held-is).text
+    ] in
+    byte_ended (stream_of a.a a.held.now) a.b line c.if-b-eq-LF.true c.after_line.ensures
 
-pub slice_bounds-after_line-end : goal.slice_bounds-after_line-end
-slice_bounds-after_line-end c = let h = held c.before.before in omega (arith, h.few, h.long)
-
-pub slice_bounds-after_line-end-then-b-eq-LF : goal.slice_bounds-after_line-end-then-b-eq-LF
-slice_bounds-after_line-end-then-b-eq-LF c = let h = held c.before.before in sym (length-take-le _ _ (omega (arith, h.few, h.long)))
-
-pub shape_of-held-then-b-eq-LF : goal.shape_of-held-then-b-eq-LF
-shape_of-held-then-b-eq-LF c = let j = c.before.before.before in (held j).long ∙ sym j.requires.0
-
-pub returns-then-b-eq-LF : goal.returns-then-b-eq-LF
-returns-then-b-eq-LF c =
-    let j = c.before.before.before in let a = j.args in let h = held j in
-    record {
-      stream = byte_ended (stream_of a.a a.held.now) a.b h.text c.if-b-eq-LF.true c.after_line-after.ensures;
-      within = omega arith;
-    }
-
-pub shape_of-held : goal.shape_of-held
-shape_of-held c = let j = c.before.before in (held j).long ∙ sym j.requires.0
-
-pub returns : goal.returns
-returns c =
-    let j = c.before.before in let a = j.args in let h = held j in
-    record {
-      stream = byte_held (stream_of a.a a.held.now) a.b h.text c.if-b-eq-LF.false;
-      within = h.few;
-    }
+pub returns-else-b-eq-LF-clause-stream : goal.returns-else-b-eq-LF-clause-stream
+returns-else-b-eq-LF-clause-stream c =
+    let a = c.args in let l = c.if-length-lt-HELD in
+    let line : take l.length l.held ≡ lengthened (take a.a.length a.held.now) a.b =
+    elim l.branch [
+      | then-length-lt-HELD w ↦ (held_more a.a.length a.held.now a.b l.length l.held c.requires.0 w.if-length-lt-HELD.true w.length-is w.held-is).text
+      | else-length-lt-HELD w ↦ (held_full a.a.length a.held.now a.b l.length l.held c.requires.0 w.if-length-lt-HELD.false c.requires.1 w.length-is w.held-is).text
+    ] in
+    byte_held (stream_of a.a a.held.now) a.b line c.if-b-eq-LF.false

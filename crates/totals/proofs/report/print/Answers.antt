@@ -1,45 +1,25 @@
--- `totals::report::print` meets its contract, by the totals and the buffer. Assumes nothing.
-use native.Mathlib.Omega.{arith}
-use lib.ListN.{length}
-use Rattle.text.specs.Written.{Wrote}
-use Rattle.text.proofs.Putting.{then, rewrote, wrote_length}
+-- What is printed, by the totals and the buffer.
+use Rattle.std.proofs.Common.{refl, length, rules}
+use Rattle.text.proofs.Putting.{rewrote, puts_then, put_whole}
 use Rattle.totals.specs.Text.{report_text}
-use Rattle.totals.proofs.Printing.{fourteen_most, report_most, no_totals, no_room, reported, nothing_wrote}
+use Rattle.totals.proofs.Printing.{no_totals, no_room, reported, nothing_wrote}
 use Rattle.totals.proofs.report.print.Goals as goal
-use Rattle.totals.proofs.report.print.Goals.{After-put_last, After-slice_known-3-1}
+use Rattle.totals.proofs.report.print.Goals.{then-totals-ne-TOTALS-via-then-totals-ne-TOTALS, then-totals-ne-TOTALS-via-else-totals-ne-TOTALS+then-out-lt-REPORT}
 
-pub returns-then-totals-ne-TOTALS : goal.returns-then-totals-ne-TOTALS
-returns-then-totals-ne-TOTALS c =
+pub returns-then-totals-ne-TOTALS-clause-text : goal.returns-then-totals-ne-TOTALS-clause-text
+returns-then-totals-ne-TOTALS-clause-text c =
     let a = c.args in
-    record {
-      text = rewrote (no_totals (length a.out.now) a.totals.now a.past c.if-totals-ne-TOTALS.true) (nothing_wrote a.out.now 0);
-      within = omega arith;
-    }
+    let none = nothing_wrote a.out.now 0 in
+    elim c.then-totals-ne-TOTALS.branch [
+      | then-totals-ne-TOTALS-via-then-totals-ne-TOTALS w ↦ rewrote (no_totals (length a.out.now) a.totals.now a.past w.if-totals-ne-TOTALS.true) none
+      | then-totals-ne-TOTALS-via-else-totals-ne-TOTALS+then-out-lt-REPORT w ↦
+          rewrote (no_room (length a.out.now) a.totals.now a.past w.if-totals-ne-TOTALS.false w.if-out-lt-REPORT.true) none
+    ]
 
-pub returns-then-out-lt-REPORT : goal.returns-then-out-lt-REPORT
-returns-then-out-lt-REPORT c =
-    let a = c.args in
-    record {
-      text = rewrote (no_room (length a.out.now) a.totals.now a.past c.if-totals-ne-TOTALS.false c.if-out-lt-REPORT.true) (nothing_wrote a.out.now 0);
-      within = omega arith;
-    }
-
-pub put_last-requires : goal.put_last-requires
-put_last-requires c =
-    let a = c.args in
-    omega (arith, c.if-out-lt-REPORT.false, c.put_lines-last.ensures.place, wrote_length c.put_lines-last.ensures, fourteen_most a.totals.now)
-
--- the lines and the last one
-written : (c : After-slice_known-3-1) → let q : After-put_last = record { before = c.before.before.before; type_inv = record { totals = c.shared_slice_known-1.given } } in let a = q.args in
-    Wrote a.out.now 0 (report_text a.totals.now a.past) q.put_last.new.out q.put_last.result
+pub returns-clause-text : goal.returns-clause-text
 unfolding report_text
-written c = then c.put_lines-last.ensures c.put_last.ensures
-
-pub returns : goal.returns
-returns c =
+returns-clause-text c =
     let a = c.args in
-    let w = written c in
-    record {
-      text = rewrote (reported (length a.out.now) a.totals.now a.past c.if-totals-ne-TOTALS.false c.if-out-lt-REPORT.false) w;
-      within = omega (arith, c.if-out-lt-REPORT.false, w.place, report_most a.totals.now a.past);
-    }
+    let w = rewrote (reported (length a.out.now) a.totals.now a.past c.if-totals-ne-TOTALS.false c.if-out-lt-REPORT.false)
+    (put_whole refl (puts_then c.put_lines.ensures c.put_last.ensures)) in
+    search rules

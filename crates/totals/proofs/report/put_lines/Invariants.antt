@@ -1,11 +1,8 @@
--- `totals::report::put_lines` meets its contract: the lines before `line` have been written. Assumes nothing.
-use Prim.Native.Nat.{◌-◌, ◌≤◌}
-use Rattle.text.specs.Written.{in_order, Wrote}
+-- `totals::report::put_lines`: the lines before `line` have been put.
+use Rattle.std.specs.Prelude.{◌*◌}
+use Rattle.text.specs.Written.{in_order, Puts}
 use Rattle.totals.specs.Text.{line_of}
 use Rattle.totals.proofs.report.put_lines.Given as goal
 
 abbrev pub invariant-loop-line : goal.invariant-loop-line
-invariant-loop-line l = (l.line ≤ 14) × Wrote l.initial.out 0 (in_order l.line (line_of l.totals)) l.out l.next
-
-abbrev pub decreases-loop-line : goal.decreases-loop-line
-decreases-loop-line l = 14 - l.line
+invariant-loop-line l = Puts l.initial.w (in_order l.line (line_of l.totals)) (l.line * 72) l.w
