@@ -16,8 +16,7 @@ use lib.ListN.{length}
 use Rattle.exact.proofs.Searching.{neither}
 use Rattle.reply.specs.declared.Refusal.{Refusal}
 use Rattle.reply.specs.declared.Refusal.TheVariants.{Malformed, Count, OutOfRange}
-use Rattle.reply.specs.declared.Reply.{Reply}
-use Rattle.reply.specs.declared.Reply.TheVariants.{Accepted}
+use Rattle.reply.specs.Reply.{Reply}
 use Rattle.reply.specs.Checks.{refuse_if, ◌and_then◌}
 use Rattle.reply.proofs.Checking.{never, both_accepted, if_accepted}
 use Rattle.exact.specs.Outside.{outside}
@@ -30,8 +29,9 @@ use Rattle.network.specs.Scan.{none, belongs, out_of_turn, one_too_many, directi
 use Rattle.network.specs.Net.{Net, line_before, net_of, net_from}
 use Rattle.network.specs.Gathered.{Fit}
 use Rattle.network.specs.declared.record.Record.{Record}
-use Rattle.network.specs.declared.record.Record.TheVariants.{Direction, Angles, Sides, Term, Unreadable}
+use Rattle.network.specs.declared.record.Record.TheVariants.{Direction, Angles, Sides, Term}
 use Rattle.network.specs.declared.scan.Counts.{Counts}
+use Rattle.std.specs.Prelude.{Ok, Option, Some, None}
 
 -- ---- all parts but the last
 abbrev pub unless_none : List (List ℕ) → List (List ℕ) → List (List ℕ)
@@ -90,7 +90,7 @@ record Low (c : Counts) : Type 0 where
   pub terms : c.terms ≤ 12
 
 -- where three checks accept one after the other, the second found no fault
-second_accepted : (a b : Bool) (x y : Refusal) (r : Reply) → refuse_if a x and_then (refuse_if b y and_then r) ≡ Accepted → b ≡ false
+second_accepted : (a b : Bool) (x y : Refusal) (r : Reply) → refuse_if a x and_then (refuse_if b y and_then r) ≡ Ok tt → b ≡ false
 second_accepted a b x y r e = if_accepted b y (both_accepted (refuse_if b y) r (both_accepted (refuse_if a x) (refuse_if b y and_then r) e).1).0
 
 module _ (place : ℕ) (c : Counts) (net : Net) (low : Low c) where
@@ -99,38 +99,38 @@ module _ (place : ℕ) (c : Counts) (net : Net) (low : Low c) where
   unfolding one_too_many
   heading_room e = leb-false 24 c.n (neither (leb 24 c.n) _ e).0
 
-  line_room : (said : Record) → line_reply place c said ≡ Accepted → (Low (counted c said) → Room (counted c said) net) → Room c (line_before said net)
+  line_room : (said : Option Record) → line_reply place c said ≡ Ok tt → (Low (counted c said) → Room (counted c said) net) → Room c (line_before said net)
   unfolding line_reply direction_reply angles_reply sides_reply term_reply counted line_before out_of_turn Fit
-  line_room (Direction number direction q) e after =
+  line_room (Some (Direction number direction q)) e after =
       let turn = second_accepted (ltb 0 c.n) (out_of_turn c.m number) (Malformed place) (Count place) (refuse_if (out_of_range direction q) (OutOfRange place)) e in
       let h = leb-false 64 c.m (neither (leb 64 c.m) (outside (pos (c.m + 1)) (pos (c.m + 1)) number) turn).0 in
       let r = after (record { m = omega (arith, h); n = low.n; terms = low.terms }) in
       record { m = omega (arith, r.m); n = r.n; terms = omega (arith, low.terms); fit = r.fit }
-  line_room (Angles target) e after =
+  line_room (Some (Angles target)) e after =
       let h = heading_room (if_accepted _ _ (both_accepted _ _ e).0) in
       let r = after (record { m = low.m; n = omega (arith, h); terms = omega arith }) in
       record { m = r.m; n = omega (arith, r.n); terms = omega (arith, low.terms); fit = (omega (arith, r.terms), r.fit) }
-  line_room Sides e after =
+  line_room (Some Sides) e after =
       let h = heading_room (if_accepted _ _ e) in
       let r = after (record { m = low.m; n = omega (arith, h); terms = omega arith }) in
       record { m = r.m; n = omega (arith, r.n); terms = omega (arith, low.terms); fit = (omega (arith, r.terms), r.fit) }
-  line_room (Term letter value d i k) e after =
+  line_room (Some (Term letter value d i k)) e after =
       let few =
       second_accepted (not (belongs c.heading letter)) (leb 12 c.terms) (Malformed place) (Count place)
       (refuse_if (term_fault (pos c.m) letter value d i k) (OutOfRange place)) e in
       let h = leb-false 12 c.terms few in
       let r = after (record { m = low.m; n = low.n; terms = omega (arith, h) }) in
       record { m = r.m; n = r.n; terms = omega (arith, r.terms); fit = r.fit }
-  line_room Unreadable e after = never _ e
+  line_room None e after = never _ e
 
 -- ---- wherever the scan stands
 scan_step : (place : ℕ) (c : Counts) (part : List ℕ) (parts : List (List ℕ)) → Low c → (end more : Reply)
-    → (more ≡ Accepted → Room c (line_before (record_of part) (net_of (whole parts)))) → if_last parts end more ≡ Accepted → Room c (net_of (unless_none parts (part ∷ whole parts)))
+    → (more ≡ Ok tt → Room c (line_before (record_of part) (net_of (whole parts)))) → if_last parts end more ≡ Ok tt → Room c (net_of (unless_none parts (part ∷ whole parts)))
 unfolding net_of Fit
 scan_step place c part [] low end more next e = record { m = omega (arith, low.m); n = omega (arith, low.n); terms = omega (arith, low.terms); fit = tt }
 scan_step place c part (p ∷ parts) low end more next e = next e
 
-scan_room : (place : ℕ) (c : Counts) (parts : List (List ℕ)) → Low c → scanned place c parts ≡ Accepted → Room c (net_of (whole parts))
+scan_room : (place : ℕ) (c : Counts) (parts : List (List ℕ)) → Low c → scanned place c parts ≡ Ok tt → Room c (net_of (whole parts))
 unfolding scanned whole net_of Fit
 scan_room place c [] low e = record { m = omega (arith, low.m); n = omega (arith, low.n); terms = omega (arith, low.terms); fit = tt }
 scan_room place c (part ∷ parts) low e =
@@ -139,7 +139,7 @@ scan_room place c (part ∷ parts) low e =
     line_room place c (net_of (whole parts)) low (record_of part) b.0 (λ l. scan_room (suc place) (counted c (record_of part)) parts l b.1))
     e
 
-pub scan_bounds : (file : List ℕ) → scan_reply file ≡ Accepted → Room none (net_from file 0)
+pub scan_bounds : (file : List ℕ) → scan_reply file ≡ Ok tt → Room none (net_from file 0)
 unfolding scan_reply net_from lines_of
 scan_bounds file e =
     subst (λ (lines : List (List ℕ)). Room none (net_of lines)) (whole_lines file)

@@ -4,7 +4,6 @@ use mathlib.Core.Path.{◌≡◌, refl}
 use mathlib.Core.List.{List, [], ◌∷◌}
 use Prim.Native.Nat.{ℕ}
 use Rattle.reply.specs.declared.Refusal.TheVariants.{Malformed, Count, OutOfRange}
-use Rattle.reply.specs.declared.Reply.TheVariants.{Accepted, Refused}
 use Rattle.text.specs.Parts.{on_first, parted}
 use Rattle.text.specs.Fields.{fields_of, field_at, letter_of}
 use Rattle.text.specs.Numbers.{read_digits, unsigned_of, plus, minus, numeral_within}
@@ -12,6 +11,7 @@ use Rattle.network.specs.Records.{with, direction_line, angles_line, sides_line,
 use Rattle.exact.specs.Same.{same}
 use Rattle.condition.specs.Terms as terms
 use Rattle.network.specs.Scan.{belongs, out_of_turn, one_too_many, direction_reply, angles_reply, sides_reply, term_reply, line_reply, counted, end_fault, end_reply, scanned, scan_reply}
+use Rattle.std.specs.Prelude.{Ok, Err}
 
 -- Within a line 1 comes first, then 2, then 3
 -- D 7 -1 x|
@@ -81,18 +81,18 @@ fixed_elsewhere =
     68 ∷ 9 ∷ 49 ∷ 9 ∷ 48 ∷ 9 ∷ 49 ∷ 10 ∷ 67 ∷ 9 ∷ 83 ∷ 10 ∷ 82 ∷ 9 ∷ 53 ∷ 9 ∷ 48 ∷ 9 ∷ 49 ∷ 9 ∷ 49 ∷ 10 ∷ []
 
 pub figures :
-    (scan_reply broken ≡ Refused (Malformed 1))
-    × (scan_reply two ≡ Refused (Count 1))
-    × (scan_reply three ≡ Refused (OutOfRange 1))
-    × (scan_reply no_lf ≡ Refused (Malformed 3))
-    × (scan_reply late_d ≡ Refused (Malformed 3))
-    × (scan_reply wrong_heading ≡ Refused (Malformed 3))
-    × (scan_reply bare ≡ Refused (Count 3))
-    × (scan_reply bare_end ≡ Refused (Count 0))
-    × (scan_reply more_than_m ≡ Refused (Count 0))
-    × (scan_reply no_direction ≡ Refused (OutOfRange 2))
-    × (scan_reply fixed_length ≡ Accepted)
-    × (scan_reply fixed_elsewhere ≡ Refused (OutOfRange 3))
+    (scan_reply broken ≡ Err (Malformed 1))
+    × (scan_reply two ≡ Err (Count 1))
+    × (scan_reply three ≡ Err (OutOfRange 1))
+    × (scan_reply no_lf ≡ Err (Malformed 3))
+    × (scan_reply late_d ≡ Err (Malformed 3))
+    × (scan_reply wrong_heading ≡ Err (Malformed 3))
+    × (scan_reply bare ≡ Err (Count 3))
+    × (scan_reply bare_end ≡ Err (Count 0))
+    × (scan_reply more_than_m ≡ Err (Count 0))
+    × (scan_reply no_direction ≡ Err (OutOfRange 2))
+    × (scan_reply fixed_length ≡ Ok tt)
+    × (scan_reply fixed_elsewhere ≡ Err (OutOfRange 3))
 unfolding
     scan_reply scanned end_reply end_fault counted line_reply term_reply angles_reply sides_reply direction_reply one_too_many out_of_turn belongs
     terms.term_fault terms.letter_of same

@@ -1,20 +1,22 @@
 -- Laws of the conditions in their order: 4 and 5 of one of them, its row, its misclosure and its letter, and those of all. Assumes nothing.
---   row_refused, closing_refused, closing_accepted    what the two operations on its terms say of condition j
+--   row_refused, closed                              what the two operations on its terms say of condition j
 --   row_is, row_length                               the row of a condition that is accepted, whatever stood there before
 --   part_length                                      the part of a list that a row takes
 --   heading_here                                     the condition that a C line begins
---   closes                                           one condition, from its gathered terms
+--   closes, closing_stops, row_asked                 one condition, from its gathered terms
 --   one_more, all_taken                              a list with one entry for each condition, as misclosures and letters are: after one more, and after the last
 --   FormedTo                                         what has been formed and what the conditions left give are all there is
 --   same_left                                        the same conditions left
 --   formed_none, terms_fit, form_turn, form_room     before the first; what one more needs
---   form_refused, forms_refused, form_more, row_put, form_end   after one that is refused, or accepted, and after the last
+--   form_refused, form_more, row_put, form_end       after one that is refused, or accepted, and after the last
+--   Formed; ended, terms_stand, one_more_fits, room, stopped, onto   the same along the walk over the file's lines
 use mathlib.Core.Path.{◌≡◌, refl, sym, ◌∙◌, ap, subst}
 use mathlib.Core.List.{List, [], ◌∷◌, ◌++◌, append_assoc}
 use Prim.Native.Nat.{ℕ, suc, ◌+◌, ◌-◌, ◌*◌, ◌<◌, ◌≤◌}
 use native.Mathlib.Nat.{mul-le-mul, suc-mul, zero-mul}
 use native.Mathlib.Numerals.{add-one}
 use native.Mathlib.Omega.{arith}
+use borrow.Author.Rules.{rules}
 use borrow.Rule.Slice.PartMut.{put_mid, post_of}
 use lib.IntN.{ℤ}
 use lib.ListN.{length, take, drop, set, length-set, length-append, length-drop}
@@ -22,57 +24,59 @@ use lib.Seq.{take_at, length-take-le}
 use Rattle.exact.proofs.Filling.{tabulate_length}
 use Rattle.reply.specs.declared.Refusal.{Refusal}
 use Rattle.reply.specs.declared.Refusal.TheVariants.{Coefficient, Misclosure}
-use Rattle.reply.specs.declared.Reply.{Reply}
-use Rattle.reply.specs.declared.Reply.TheVariants.{Accepted, Refused}
-use Rattle.reply.specs.declared.Figure.{Figure}
-use Rattle.reply.specs.declared.Figure.TheVariants.{Value, Refused as NoFigure}
-use Rattle.reply.specs.Checks.{figure_of, figure_reply, figure_leaves, figure_value, leaves, ◌and_then◌}
-use Rattle.reply.proofs.Checking.{never, both_accepted}
-use Rattle.condition.specs.declared.Kind.{Kind}
+use Rattle.reply.specs.Reply.{Reply, Figure}
+use Rattle.reply.specs.Checks.{figure_of, figure_reply, figure_value, leaves, ◌and_then◌}
+use Rattle.reply.proofs.Checking.{never, both_accepted, figure_given, figure_refused}
 use Rattle.condition.specs.Rules.{coefficients_reply, coefficients_list, misclosure_figure}
 use Rattle.network.specs.Net.{Condition, Net, headed, line_before, net_from}
 use Rattle.network.specs.Net.{refused_as, zeros, lent_of, condition_reply, formed_reply, row_of, misclosure_of, rows_of, misclosures_of, letter_of_kind, letters_of}
-use Rattle.network.specs.Gathered.{heading_in, condition_in, Gathers, Closes, Fit, Forms}
+use Rattle.network.specs.Turns.{turn_at}
+use Rattle.network.specs.Gathered.{Body, Opened, begins, heading_in, condition_at, terms_in, Gathers, Closes, Fit, Forms}
 use Rattle.network.specs.declared.conditions.Heading.{Heading}
-use Rattle.network.specs.declared.conditions.Heading.TheVariants.{Of, NoHeading}
 use Rattle.network.specs.declared.record.Record.{Record}
-use Rattle.network.specs.declared.record.Record.TheVariants.{Direction, Angles, Sides, Term, Unreadable}
-use Rattle.network.proofs.Walking.{taken_more, taken_all}
+use Rattle.network.specs.declared.record.Turn.{Turn}
+use Rattle.network.specs.declared.terms.Terms.{Terms}
+use Rattle.network.specs.declared.record.Record.TheVariants.{Direction, Angles, Sides, Term}
+use Rattle.network.proofs.Walking.{Walked, headed_line, opened_rest, no_heading, taken_more, taken_all}
+use Rattle.text.specs.Lines.{lines_of}
+use Rattle.std.specs.Prelude.{Ok, Err, Option, Some, None}
+use Rattle.std.specs.Result.{result_or}
 
-module _ (directions q : List ℤ) (j : ℕ) (c : Condition) where
-  pub row_refused : (why : Refusal) → coefficients_reply (lent_of directions q c) (length directions) ≡ Refused why
-      → NoFigure (Coefficient j) ≡ figure_of (condition_reply directions q j c) (misclosure_of directions q c)
-  unfolding condition_reply refused_as
-  row_refused why e = rw e
+-- a refusal, replaced by another
+other_refusal : (why : Refusal) (r : Reply) → result_or r (Err why) ≡ refused_as why r
+unfolding refused_as
+other_refusal why (Ok _) = refl
+other_refusal why (Err other) = refl
 
-  module _ (accepted : coefficients_reply (lent_of directions q c) (length directions) ≡ Accepted) where
-    pub closing_refused : (why : Refusal) → misclosure_figure (lent_of directions q c) ≡ NoFigure why
-        → NoFigure (Misclosure j) ≡ figure_of (condition_reply directions q j c) (misclosure_of directions q c)
-    unfolding condition_reply refused_as
-    closing_refused why e = rw (accepted, e)
+other_figure : (why : Refusal) (f : Figure) → result_or f (Err why) ≡ figure_of (refused_as why (figure_reply f)) (figure_value f)
+unfolding refused_as figure_value
+other_figure why (Ok w) = refl
+other_figure why (Err other) = refl
 
-    pub closing_accepted : (w : ℤ) → misclosure_figure (lent_of directions q c) ≡ Value w
-        → Value w ≡ figure_of (condition_reply directions q j c) (misclosure_of directions q c)
-    unfolding condition_reply refused_as misclosure_of figure_value
-    closing_accepted w e = rw (accepted, e)
+module _ (directions q : List ℤ) (j : ℕ) (c : Condition) {row : Reply} (e : row ≡ coefficients_reply (lent_of directions q c) (length directions)) where
+  abbrev four : Reply
+  four = refused_as (Coefficient j) (coefficients_reply (lent_of directions q c) (length directions))
 
--- ---- what a figure says of the reply that it came with
-figure_reply_lem : (r : Reply) (v : ℤ) → figure_reply (figure_of r v) ≡ r
-figure_reply_lem Accepted v = refl
-figure_reply_lem (Refused why) v = refl
+  row_replied : result_or row (Err (Coefficient j)) ≡ four
+  row_replied = rw e (other_refusal (Coefficient j) (coefficients_reply (lent_of directions q c) (length directions)))
 
-figure_value_lem : (r : Reply) (v : ℤ) → figure_leaves (figure_of r v) v ≡ v
-figure_value_lem Accepted v = refl
-figure_value_lem (Refused why) v = refl
+  pub row_refused : {why : Refusal} → result_or row (Err (Coefficient j)) ≡ Err why → Err why ≡ figure_of (condition_reply directions q j c) (misclosure_of directions q c)
+  unfolding condition_reply
+  row_refused {why} z = let r : four ≡ Err why = sym row_replied ∙ z in rw r
+
+  pub closed : result_or row (Err (Coefficient j)) ≡ Ok tt → {figure : Figure} → figure ≡ misclosure_figure (lent_of directions q c)
+      → result_or figure (Err (Misclosure j)) ≡ figure_of (condition_reply directions q j c) (misclosure_of directions q c)
+  unfolding condition_reply misclosure_of
+  closed z f = let r : four ≡ Ok tt = sym row_replied ∙ z in rw (r, f) (other_figure (Misclosure j) (misclosure_figure (lent_of directions q c)))
 
 module _ (directions q : List ℤ) (c : Condition) where
-  kept_accepted : (why : Refusal) (r : Reply) → refused_as why r ≡ Accepted → r ≡ Accepted
+  kept_accepted : (why : Refusal) (r : Reply) → refused_as why r ≡ Ok tt → r ≡ Ok tt
   unfolding refused_as
-  kept_accepted why Accepted e = refl
-  kept_accepted why (Refused other) e = never why e
+  kept_accepted why (Ok _) e = refl
+  kept_accepted why (Err other) e = never why e
 
-  module _ (j : ℕ) (e : condition_reply directions q j c ≡ Accepted) where
-    row_accepted : coefficients_reply (lent_of directions q c) (length directions) ≡ Accepted
+  module _ (j : ℕ) (e : condition_reply directions q j c ≡ Ok tt) where
+    row_accepted : coefficients_reply (lent_of directions q c) (length directions) ≡ Ok tt
     unfolding condition_reply
     row_accepted = kept_accepted (Coefficient j) (coefficients_reply (lent_of directions q c) (length directions)) (both_accepted _ _ e).0
 
@@ -82,8 +86,8 @@ module _ (directions q : List ℤ) (c : Condition) where
 
   -- as long as what stood there before, whatever the reply
   left_length : (r : Reply) (row old : List ℤ) → length row ≡ length old → length (leaves r row old) ≡ length old
-  left_length Accepted row old e = e
-  left_length (Refused why) row old e = refl
+  left_length (Ok _) row old e = e
+  left_length (Err why) row old e = refl
 
   pub row_length : (old : List ℤ) → length old ≡ length directions → length (coefficients_list (lent_of directions q c) old) ≡ length old
   unfolding coefficients_list lent_of
@@ -94,28 +98,18 @@ pub part_length : (at m : ℕ) (a : List ℤ) → at + m ≤ 1536 → length a �
 part_length at m a l e = length-take-le (at + m - at) (drop at a) (omega (arith, l, e, length-drop at a)) ∙ omega arith
 
 -- ---- a C line
--- what a heading says of the conditions
-abbrev kind_of : Kind → Heading → Kind
-kind_of other (Of kind target) = kind
-kind_of other NoHeading = other
+begun : (net : Net) {here heading : Heading} → Some here ≡ Some heading
+    → headed here.kind here.target net.pending ∷ net.conditions ≡ headed heading.kind heading.target net.pending ∷ net.conditions
+begun net {here} {heading} e =
+    let same : here ≡ heading = cc in ap (λ (h : Heading). headed h.kind h.target net.pending ∷ net.conditions) same
 
-abbrev target_of : ℤ → Heading → ℤ
-target_of other (Of kind target) = target
-target_of other NoHeading = other
-
-abbrev headings : Heading → ℕ
-headings (Of kind target) = 1
-headings NoHeading = 0
-
-pub heading_here : (said : Record) (net : Net) (kind : Kind) (target : ℤ) → heading_in said ≡ Of kind target
-    → (line_before said net).conditions ≡ headed kind target net.pending ∷ net.conditions
-unfolding line_before heading_in
-heading_here (Direction number direction q) net kind target e = absurd (omega (arith, ap headings e))
-heading_here (Angles x) net kind target e =
-    λ i. headed (ap (kind_of kind) e i) (ap (target_of target) e i) net.pending ∷ net.conditions
-heading_here Sides net kind target e = λ i. headed (ap (kind_of kind) e i) (ap (target_of target) e i) net.pending ∷ net.conditions
-heading_here (Term letter value d i k) net kind target e = absurd (omega (arith, ap headings e))
-heading_here Unreadable net kind target e = absurd (omega (arith, ap headings e))
+pub heading_here : (said : Record) (net : Net) (heading : Heading) → begins said heading.next ≡ Some heading
+    → (line_before (Some said) net).conditions ≡ headed heading.kind heading.target net.pending ∷ net.conditions
+unfolding line_before begins
+heading_here (Direction number direction q) net heading e = cc
+heading_here (Angles x) net heading e = begun net e
+heading_here Sides net heading e = begun net e
+heading_here (Term letter value d i k) net heading e = cc
 
 -- ---- a list with one entry for each condition, in their order: the first n of xs, and those of the conditions left, are all
 module _ {A : Type 0} (of : List Condition → List A) (xs : List A) (n : ℕ) {all : List A} {left : List Condition} (so_far : take n xs ++ of left ≡ all) where
@@ -182,14 +176,12 @@ module _ {all left : List Condition} {directions q a w : List ℤ} {letters : Li
     unfolding formed_reply
     onward = rw (add-one (n + 1)) (ap (formed_reply directions q (n + 1)) (sym here) ∙ f.reply)
 
-    abbrev figure : Figure
-    figure = figure_of (condition_reply directions q (n + 1) c) (misclosure_of directions q c)
-
-    pub form_refused : (why : Refusal) → figure ≡ NoFigure why → Refused why ≡ formed_reply directions q 1 all
-    form_refused why z =
-        let refused : condition_reply directions q (n + 1) c ≡ Refused why
-        = sym (figure_reply_lem (condition_reply directions q (n + 1) c) (misclosure_of directions q c)) ∙ ap figure_reply z in
-        ap (λ (r : Reply). r and_then formed_reply directions q (n + 1 + 1) rest) (sym refused) ∙ onward
+    -- it is refused: the lists are not promised
+    pub form_refused : {why : Refusal} → condition_reply directions q (n + 1) c ≡ Err why → {a' w' : List ℤ} {letters' : List ℕ}
+        → Forms directions q all (Err why) a' w' letters'
+    form_refused {why} z =
+        let refused : formed_reply directions q 1 all ≡ Err why = sym onward ∙ ap (λ (r : Reply). r and_then formed_reply directions q (n + 1 + 1) rest) z in
+        record { count = rw refused; rows = λ k. absurd (search rules); misclosures = λ k. absurd (search rules); letters_are = λ k. absurd (search rules) }
 
     -- what stands in the row after it, and after the row is put back into its place
     module _ (few : length all ≤ 24) (narrow : length directions ≤ 64)
@@ -215,13 +207,7 @@ module _ {all left : List Condition} {directions q a w : List ℤ} {letters : Li
             length-drop at a,
           )
 
-      module _ (x : ℤ) (z : figure ≡ Value x) where
-        accepted : condition_reply directions q (n + 1) c ≡ Accepted
-        accepted = sym (figure_reply_lem (condition_reply directions q (n + 1) c) (misclosure_of directions q c)) ∙ ap figure_reply z
-
-        closed : misclosure_of directions q c ≡ x
-        closed = sym (figure_value_lem (condition_reply directions q (n + 1) c) (misclosure_of directions q c)) ∙ ap (λ (f : Figure). figure_leaves f (misclosure_of directions q c)) z
-
+      module _ (accepted : condition_reply directions q (n + 1) c ≡ Ok tt) where
         row_here : row ≡ row_of directions q c
         row_here = h ∙ row_is directions q c (n + 1) accepted old l
 
@@ -238,7 +224,7 @@ module _ {all left : List Condition} {directions q a w : List ℤ} {letters : Li
             ∙ ap (λ (cs : List Condition). take at a ++ rows_of directions q cs) (sym here)
             ∙ f.rows
 
-        pub form_more : (y : ℤ) (letter : ℕ) → y ≡ x → letter ≡ letter_of_kind c.kind → FormedTo all rest directions q (put_mid at k a row) (set w n y) (set letters n letter) (at + m) (n + 1)
+        pub form_more : (y : ℤ) (letter : ℕ) → y ≡ misclosure_of directions q c → letter ≡ letter_of_kind c.kind → FormedTo all rest directions q (put_mid at k a row) (set w n y) (set letters n letter) (at + m) (n + 1)
         unfolding misclosures_of letters_of
         form_more y letter same of_kind = record {
           place = omega (arith, f.place, add-one n, suc-mul n m, ap (λ (j : ℕ). j * m) (add-one n));
@@ -250,47 +236,115 @@ module _ {all left : List Condition} {directions q a w : List ℤ} {letters : Li
           reply = ap (λ (r : Reply). r and_then formed_reply directions q (n + 1 + 1) rest) (sym accepted) ∙ onward;
           rows = rows_here;
           closings = one_more (misclosures_of directions q) w n f.closings here y
-              (ap (λ (v : ℤ). v ∷ misclosures_of directions q rest) (closed ∙ sym same)) (omega (arith, form_turn few narrow, f.w_long));
+              (ap (λ (v : ℤ). v ∷ misclosures_of directions q rest) (sym same)) (omega (arith, form_turn few narrow, f.w_long));
           kinds = one_more letters_of letters n f.kinds here letter
               (ap (λ (v : ℕ). v ∷ letters_of rest) (sym of_kind)) (omega (arith, form_turn few narrow, f.letters_long));
         }
 
   -- none is left
   module _ (none : left ≡ []) where
+    all_counted : n ≡ length all
+    all_counted = omega (arith, f.count, ap length none)
+
     end_rows : take (n * length directions) a ≡ rows_of directions q all
     unfolding rows_of
     end_rows =
         ap (λ (k : ℕ). take k a) (sym f.place)
         ∙ taken_all a (rows_of directions q all) at (ap (λ (cs : List Condition). take at a ++ rows_of directions q cs) (sym none) ∙ f.rows)
 
-    pub form_end : Forms directions q all Accepted n a w letters
+    pub form_end : Forms directions q all (Ok n) a w letters
     unfolding formed_reply misclosures_of letters_of
     form_end = record {
-      answer = ap (formed_reply directions q (n + 1)) (sym none) ∙ f.reply;
-      count = λ e. omega (arith, f.count, ap length none);
-      rows = λ e. end_rows;
-      misclosures = λ e. all_taken (misclosures_of directions q) w n f.closings none refl;
-      letters_are = λ e. all_taken letters_of letters n f.kinds none refl;
+      count = ap Ok all_counted ∙ ap (λ (r : Reply). figure_of r (length all)) (ap (formed_reply directions q (n + 1)) (sym none) ∙ f.reply);
+      rows = λ e. ap (λ (k : ℕ). take (k * length directions) a) (sym all_counted) ∙ end_rows;
+      misclosures = λ e. ap (λ (k : ℕ). take k w) (sym all_counted) ∙ all_taken (misclosures_of directions q) w n f.closings none refl;
+      letters_are = λ e. ap (λ (k : ℕ). take k letters) (sym all_counted) ∙ all_taken letters_of letters n f.kinds none refl;
     }
-
--- a refusal: the lists are not promised
-pub forms_refused : {directions q a w : List ℤ} {letters : List ℕ} {all : List Condition} {n : ℕ} (why : Refusal) → Refused why ≡ formed_reply directions q 1 all
-    → Forms directions q all (Refused why) n a w letters
-forms_refused why e = record { answer = e; count = never why; rows = never why; misclosures = never why; letters_are = never why }
 
 -- ---- one condition, from its gathered terms; z is the target as the machine reads it
-pub closes : {file : List ℕ} {start count next : ℕ} {kinds values d i k : List ℤ} → Gathers file start kinds values d i k count next
-    → {directions q old row : List ℤ} {j : ℕ} {kind : Kind} {target z : ℤ} {figure : Figure} → z ≡ target
-    → let c = condition_in kind z (take count kinds) (take count values) (take count d) (take count i) (take count k) in
-    figure ≡ figure_of (condition_reply directions q j c) (misclosure_of directions q c) → row ≡ coefficients_list (lent_of directions q c) old
-    → Closes file start directions q j (headed kind target (net_from file start).pending) old row figure next
-closes {count = count} {kinds = kinds} {values} {d} {i} {k} g {directions} {q} {old} {j = j} {kind} {target} same e l =
-    let asked = ap (λ (x : ℤ). condition_in kind x (take count kinds) (take count values) (take count d) (take count i) (take count k)) same ∙ g.terms kind target in
-    record {
-      answer = e ∙ ap (λ (c : Condition). figure_of (condition_reply directions q j c) (misclosure_of directions q c)) asked;
-      list = l ∙ ap (λ (c : Condition). coefficients_list (lent_of directions q c) old) asked;
-      conditions = g.conditions;
-      opened = g.opened;
-      on = g.on;
-      within = g.within;
-    }
+module _ {file : List ℕ} (heading : Heading) {count next : ℕ} {t : Terms} (g : Gathers file heading.next t count next) (directions q : List ℤ) (j : ℕ)
+    {z : ℤ} (same : z ≡ heading.target) where
+  abbrev given : Condition
+  given = headed heading.kind z (terms_in t count)
+
+  asked : given ≡ condition_at file heading
+  asked = ap (λ (x : ℤ). headed heading.kind x (terms_in t count)) same ∙ g.terms heading.kind heading.target
+
+  pub closes : {figure : Figure} {w : ℤ} → figure ≡ figure_of (condition_reply directions q j given) (misclosure_of directions q given) → figure ≡ Ok w
+      → Closes file heading.next directions q j (condition_at file heading) w next
+  closes e f =
+      let passed = figure_given (condition_reply directions q j given) (misclosure_of directions q given) (sym e ∙ f) in
+      record {
+        passed = ap (condition_reply directions q j) (sym asked) ∙ passed.0;
+        misclosure = passed.1 ∙ ap (misclosure_of directions q) asked;
+        conditions = g.conditions;
+        opened = g.opened;
+        on = g.on;
+        within = g.within;
+      }
+
+  pub closing_stops : {figure : Figure} {why : Refusal} → figure ≡ figure_of (condition_reply directions q j given) (misclosure_of directions q given) → figure ≡ Err why
+      → condition_reply directions q j (condition_at file heading) ≡ Err why
+  closing_stops e f = ap (condition_reply directions q j) (sym asked) ∙ figure_refused (condition_reply directions q j given) (misclosure_of directions q given) (sym e ∙ f)
+
+  pub row_asked : (old : List ℤ) → coefficients_list (lent_of directions q given) old ≡ coefficients_list (lent_of directions q (condition_at file heading)) old
+  row_asked old = ap (λ (c : Condition). coefficients_list (lent_of directions q c) old) asked
+
+-- ---- the walk: what has been formed, and the line that comes next, which has been read
+pub record Formed (file : List ℕ) (first : ℕ) (directions q a w : List ℤ) (letters : List ℕ) (start : ℕ) (turn : Option Turn) (at n : ℕ) : Type 0 where
+  pub so_far : FormedTo (net_from file first).conditions (net_from file start).conditions directions q a w letters at n
+  pub within : start ≤ length file
+  pub opened : Opened (lines_of (drop start file))
+  pub stands : turn ≡ turn_at file start
+
+module _ {file : List ℕ} {first : ℕ} {directions q a w : List ℤ} {letters : List ℕ} {start : ℕ} {turn : Option Turn} {at n : ℕ}
+    (f : Formed file first directions q a w letters start turn at n) where
+  pub ended : heading_in turn ≡ None → Forms directions q (net_from file first).conditions (Ok n) a w letters
+  ended e = form_end f.so_far (no_heading file start (ap heading_in (sym f.stands) ∙ e) f.opened)
+
+  -- a C line
+  module _ {heading : Heading} (told : heading_in turn ≡ Some heading) where
+    abbrev next : ℕ
+    next = heading.next
+
+    abbrev pub said : Record
+    said = (headed_line heading turn f.stands told).0
+
+    begun_here : begins said next ≡ Some heading
+    begun_here = (headed_line heading turn f.stands told).1
+
+    pub line : Walked file start said next
+    line = (headed_line heading turn f.stands told).2
+
+    abbrev condition : Condition
+    condition = condition_at file heading
+
+    here : (net_from file start).conditions ≡ condition ∷ (net_from file next).conditions
+    here = ap (λ (net : Net). net.conditions) line.net ∙ heading_here said (net_from file next) heading begun_here
+
+    pub terms_stand : (next ≤ length file) × (length (net_from file next).pending.kinds ≤ 12) × Body (lines_of (drop next file))
+    terms_stand = (line.within, terms_fit f.so_far here, opened_rest heading line begun_here f.opened)
+
+    module _ (few : length (net_from file first).conditions ≤ 24) (narrow : length directions ≤ 64) where
+      pub one_more_fits : n < 24
+      one_more_fits = form_turn f.so_far here few narrow
+
+      pub room : at + length directions ≤ 1536
+      room = form_room f.so_far here few narrow
+
+      pub stopped : {why : Refusal} → condition_reply directions q (n + 1) condition ≡ Err why → {a' w' : List ℤ} {letters' : List ℕ}
+          → Forms directions q (net_from file first).conditions (Err why) a' w' letters'
+      stopped e = form_refused f.so_far here e
+
+      pub onto : {row : List ℤ} {at' : ℕ} {turn' : Option Turn} {y x : ℤ} {letter : ℕ}
+          → row ≡ coefficients_list (lent_of directions q condition) (take (at + length directions - at) (drop at a)) → Closes file next directions q (n + 1) condition x at'
+          → turn' ≡ turn_at file at' → y ≡ x → letter ≡ letter_of_kind heading.kind
+          → Formed file first directions q (put_mid at (at + length directions - at) a row) (set w n y) (set letters n letter) at' turn' (at + length directions) (n + 1)
+      onto {row} {y = y} {letter = letter} listed closes stands read kind = record {
+        so_far = same_left closes.conditions
+            (form_more f.so_far here few narrow row (take (at + length directions - at) (drop at a)) (at + length directions - at) listed
+            (part_length at (length directions) a room f.so_far.a_long) (omega arith) closes.passed y letter (read ∙ closes.misclosure) kind);
+        within = closes.within;
+        opened = closes.opened;
+        stands = stands;
+      }

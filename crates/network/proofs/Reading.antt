@@ -1,6 +1,6 @@
 -- Laws of the two loops that fill lists from a file's lines: what has been filled and what the lines left have are all there is. Assumes nothing.
 --   ReadTo; read_none, read_room, read_more, read_all                   the directions with their q
---   Gathering; gather_none, gather_room, gather_more, gathered          the terms of one condition
+--   Gathering; Twelve, gather_none, gather_room, gather_more, gathered   the terms of one condition
 use mathlib.Core.Path.{◌≡◌, refl, sym, ◌∙◌, ap, subst}
 use mathlib.Core.List.{List, ◌∷◌, ◌++◌}
 use Prim.Native.Nat.{ℕ, ◌+◌, ◌<◌, ◌≤◌}
@@ -10,9 +10,11 @@ use lib.ListN.{length, take, drop, set, length-set}
 use Rattle.text.specs.Lines.{lines_of}
 use Rattle.condition.specs.declared.Kind.{Kind}
 use Rattle.network.specs.Net.{Condition, Net, no_terms, headed, with_term, line_before, net_from}
-use Rattle.network.specs.Gathered.{ByKind, Body, Opened, Led, Directed, condition_in, Twelve, Gathers}
+use Rattle.network.specs.Gathered.{ByKind, Body, Opened, Led, Directed, terms_in, Gathers}
 use Rattle.network.specs.declared.record.Record.{Record}
 use Rattle.network.specs.declared.record.Record.TheVariants.{Direction, Term}
+use Rattle.network.specs.declared.terms.Terms.{Terms}
+use Rattle.std.specs.Prelude.{Option}
 use Rattle.network.proofs.Walking.{Walked, body_net, opened_body, opened_pending, taken_more, taken_all, taken_long}
 
 -- ---- the directions
@@ -32,27 +34,24 @@ read_none file direction q l k led =
 
 module _ {file : List ℕ} {direction q : List ℤ} {m start : ℕ} (r : ReadTo file direction q m start) where
   -- a D line
-  module _ {said : Record} {next : ℕ} (w : Walked file start said next) (number x g : ℤ) (e : said ≡ Direction number x g) where
-    line_here : net_from file start ≡ line_before (Direction number x g) (net_from file next)
-    line_here = w.net ∙ ap (λ (s : Record). line_before s (net_from file next)) e
-
+  module _ {next : ℕ} {number x g : ℤ} (w : Walked file start (Direction number x g) next) where
     direction_here : (net_from file start).directions ≡ x ∷ (net_from file next).directions
     unfolding line_before
-    direction_here = ap (λ (net : Net). net.directions) line_here
+    direction_here = ap (λ (net : Net). net.directions) w.net
 
     q_here : (net_from file start).q ≡ g ∷ (net_from file next).q
     unfolding line_before
-    q_here = ap (λ (net : Net). net.q) line_here
+    q_here = ap (λ (net : Net). net.q) w.net
 
     same_conditions : (net_from file start).conditions ≡ (net_from file next).conditions
     unfolding line_before
-    same_conditions = ap (λ (net : Net). net.conditions) line_here
+    same_conditions = ap (λ (net : Net). net.conditions) w.net
 
     led_on : Led (lines_of (drop next file))
     unfolding Led
     led_on =
         let rest = lines_of (drop next file) in
-        subst (λ (s : Record). ByKind s (Led rest) (Body rest) ⊥) (w.says ∙ e) (subst Led w.lines r.led)
+        subst (λ (s : Option Record). ByKind s (Led rest) (Body rest) ⊥) w.says (subst Led w.lines r.led)
 
     pub read_room : length (net_from file 0).directions ≤ 64 → m < 64
     read_room h =
@@ -87,22 +86,24 @@ module _ {file : List ℕ} {direction q : List ℤ} {m start : ℕ} (r : ReadTo 
   }
 
 -- ---- the terms of one condition
-pub record Gathering (file : List ℕ) (start : ℕ) (kinds values d i k : List ℤ) (count at : ℕ) : Type 0 where
+abbrev pub Twelve : Terms → Type 0
+Twelve t = (length t.kinds ≡ 12) × (length t.values ≡ 12) × (length t.d ≡ 12) × (length t.i ≡ 12) × (length t.k ≡ 12)
+
+pub record Gathering (file : List ℕ) (start : ℕ) (t : Terms) (count at : ℕ) : Type 0 where
   pub most : count ≤ 12
-  pub long : Twelve kinds values d i k
-  pub all_kinds : take count kinds ++ (net_from file at).pending.kinds ≡ (net_from file start).pending.kinds
-  pub all_values : take count values ++ (net_from file at).pending.values ≡ (net_from file start).pending.values
-  pub all_d : take count d ++ (net_from file at).pending.d ≡ (net_from file start).pending.d
-  pub all_i : take count i ++ (net_from file at).pending.i ≡ (net_from file start).pending.i
-  pub all_k : take count k ++ (net_from file at).pending.k ≡ (net_from file start).pending.k
+  pub long : Twelve t
+  pub all_kinds : take count t.kinds ++ (net_from file at).pending.kinds ≡ (net_from file start).pending.kinds
+  pub all_values : take count t.values ++ (net_from file at).pending.values ≡ (net_from file start).pending.values
+  pub all_d : take count t.d ++ (net_from file at).pending.d ≡ (net_from file start).pending.d
+  pub all_i : take count t.i ++ (net_from file at).pending.i ≡ (net_from file start).pending.i
+  pub all_k : take count t.k ++ (net_from file at).pending.k ≡ (net_from file start).pending.k
   pub same_conditions : (net_from file at).conditions ≡ (net_from file start).conditions
   pub body : Body (lines_of (drop at file))
   pub on : start ≤ at
   pub within : at ≤ length file
 
-pub gather_none : (file : List ℕ) (start : ℕ) (kinds values d i k : List ℤ) → Twelve kinds values d i k → Body (lines_of (drop start file)) → start ≤ length file
-    → Gathering file start kinds values d i k 0 start
-gather_none file start kinds values d i k l b h = record {
+pub gather_none : (file : List ℕ) (start : ℕ) (t : Terms) → Twelve t → Body (lines_of (drop start file)) → start ≤ length file → Gathering file start t 0 start
+gather_none file start t l b h = record {
   most = omega arith;
   long = l;
   all_kinds = refl;
@@ -116,28 +117,25 @@ gather_none file start kinds values d i k l b h = record {
   within = h;
 }
 
-module _ {file : List ℕ} {start : ℕ} {kinds values d i k : List ℤ} {count at : ℕ} (g : Gathering file start kinds values d i k count at) where
+module _ {file : List ℕ} {start : ℕ} {t : Terms} {count at : ℕ} (g : Gathering file start t count at) where
   -- one list of the terms, a term further
   more : (xs rest all here : List ℤ) (x y : ℤ) → length xs ≡ 12 → count < 12 → here ≡ x ∷ rest → y ≡ x → take count xs ++ here ≡ all
       → take (count + 1) (set xs count y) ++ rest ≡ all
   more xs rest all here x y l h a b e = taken_more xs rest all count y (omega (arith, h, l)) (rw b (ap (λ (r : List ℤ). take count xs ++ r) (sym a) ∙ e))
 
-  module _ {said : Record} {next : ℕ} (w : Walked file at said next) (letter : ℕ) (z e f h : ℤ) (q : said ≡ Term letter z e f h) where
-    term_line : net_from file at ≡ line_before (Term letter z e f h) (net_from file next)
-    term_line = w.net ∙ ap (λ (s : Record). line_before s (net_from file next)) q
-
+  module _ {next letter : ℕ} {z e f h : ℤ} (w : Walked file at (Term letter z e f h) next) where
     term_here : (net_from file at).pending ≡ with_term letter z e f h (net_from file next).pending
     unfolding line_before
-    term_here = ap (λ (net : Net). net.pending) term_line
+    term_here = ap (λ (net : Net). net.pending) w.net
 
     conditions_here : (net_from file at).conditions ≡ (net_from file next).conditions
     unfolding line_before
-    conditions_here = ap (λ (net : Net). net.conditions) term_line
+    conditions_here = ap (λ (net : Net). net.conditions) w.net
 
     body_on : Body (lines_of (drop next file))
     unfolding Body
     body_on =
-        let rest = lines_of (drop next file) in subst (λ (s : Record). ByKind s ⊥ (Body rest) (Body rest)) (w.says ∙ q) (subst Body w.lines g.body)
+        let rest = lines_of (drop next file) in subst (λ (s : Option Record). ByKind s ⊥ (Body rest) (Body rest)) w.says (subst Body w.lines g.body)
 
     pub gather_room : length (net_from file start).pending.kinds ≤ 12 → count < 12
     gather_room b =
@@ -145,25 +143,27 @@ module _ {file : List ℕ} {start : ℕ} {kinds values d i k : List ℤ} {count 
           arith,
           b,
           ap (λ (c : Condition). length c.kinds) term_here,
-          taken_long kinds (net_from file at).pending.kinds (net_from file start).pending.kinds count (omega (arith, g.most, g.long.0)) g.all_kinds,
+          taken_long t.kinds (net_from file at).pending.kinds (net_from file start).pending.kinds count (omega (arith, g.most, g.long.0)) g.all_kinds,
         )
 
     pub gather_more : (letter' z' e' f' h' : ℤ) → (letter' ≡ pos letter) × (z' ≡ z) × (e' ≡ e) × (f' ≡ f) × (h' ≡ h) → count < 12
-        → Gathering file start (set kinds count letter') (set values count z') (set d count e') (set i count f') (set k count h') (count + 1) next
+        → Gathering file start
+        (record { kinds = set t.kinds count letter'; values = set t.values count z'; d = set t.d count e'; i = set t.i count f'; k = set t.k count h' })
+        (count + 1) next
     gather_more letter' z' e' f' h' same b = record {
       most = omega (arith, b);
       long = (
-        length-set kinds count letter' ∙ g.long.0,
-        length-set values count z' ∙ g.long.1,
-        length-set d count e' ∙ g.long.2,
-        length-set i count f' ∙ g.long.3,
-        length-set k count h' ∙ g.long.4,
+        length-set t.kinds count letter' ∙ g.long.0,
+        length-set t.values count z' ∙ g.long.1,
+        length-set t.d count e' ∙ g.long.2,
+        length-set t.i count f' ∙ g.long.3,
+        length-set t.k count h' ∙ g.long.4,
       );
-      all_kinds = more kinds _ _ _ (pos letter) letter' g.long.0 b (ap (λ (c : Condition). c.kinds) term_here) same.0 g.all_kinds;
-      all_values = more values _ _ _ z z' g.long.1 b (ap (λ (c : Condition). c.values) term_here) same.1 g.all_values;
-      all_d = more d _ _ _ e e' g.long.2 b (ap (λ (c : Condition). c.d) term_here) same.2 g.all_d;
-      all_i = more i _ _ _ f f' g.long.3 b (ap (λ (c : Condition). c.i) term_here) same.3 g.all_i;
-      all_k = more k _ _ _ h h' g.long.4 b (ap (λ (c : Condition). c.k) term_here) same.4 g.all_k;
+      all_kinds = more t.kinds _ _ _ (pos letter) letter' g.long.0 b (ap (λ (c : Condition). c.kinds) term_here) same.0 g.all_kinds;
+      all_values = more t.values _ _ _ z z' g.long.1 b (ap (λ (c : Condition). c.values) term_here) same.1 g.all_values;
+      all_d = more t.d _ _ _ e e' g.long.2 b (ap (λ (c : Condition). c.d) term_here) same.2 g.all_d;
+      all_i = more t.i _ _ _ f f' g.long.3 b (ap (λ (c : Condition). c.i) term_here) same.3 g.all_i;
+      all_k = more t.k _ _ _ h h' g.long.4 b (ap (λ (c : Condition). c.k) term_here) same.4 g.all_k;
       same_conditions = sym conditions_here ∙ g.same_conditions;
       body = body_on;
       on = omega (arith, g.on, w.on);
@@ -171,23 +171,21 @@ module _ {file : List ℕ} {start : ℕ} {kinds values d i k : List ℤ} {count 
     }
 
   -- no term is left
-  terms_are : (net_from file at).pending ≡ no_terms → (kind : Kind) (target : ℤ)
-      → condition_in kind target (take count kinds) (take count values) (take count d) (take count i) (take count k) ≡ headed kind target (net_from file start).pending
-  terms_are e kind target = λ t. record {
+  terms_are : (net_from file at).pending ≡ no_terms → (kind : Kind) (target : ℤ) → headed kind target (terms_in t count) ≡ headed kind target (net_from file start).pending
+  terms_are e kind target = λ x. record {
     kind = kind;
     target = target;
-    kinds = taken_all kinds _ count (ap (λ (c : Condition). take count kinds ++ c.kinds) (sym e) ∙ g.all_kinds) t;
-    values = taken_all values _ count (ap (λ (c : Condition). take count values ++ c.values) (sym e) ∙ g.all_values) t;
-    d = taken_all d _ count (ap (λ (c : Condition). take count d ++ c.d) (sym e) ∙ g.all_d) t;
-    i = taken_all i _ count (ap (λ (c : Condition). take count i ++ c.i) (sym e) ∙ g.all_i) t;
-    k = taken_all k _ count (ap (λ (c : Condition). take count k ++ c.k) (sym e) ∙ g.all_k) t;
+    kinds = taken_all t.kinds _ count (ap (λ (c : Condition). take count t.kinds ++ c.kinds) (sym e) ∙ g.all_kinds) x;
+    values = taken_all t.values _ count (ap (λ (c : Condition). take count t.values ++ c.values) (sym e) ∙ g.all_values) x;
+    d = taken_all t.d _ count (ap (λ (c : Condition). take count t.d ++ c.d) (sym e) ∙ g.all_d) x;
+    i = taken_all t.i _ count (ap (λ (c : Condition). take count t.i ++ c.i) (sym e) ∙ g.all_i) x;
+    k = taken_all t.k _ count (ap (λ (c : Condition). take count t.k ++ c.k) (sym e) ∙ g.all_k) x;
   }
 
-  pub gathered : Opened (lines_of (drop at file)) → Gathers file start kinds values d i k count at
+  pub gathered : Opened (lines_of (drop at file)) → Gathers file start t count at
   unfolding net_from
   gathered o = record {
     most = g.most;
-    long = g.long;
     terms = terms_are (opened_pending (lines_of (drop at file)) o);
     conditions = g.same_conditions;
     opened = o;

@@ -1,47 +1,50 @@
 -- The condition table of a file, from its directions and conditions. Assumes nothing.
---   directions_long   as many directions as were read
---   table_refused     the scan has refused the file
---   table_formed      its directions have been read and its conditions formed, or refused
---   one_table         two answers that keep the promise are equal
-use mathlib.Core.Path.{◌≡◌, sym, ◌∙◌, ap}
-use mathlib.Core.List.{List}
-use Prim.Native.Nat.{ℕ, ◌*◌}
+--   directions_long              as many directions as were read
+--   table_refused                the scan has refused the file
+--   n_most, each_long, rows_most there is room for its conditions and for their rows; each has a misclosure and a letter
+--   table_formed, table_failed   its directions have been read and its conditions formed, or refused
+--   one_table                    two answers that keep the promise are equal
+use mathlib.Core.Path.{◌≡◌, refl, sym, ◌∙◌, ap, subst}
+use mathlib.Core.List.{List, [], ◌∷◌}
+use Prim.Native.Nat.{ℕ, suc, ◌*◌, ◌≤◌}
+use native.Mathlib.Nat.{mul-le-mul}
 use native.Mathlib.Omega.{arith}
 use lib.IntN.{ℤ}
 use lib.ListN.{length, take}
 use lib.Seq.{length-take-le}
 use Rattle.exact.proofs.Unique.{only}
 use Rattle.reply.specs.declared.Refusal.{Refusal}
-use Rattle.reply.specs.declared.Reply.{Reply}
-use Rattle.reply.specs.declared.Reply.TheVariants.{Accepted, Refused}
-use Rattle.reply.proofs.Checking.{never}
+use Rattle.reply.specs.Reply.{Reply}
+use Rattle.reply.specs.Checks.{figure_reply}
+use Rattle.reply.proofs.Checking.{figure_replied, figure_given}
 use Rattle.text.specs.Lines.{lines_of}
 use Rattle.network.specs.Scan.{scan_reply}
-use Rattle.network.specs.Net.{Condition, Net, net_of, net_from, formed_reply, rows_of, misclosures_of, letters_of, table_reply, Tables}
+use Rattle.network.specs.Net.{Condition, Net, net_of, net_from, formed_reply, rows_of, misclosures_of, letters_of, table_reply, Tabled, Tables}
 use Rattle.network.specs.Gathered.{Directed, Forms}
-use Rattle.network.specs.declared.Tabled.{Tabled}
+use Rattle.network.specs.declared.lists.NetTable.{NetTable}
 use Rattle.network.proofs.Bounding.{scan_bounds}
+use Rattle.std.specs.Prelude.{Result, Ok, Err, IsOk}
 
 pub directions_long : {file : List ℕ} {directions q : List ℤ} {m next : ℕ} → Directed file directions q m next → length (take m directions) ≡ m
 directions_long {directions = directions} {m = m} d = length-take-le m directions (omega (arith, d.long, d.most))
 
-module _ (file : List ℕ) where
-  pub table_refused : {directions q a w : List ℤ} {letters : List ℕ} {m n : ℕ} (why : Refusal) → scan_reply file ≡ Refused why
-      → Tables (table_reply file) (net_of (lines_of file)) (record { reply = Refused why; m = m; n = n }) directions q a w letters
-  unfolding table_reply
-  table_refused why e = record {
-    answer = rw e;
-    m_most = never why;
-    n_most = never why;
-    directions_are = never why;
-    q_are = never why;
-    rows_are = never why;
-    misclosures_are = never why;
-    letters_are = never why;
-  }
+misclosures_long : (directions q : List ℤ) (cs : List Condition) → length (misclosures_of directions q cs) ≡ length cs
+unfolding misclosures_of
+misclosures_long directions q [] = refl
+misclosures_long directions q (c ∷ cs) = ap suc (misclosures_long directions q cs)
 
-  module _ (accepted : scan_reply file ≡ Accepted) {directions q a w : List ℤ} {letters : List ℕ} {m n next : ℕ} {reply : Reply} (d : Directed file directions q m next)
-      (f : Forms (take m directions) (take m q) (net_from file next).conditions reply n a w letters) where
+letters_long : (cs : List Condition) → length (letters_of cs) ≡ length cs
+unfolding letters_of
+letters_long [] = refl
+letters_long (c ∷ cs) = ap suc (letters_long cs)
+
+module _ (file : List ℕ) where
+  pub table_refused : (why : Refusal) → scan_reply file ≡ Err why → Tables (table_reply file) (net_of (lines_of file)) (Err why)
+  unfolding table_reply
+  table_refused why e = record { reply = rw e; table = λ table k. cc }
+
+  module _ (accepted : scan_reply file ≡ Ok tt) {directions q a w : List ℤ} {letters : List ℕ} {m next : ℕ} (d : Directed file directions q m next) {answer : Result ℕ Refusal}
+      (f : Forms (take m directions) (take m q) (net_from file next).conditions answer a w letters) where
     abbrev net : Net
     net = net_from file 0
 
@@ -52,32 +55,64 @@ module _ (file : List ℕ) where
         ∙ ap (λ (xs : List ℤ). of net.directions xs (net_from file next).conditions) d.q_are
         ∙ ap (of net.directions net.q) d.conditions
 
-    pub table_formed : Tables (table_reply file) (net_of (lines_of file)) (record { reply = reply; m = m; n = n }) directions q a w letters
+    replied : figure_reply answer ≡ table_reply file
     unfolding table_reply net_from
-    table_formed = record {
-      answer = f.answer ∙ to_net (λ ds gs cs. formed_reply ds gs 1 cs) ∙ rw accepted;
-      m_most = λ e. d.most;
-      n_most = λ e. omega (arith, f.count e, ap length d.conditions, (scan_bounds file accepted).n);
-      directions_are = λ e. d.directions_are;
-      q_are = λ e. d.q_are;
-      rows_are = λ e. ap (λ (k : ℕ). take (n * k) a) (sym (directions_long d)) ∙ f.rows e ∙ to_net rows_of;
-      misclosures_are = λ e. f.misclosures e ∙ to_net misclosures_of;
-      letters_are = λ e. f.letters_are e ∙ ap letters_of d.conditions;
-    }
+    replied =
+        ap figure_reply f.count
+        ∙ figure_replied (formed_reply (take m directions) (take m q) 1 (net_from file next).conditions) (length (net_from file next).conditions)
+        ∙ to_net (λ ds gs cs. formed_reply ds gs 1 cs)
+        ∙ rw accepted
+
+    module _ {n : ℕ} (formed : answer ≡ Ok n) where
+      counted : n ≡ length (net_from file next).conditions
+      counted = (figure_given (formed_reply (take m directions) (take m q) 1 (net_from file next).conditions) (length (net_from file next).conditions) (sym f.count ∙ formed)).1
+
+      pub n_most : n ≤ 24
+      unfolding net_from
+      n_most = omega (arith, counted, ap length d.conditions, (scan_bounds file accepted).n)
+
+      -- a misclosure and a letter for each condition
+      pub each_long : (length (take n w) ≡ n) × (length (take n letters) ≡ n)
+      each_long =
+          let ok : IsOk answer = rw formed refl in let cs = (net_from file next).conditions in (
+            ap (λ (k : ℕ). length (take k w)) counted ∙ ap length (f.misclosures ok) ∙ misclosures_long (take m directions) (take m q) cs ∙ sym counted,
+            ap (λ (k : ℕ). length (take k letters)) counted ∙ ap length (f.letters_are ok) ∙ letters_long cs ∙ sym counted,
+          )
+
+      pub rows_most : n * m ≤ 1536
+      rows_most = mul-le-mul {n₁ = n} {m₁ = m} {n₂ = 24} {m₂ = 64} n_most d.most
+
+      module _ (table : NetTable) (directions_here : table.directions.now ≡ take m directions) (q_here : table.q.now ≡ take m q) (a_here : table.a.now ≡ take (n * m) a)
+          (w_here : table.w.now ≡ take n w) (letters_here : table.letters.now ≡ take n letters) where
+        tabled : Tabled (net_of (lines_of file)) table
+        unfolding net_from
+        tabled =
+            let ok : IsOk answer = rw formed refl in record {
+              directions_are = directions_here ∙ d.directions_are;
+              q_are = q_here ∙ d.q_are;
+              rows_are = a_here ∙ ap (λ (k : ℕ). take (k * m) a) counted
+                  ∙ ap (λ (k : ℕ). take (length (net_from file next).conditions * k) a) (sym (directions_long d)) ∙ f.rows ok ∙ to_net rows_of;
+              misclosures_are = w_here ∙ ap (λ (k : ℕ). take k w) counted ∙ f.misclosures ok ∙ to_net misclosures_of;
+              letters_are = letters_here ∙ ap (λ (k : ℕ). take k letters) counted ∙ f.letters_are ok ∙ ap letters_of d.conditions;
+            }
+
+        pub table_formed : Tables (table_reply file) (net_of (lines_of file)) (Ok table)
+        table_formed = record { reply = ap figure_reply (sym formed) ∙ replied; table = λ other e. subst (Tabled (net_of (lines_of file))) (cc) tabled }
+
+    pub table_failed : {why : Refusal} → answer ≡ Err why → Tables (table_reply file) (net_of (lines_of file)) (Err why)
+    table_failed e = record { reply = ap figure_reply (sym e) ∙ replied; table = λ table k. cc }
 
 -- ---- two answers that keep the promise are equal: the replies, and the tables of an accepted file
-pub one_table : {rule : Reply} {net : Net} {t s : Tabled} {directions q a w directions' q' a' w' : List ℤ} {letters letters' : List ℕ}
-    → Tables rule net t directions q a w letters → Tables rule net s directions' q' a' w' letters' → (t.reply ≡ s.reply) × (t.reply ≡ Accepted
-    → (take t.m directions ≡ take s.m directions') × (take t.m q ≡ take s.m q') × (take (t.n * t.m) a ≡ take (s.n * s.m) a') × (take t.n w ≡ take s.n w')
-    × (take t.n letters ≡ take s.n letters'))
-one_table x y =
-    let same = only x.answer y.answer in (
-      same,
-      λ e. let f = sym same ∙ e in (
-        only (x.directions_are e) (y.directions_are f),
-        only (x.q_are e) (y.q_are f),
-        only (x.rows_are e) (y.rows_are f),
-        only (x.misclosures_are e) (y.misclosures_are f),
-        only (x.letters_are e) (y.letters_are f),
-      ),
-    )
+pub one_table : {rule : Reply} {net : Net} {t s : Result NetTable Refusal} → Tables rule net t → Tables rule net s
+    → (figure_reply t ≡ figure_reply s) × ((x y : NetTable) → t ≡ Ok x → s ≡ Ok y
+    → (x.directions.now ≡ y.directions.now) × (x.q.now ≡ y.q.now) × (x.a.now ≡ y.a.now) × (x.w.now ≡ y.w.now) × (x.letters.now ≡ y.letters.now))
+one_table x y = (
+  only x.reply y.reply,
+  λ i j e f. let k = x.table i e in let l = y.table j f in (
+    only k.directions_are l.directions_are,
+    only k.q_are l.q_are,
+    only k.rows_are l.rows_are,
+    only k.misclosures_are l.misclosures_are,
+    only k.letters_are l.letters_are,
+  ),
+)

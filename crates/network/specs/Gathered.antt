@@ -1,29 +1,28 @@
 -- What inner functions hand each other: the order of a file's lines, the heading that a line is, and what stands in lent lists after the directions, the
 -- terms of a condition, or all conditions have been read.
-use Rattle.std.specs.Prelude.{◌≡◌, List, [], ◌∷◌, ℕ, ◌*◌, ◌≤◌, ℤ, pos, length, take, drop}
-use Rattle.reply.specs.declared.Figure.{Figure}
-use Rattle.reply.specs.declared.Reply.{Reply}
-use Rattle.reply.specs.declared.Reply.TheVariants.{Accepted}
+use Rattle.std.specs.Prelude.{◌≡◌, List, [], ◌∷◌, ℕ, ◌*◌, ◌≤◌, ℤ, pos, length, take, drop, Ok, Result, IsOk, Some, None, Option}
 use Rattle.reply.specs.Checks.{figure_of}
-use Rattle.condition.specs.Rules.{coefficients_list}
 use Rattle.condition.specs.declared.Kind.{Kind}
 use Rattle.condition.specs.declared.Kind.TheVariants.{Angle, Side}
 use Rattle.text.specs.Lines.{lines_of}
 use Rattle.network.specs.Records.{record_of}
-use Rattle.network.specs.Net.{Condition, headed, net_from, lent_of, condition_reply, misclosure_of, formed_reply, rows_of, misclosures_of, letters_of}
+use Rattle.network.specs.Net.{Condition, headed, net_from, condition_reply, misclosure_of, formed_reply, rows_of, misclosures_of, letters_of}
+use Rattle.network.specs.declared.conditions.Asked.{Asked}
 use Rattle.network.specs.declared.conditions.Heading.{Heading}
-use Rattle.network.specs.declared.conditions.Heading.TheVariants.{Of, NoHeading}
 use Rattle.network.specs.declared.record.Record.{Record}
-use Rattle.network.specs.declared.record.Record.TheVariants.{Direction, Angles, Sides, Term, Unreadable}
+use Rattle.network.specs.declared.record.Turn.{Turn}
+use Rattle.network.specs.declared.terms.Terms.{Terms}
+use Rattle.network.specs.declared.record.Record.TheVariants.{Direction, Angles, Sides, Term}
+use Rattle.reply.specs.declared.Refusal.{Refusal}
 
 -- ---- the order of lines that the scan accepts: D lines, then C lines with their terms
 -- by what a line says: a D line, a C line, a term
-abbrev pub ByKind : Record → (direction heading term : Type 0) → Type 0
-ByKind (Direction number direction q) d h t = d
-ByKind (Angles target) d h t = h
-ByKind Sides d h t = h
-ByKind (Term letter value x i k) d h t = t
-ByKind Unreadable d h t = ⊥
+abbrev pub ByKind : Option Record → (direction heading term : Type 0) → Type 0
+ByKind (Some (Direction number direction q)) d h t = d
+ByKind (Some (Angles target)) d h t = h
+ByKind (Some Sides) d h t = h
+ByKind (Some (Term letter value x i k)) d h t = t
+ByKind None d h t = ⊥
 
 -- C lines and terms
 unfoldable pub Body : List (List ℕ) → Type 0
@@ -53,27 +52,41 @@ pub record Directed (file : List ℕ) (directions q : List ℤ) (m next : ℕ) :
   pub within : next ≤ length file
 
 -- ---- one condition
--- the kind and target of the condition that a line begins
-unfoldable pub heading_in : Record → Heading
-heading_in (Angles target) = Of Angle target
-heading_in Sides = Of Side (pos 0)
-heading_in (Direction number direction q) = NoHeading
-heading_in (Term letter value d i k) = NoHeading
-heading_in Unreadable = NoHeading
+-- the condition that a line begins, with the place of its terms
+unfoldable pub begins : Record → ℕ → Option Heading
+begins (Angles target) next = Some (record { kind = Angle; target = target; next = next })
+begins Sides next = Some (record { kind = Side; target = pos 0; next = next })
+begins (Direction number direction q) next = None
+begins (Term letter value d i k) next = None
 
-abbrev pub condition_in : Kind → ℤ → (kinds values d i k : List ℤ) → Condition
-condition_in kind target kinds values d i k = record { kind = kind; target = target; kinds = kinds; values = values; d = d; i = i; k = k }
+unfoldable pub heading_in : Option Turn → Option Heading
+heading_in (Some turn) = begins turn.said turn.next
+heading_in None = None
 
--- lists for the terms of a condition
-abbrev pub Twelve : (kinds values d i k : List ℤ) → Type 0
-Twelve kinds values d i k = (length kinds ≡ 12) × (length values ≡ 12) × (length d ≡ 12) × (length i ≡ 12) × (length k ≡ 12)
+abbrev pub condition_of : Asked → Condition
+condition_of c = record { kind = c.kind; target = c.target; kinds = c.kinds.now; values = c.values.now; d = c.d.now; i = c.i.now; k = c.k.now }
 
--- its terms, in their first places
-pub record Gathers (file : List ℕ) (start : ℕ) (kinds values d i k : List ℤ) (count next : ℕ) : Type 0 where
+-- a heading with the terms behind it
+abbrev pub condition_at : List ℕ → Heading → Condition
+condition_at file heading = headed heading.kind heading.target (net_from file heading.next).pending
+
+-- the first terms of lists, under no heading yet
+abbrev pub terms_in : Terms → (count : ℕ) → Condition
+terms_in t count =
+    record {
+      kind = Side;
+      target = pos 0;
+      kinds = take count t.kinds;
+      values = take count t.values;
+      d = take count t.d;
+      i = take count t.i;
+      k = take count t.k;
+    }
+
+-- the terms of a condition, in the first places of lists
+pub record Gathers (file : List ℕ) (start : ℕ) (t : Terms) (count next : ℕ) : Type 0 where
   pub most : count ≤ 12
-  pub long : Twelve kinds values d i k
-  pub terms : (kind : Kind) (target : ℤ)
-      → condition_in kind target (take count kinds) (take count values) (take count d) (take count i) (take count k) ≡ headed kind target (net_from file start).pending
+  pub terms : (kind : Kind) (target : ℤ) → headed kind target (terms_in t count) ≡ headed kind target (net_from file start).pending
   -- the lines behind them
   pub conditions : (net_from file next).conditions ≡ (net_from file start).conditions
   pub opened : Opened (lines_of (drop next file))
@@ -81,9 +94,9 @@ pub record Gathers (file : List ℕ) (start : ℕ) (kinds values d i k : List �
   pub within : next ≤ length file
 
 -- condition j, c, whose terms stand at a start: its figure, its row, and the lines behind it
-pub record Closes (file : List ℕ) (start : ℕ) (directions q : List ℤ) (j : ℕ) (c : Condition) (old row : List ℤ) (figure : Figure) (next : ℕ) : Type 0 where
-  pub answer : figure ≡ figure_of (condition_reply directions q j c) (misclosure_of directions q c)
-  pub list : row ≡ coefficients_list (lent_of directions q c) old
+pub record Closes (file : List ℕ) (start : ℕ) (directions q : List ℤ) (j : ℕ) (c : Condition) (w : ℤ) (next : ℕ) : Type 0 where
+  pub passed : condition_reply directions q j c ≡ Ok tt
+  pub misclosure : w ≡ misclosure_of directions q c
   pub conditions : (net_from file next).conditions ≡ (net_from file start).conditions
   pub opened : Opened (lines_of (drop next file))
   pub on : start ≤ next
@@ -95,9 +108,8 @@ Fit [] = Unit {0}
 Fit (c ∷ cs) = (length c.kinds ≤ 12) × Fit cs
 
 -- ---- all conditions
-pub record Forms (directions q : List ℤ) (cs : List Condition) (reply : Reply) (n : ℕ) (a w : List ℤ) (letters : List ℕ) : Type 0 where
-  pub answer : reply ≡ formed_reply directions q 1 cs
-  pub count : reply ≡ Accepted → n ≡ length cs
-  pub rows : reply ≡ Accepted → take (n * length directions) a ≡ rows_of directions q cs
-  pub misclosures : reply ≡ Accepted → take n w ≡ misclosures_of directions q cs
-  pub letters_are : reply ≡ Accepted → take n letters ≡ letters_of cs
+pub record Forms (directions q : List ℤ) (cs : List Condition) (answer : Result ℕ Refusal) (a w : List ℤ) (letters : List ℕ) : Type 0 where
+  pub count : answer ≡ figure_of (formed_reply directions q 1 cs) (length cs)
+  pub rows : IsOk answer → take (length cs * length directions) a ≡ rows_of directions q cs
+  pub misclosures : IsOk answer → take (length cs) w ≡ misclosures_of directions q cs
+  pub letters_are : IsOk answer → take (length cs) letters ≡ letters_of cs

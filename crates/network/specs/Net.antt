@@ -1,10 +1,9 @@
 -- The net of a file whose scan is accepted: its directions with their q, and its conditions with their terms, in the order of their lines.
-use Rattle.std.specs.Prelude.{◌≡◌, List, [], ◌∷◌, ◌++◌, ℕ, suc, ◌*◌, ◌≤◌, ℤ, pos, length, take, drop}
+use Rattle.std.specs.Prelude.{◌≡◌, List, [], ◌∷◌, ◌++◌, ℕ, suc, ℤ, pos, length, drop, Ok, Err, Result, Some, None, Option}
 use Rattle.exact.specs.Tabulate.{tabulate}
 use Rattle.reply.specs.declared.Refusal.{Refusal}
 use Rattle.reply.specs.declared.Refusal.TheVariants.{Coefficient, Misclosure}
-use Rattle.reply.specs.declared.Reply.{Reply}
-use Rattle.reply.specs.declared.Reply.TheVariants.{Accepted, Refused}
+use Rattle.reply.specs.Reply.{Reply}
 use Rattle.reply.specs.Checks.{◌and_then◌, figure_reply, figure_value}
 use Rattle.condition.specs.declared.Kind.{Kind}
 use Rattle.condition.specs.declared.Kind.TheVariants.{Angle, Side}
@@ -12,9 +11,9 @@ use Rattle.condition.specs.Rules.{Lent, lent, coefficients_reply, coefficients_l
 use Rattle.text.specs.Lines.{lines_of}
 use Rattle.network.specs.Records.{letter_A, letter_S, record_of}
 use Rattle.network.specs.Scan.{scan_reply}
-use Rattle.network.specs.declared.Tabled.{Tabled}
+use Rattle.network.specs.declared.lists.NetTable.{NetTable}
 use Rattle.network.specs.declared.record.Record.{Record}
-use Rattle.network.specs.declared.record.Record.TheVariants.{Direction, Angles, Sides, Term, Unreadable}
+use Rattle.network.specs.declared.record.Record.TheVariants.{Direction, Angles, Sides, Term}
 
 -- a condition with the field lists of its terms, as `condition` takes them
 pub record Condition : Type 0 where
@@ -44,15 +43,15 @@ with_term letter value d i k c =
     record { kind = c.kind; target = c.target; kinds = pos letter ∷ c.kinds; values = value ∷ c.values; d = d ∷ c.d; i = i ∷ c.i; k = k ∷ c.k }
 
 -- a line before the others. Only a C line takes up the terms that follow it, up to the next line of another kind
-unfoldable pub line_before : Record → Net → Net
-line_before (Direction number direction q) net =
+unfoldable pub line_before : Option Record → Net → Net
+line_before (Some (Direction number direction q)) net =
     record { directions = direction ∷ net.directions; q = q ∷ net.q; pending = no_terms; conditions = net.conditions }
-line_before (Angles target) net =
+line_before (Some (Angles target)) net =
     record { directions = net.directions; q = net.q; pending = no_terms; conditions = headed Angle target net.pending ∷ net.conditions }
-line_before Sides net = record { directions = net.directions; q = net.q; pending = no_terms; conditions = headed Side (pos 0) net.pending ∷ net.conditions }
-line_before (Term letter value d i k) net =
+line_before (Some Sides) net = record { directions = net.directions; q = net.q; pending = no_terms; conditions = headed Side (pos 0) net.pending ∷ net.conditions }
+line_before (Some (Term letter value d i k)) net =
     record { directions = net.directions; q = net.q; pending = with_term letter value d i k net.pending; conditions = net.conditions }
-line_before Unreadable net = record { directions = net.directions; q = net.q; pending = no_terms; conditions = net.conditions }
+line_before None net = record { directions = net.directions; q = net.q; pending = no_terms; conditions = net.conditions }
 
 unfoldable pub net_of : List (List ℕ) → Net
 net_of [] = record { directions = []; q = []; pending = no_terms; conditions = [] }
@@ -64,8 +63,8 @@ net_from file start = net_of (lines_of (drop start file))
 
 -- ---- "Then conditions in order, 4 before 5"; the place is the condition's number
 unfoldable pub refused_as : Refusal → Reply → Reply
-refused_as why Accepted = Accepted
-refused_as why (Refused other) = Refused why
+refused_as why (Ok _) = Ok tt
+refused_as why (Err other) = Err why
 
 unfoldable pub zeros : ℕ → List ℤ
 zeros n = tabulate n (λ i. pos 0)
@@ -81,7 +80,7 @@ module _ (directions q : List ℤ) where
 
   -- from condition j on
   unfoldable pub formed_reply : ℕ → List Condition → Reply
-  formed_reply j [] = Accepted
+  formed_reply j [] = Ok tt
   formed_reply j (c ∷ cs) = condition_reply j c and_then formed_reply (suc j) cs
 
   unfoldable pub row_of : Condition → List ℤ
@@ -111,13 +110,14 @@ letters_of (c ∷ cs) = letter_of_kind c.kind ∷ letters_of cs
 unfoldable pub table_reply : List ℕ → Reply
 table_reply file = let net = net_of (lines_of file) in scan_reply file and_then formed_reply net.directions net.q 1 net.conditions
 
--- what `table` hands on: the table of an accepted net stands in the first places of the lists
-pub record Tables (rule : Reply) (net : Net) (t : Tabled) (directions q a w : List ℤ) (letters : List ℕ) : Type 0 where
-  pub answer : t.reply ≡ rule
-  pub m_most : t.reply ≡ Accepted → t.m ≤ 64
-  pub n_most : t.reply ≡ Accepted → t.n ≤ 24
-  pub directions_are : t.reply ≡ Accepted → take t.m directions ≡ net.directions
-  pub q_are : t.reply ≡ Accepted → take t.m q ≡ net.q
-  pub rows_are : t.reply ≡ Accepted → take (t.n * t.m) a ≡ rows_of net.directions net.q net.conditions
-  pub misclosures_are : t.reply ≡ Accepted → take t.n w ≡ misclosures_of net.directions net.q net.conditions
-  pub letters_are : t.reply ≡ Accepted → take t.n letters ≡ letters_of net.conditions
+-- what `table` hands on: the table of an accepted net
+pub record Tabled (net : Net) (table : NetTable) : Type 0 where
+  pub directions_are : table.directions.now ≡ net.directions
+  pub q_are : table.q.now ≡ net.q
+  pub rows_are : table.a.now ≡ rows_of net.directions net.q net.conditions
+  pub misclosures_are : table.w.now ≡ misclosures_of net.directions net.q net.conditions
+  pub letters_are : table.letters.now ≡ letters_of net.conditions
+
+pub record Tables (rule : Reply) (net : Net) (answer : Result NetTable Refusal) : Type 0 where
+  pub reply : figure_reply answer ≡ rule
+  pub table : (table : NetTable) → answer ≡ Ok table → Tabled net table

@@ -1,28 +1,30 @@
 -- Refusals 1 to 3 of a network file: "File length comes first. Then lines in order; in a line 1, then 2, then 3."
-use Rattle.std.specs.Prelude.{Bool, cond, false, not, ◌||◌, ◌&&◌, List, [], ◌∷◌, ℕ, suc, ◌+◌, ◌≤◌, eqb, ltb, leb, ℤ, pos, length}
+use Rattle.std.specs.Prelude.{Bool, false, not, ◌||◌, ◌&&◌, List, [], ◌∷◌, ℕ, suc, ◌+◌, ◌≤◌, eqb, ltb, leb, ℤ, pos, length, Ok, Err, Some, None, Option}
 use Rattle.reply.specs.declared.Refusal.TheVariants.{Malformed, Count, OutOfRange}
-use Rattle.reply.specs.declared.Reply.{Reply}
-use Rattle.reply.specs.declared.Reply.TheVariants.{Accepted, Refused}
+use Rattle.reply.specs.Reply.{Reply}
 use Rattle.reply.specs.Checks.{refuse_if, ◌and_then◌}
 use Rattle.text.specs.Parts.{parted}
 use Rattle.text.specs.Lines.{LF}
-use Rattle.network.specs.Records.{letter_A, letter_S, letter_P, letter_F, letter_L, letter_R, record_of}
+use Rattle.network.specs.Records.{letter_P, letter_F, letter_L, letter_R, record_of}
+use Rattle.condition.specs.declared.Kind.{Kind}
+use Rattle.condition.specs.declared.Kind.TheVariants.{Angle, Side}
 use Rattle.condition.specs.Terms.{term_fault}
 use Rattle.condition.specs.Rules.{target_fault}
 use Rattle.direction.specs.Ranges.{out_of_range}
 use Rattle.exact.specs.Outside.{outside}
 use Rattle.network.specs.declared.record.Record.{Record}
-use Rattle.network.specs.declared.record.Record.TheVariants.{Direction, Angles, Sides, Term, Unreadable}
+use Rattle.network.specs.declared.record.Record.TheVariants.{Direction, Angles, Sides, Term}
 use Rattle.network.specs.declared.scan.Counts.{Counts}
 
 abbrev pub none : Counts
-none = record { m = 0; n = 0; terms = 0; heading = 0 }
+none = record { m = 0; n = 0; terms = 0; heading = None }
 
 -- ---- 1: "line malformed, unknown, or under the wrong heading"
 -- "Under A: P [..] and F [..]. Under S: L or R"
-unfoldable pub belongs : ℕ → ℕ → Bool
-belongs heading letter =
-    cond (eqb heading letter_A) (eqb letter letter_P || eqb letter letter_F) (cond (eqb heading letter_S) (eqb letter letter_L || eqb letter letter_R) false)
+unfoldable pub belongs : Option Kind → ℕ → Bool
+belongs (Some Angle) letter = eqb letter letter_P || eqb letter letter_F
+belongs (Some Side) letter = eqb letter letter_L || eqb letter letter_R
+belongs None letter = false
 
 -- ---- 2: "counts of directions, conditions or terms; D out of turn"
 -- "number (1, 2, 3 and on)", "m: 1 to 64"
@@ -54,20 +56,20 @@ term_reply place c letter value d i k =
     and_then (refuse_if (leb 12 c.terms) (Count place)
     and_then refuse_if (term_fault (pos c.m) letter value d i k) (OutOfRange place))
 
-unfoldable pub line_reply : ℕ → Counts → Record → Reply
-line_reply place c (Direction number direction q) = direction_reply place c number direction q
-line_reply place c (Angles target) = angles_reply place c target
-line_reply place c Sides = sides_reply place c
-line_reply place c (Term letter value d i k) = term_reply place c letter value d i k
-line_reply place c Unreadable = Refused (Malformed place)
+unfoldable pub line_reply : ℕ → Counts → Option Record → Reply
+line_reply place c (Some (Direction number direction q)) = direction_reply place c number direction q
+line_reply place c (Some (Angles target)) = angles_reply place c target
+line_reply place c (Some Sides) = sides_reply place c
+line_reply place c (Some (Term letter value d i k)) = term_reply place c letter value d i k
+line_reply place c None = Err (Malformed place)
 
 -- what has been counted after it
-unfoldable pub counted : Counts → Record → Counts
-counted c (Direction number direction q) = record { m = c.m + 1; n = c.n; terms = c.terms; heading = c.heading }
-counted c (Angles target) = record { m = c.m; n = c.n + 1; terms = 0; heading = letter_A }
-counted c Sides = record { m = c.m; n = c.n + 1; terms = 0; heading = letter_S }
-counted c (Term letter value d i k) = record { m = c.m; n = c.n; terms = c.terms + 1; heading = c.heading }
-counted c Unreadable = c
+unfoldable pub counted : Counts → Option Record → Counts
+counted c (Some (Direction number direction q)) = record { m = c.m + 1; n = c.n; terms = c.terms; heading = c.heading }
+counted c (Some (Angles target)) = record { m = c.m; n = c.n + 1; terms = 0; heading = Some Angle }
+counted c (Some Sides) = record { m = c.m; n = c.n + 1; terms = 0; heading = Some Side }
+counted c (Some (Term letter value d i k)) = record { m = c.m; n = c.n; terms = c.terms + 1; heading = c.heading }
+counted c None = c
 
 -- ---- the end of the file
 -- "at end of file, place 0, where m = 0, n = 0 and n above m are tested too"
@@ -84,7 +86,7 @@ if_last (part ∷ parts) end more = more
 
 -- the file's parts in order: each but the last is a line with its LF; the last is what stands after the last LF
 unfoldable pub scanned : ℕ → Counts → List (List ℕ) → Reply
-scanned place c [] = Accepted
+scanned place c [] = Ok tt
 scanned place c (part ∷ parts) =
     if_last parts
     -- "A last line without LF is 1"

@@ -1,49 +1,44 @@
 // Each condition's terms through `condition`: its row of coefficients and its misclosure, or refusal 4 or 5 with the condition's number; and its kind's letter.
-ghost use Rattle.std.specs.Prelude.{◌≡◌, ◌≤◌, length, drop};
+ghost use Rattle.std.specs.Prelude.{◌≡◌, ◌≤◌, length, drop, MatchResult, Err};
 ghost use Rattle.text.specs.Lines.{lines_of};
 ghost use Rattle.reply.specs.Checks.{figure_of};
 ghost use Rattle.condition.specs.Rules.{coefficients_list};
-ghost use Rattle.network.specs.Net.{headed, lent_of, condition_reply, misclosure_of, letter_of_kind, net_from};
-ghost use Rattle.network.specs.Turns.{Stands};
-ghost use Rattle.network.specs.Gathered.{condition_in, heading_in, Body, Opened, Fit, Closes, Forms};
+ghost use Rattle.network.specs.Net.{lent_of, condition_reply, misclosure_of, letter_of_kind, net_from};
+ghost use Rattle.network.specs.Turns.{turn_at};
+ghost use Rattle.network.specs.Gathered.{condition_of, condition_at, heading_in, Body, Opened, Fit, Closes, Forms};
 
-use crate::record::Record;
+use crate::record::{Record, Run, Turn};
 use crate::terms;
+use crate::terms::Terms;
 use condition::Kind;
-use reply::{Figure, Refusal, Reply};
+use reply::Refusal;
 
-// The heading that a line is, or none.
-#[derive(Clone, Copy)]
-pub enum Heading {
-    Of { kind: Kind, target: i64 },
-    NoHeading,
+// A C line: the kind of its condition, the target, which is 0 for a side condition, and where its terms start.
+#[derive(Clone, Copy, Debug, PartialEq, Eq)]
+pub struct Heading {
+    pub kind: Kind,
+    pub target: i64,
+    pub next: usize,
 }
 
-fn heading_of(said: Record) -> Heading
-    ensures { result ≡ heading_in said }
+// The heading that a line is, if it is one.
+#[tactic(auto, unfolding(crate::specs::Gathered::begins, crate::specs::Gathered::heading_in))]
+fn heading_of(turn: Option<Turn>) -> Option<Heading>
+    ensures { result ≡ heading_in turn }
 {
+    let Turn { said, next } = turn?;
     match said {
-        Record::Angles { target } => Heading::Of {
+        Record::Angles { target } => Some(Heading {
             kind: Kind::Angle,
             target,
-        },
-        Record::Sides => Heading::Of {
+            next,
+        }),
+        Record::Sides => Some(Heading {
             kind: Kind::Side,
             target: 0,
-        },
-        Record::Direction {
-            number: _,
-            direction: _,
-            q: _,
-        } => Heading::NoHeading,
-        Record::Term {
-            letter: _,
-            value: _,
-            d: _,
-            i: _,
-            k: _,
-        } => Heading::NoHeading,
-        Record::Unreadable => Heading::NoHeading,
+            next,
+        }),
+        Record::Direction { .. } | Record::Term { .. } => None,
     }
 }
 
@@ -57,164 +52,135 @@ fn letter_of(kind: Kind) -> u8
     }
 }
 
+// A condition as `condition` takes it.
+#[derive(Clone, Copy)]
+pub struct Asked<'a> {
+    pub kind: Kind,
+    pub target: i64,
+    pub kinds: &'a [i64],
+    pub values: &'a [i64],
+    pub d: &'a [i64],
+    pub i: &'a [i64],
+    pub k: &'a [i64],
+}
+
 // Condition j: its coefficients, into its row, and its misclosure; or 4, or 5.
-fn form(
-    directions: &[i64],
-    q: &[i64],
-    kind: Kind,
-    target: i64,
-    kinds: &[i64],
-    values: &[i64],
-    d: &[i64],
-    i: &[i64],
-    k: &[i64],
-    row: &mut [i64],
-    j: u64,
-) -> Figure
+fn form(directions: &[i64], q: &[i64], c: Asked, row: &mut [i64], j: u64) -> Result<i64, Refusal>
     requires { length row.old ≡ length directions.now }
     ensures figure { result ≡ figure_of
-        (condition_reply directions.now q.now j
-        (condition_in kind target kinds.now values.now d.now i.now k.now))
-        (misclosure_of directions.now q.now
-        (condition_in kind target kinds.now values.now d.now i.now k.now)) }
-    ensures list { row.new ≡ coefficients_list
-        (lent_of directions.now q.now
-        (condition_in kind target kinds.now values.now d.now i.now k.now)) row.old }
+        (condition_reply directions.now q.now j (condition_of c.entry))
+        (misclosure_of directions.now q.now (condition_of c.entry)) }
+    ensures list { row.new ≡ coefficients_list (lent_of directions.now q.now (condition_of c.entry)) row.old }
 {
-    let checked = condition::coefficients(directions, q, kind, target, kinds, values, d, i, k, row);
-    if let Reply::Refused(_) = checked {
-        return Figure::Refused(Refusal::Coefficient(j));
-    }
-    let closed = condition::misclosure(directions, q, kind, target, kinds, values, d, i, k);
-    match closed {
-        Figure::Value(w) => Figure::Value(w),
-        Figure::Refused(_) => Figure::Refused(Refusal::Misclosure(j)),
-    }
+    let formed = condition::coefficients(
+        directions, q, c.kind, c.target, c.kinds, c.values, c.d, c.i, c.k, row,
+    );
+    formed.or(Err(Refusal::Coefficient(j)))?;
+    let closed = condition::misclosure(
+        directions, q, c.kind, c.target, c.kinds, c.values, c.d, c.i, c.k,
+    );
+    closed.or(Err(Refusal::Misclosure(j)))
 }
 
-// What has become of one condition: its misclosure, or why not; and the first line after its terms: where it starts, what it says, and where the next
-// one starts.
-#[derive(Clone, Copy)]
+// The misclosure of one condition; and the first line after its terms: where it starts, and what is read there.
+#[derive(Clone, Copy, Debug, PartialEq, Eq)]
 pub struct Closed {
-    pub figure: Figure,
+    pub w: i64,
     pub at: usize,
-    pub said: Record,
-    pub next: usize,
+    pub turn: Option<Turn>,
 }
 
-// Condition j, whose terms stand at `at`.
+// Condition j, by its heading and the terms behind it.
+#[tactic(auto, using(crate::proofs::Forming::row_asked))]
 fn form_at(
     file: &[u8],
-    at: usize,
+    heading: Heading,
     directions: &[i64],
     q: &[i64],
-    kind: Kind,
-    target: i64,
     row: &mut [i64],
     j: u64,
-) -> Closed
-    requires at_in_bounds { (at ≤ length file.now) × (length (net_from file.now at).pending.kinds ≤ 12) × Body (lines_of (drop at file.now)) }
+) -> Result<Closed, Refusal>
+    requires at_in_bounds { (heading.next ≤ length file.now) × (length (net_from file.now heading.next).pending.kinds ≤ 12)
+        × Body (lines_of (drop heading.next file.now)) }
     requires row_len { length row.old ≡ length directions.now }
-    ensures closed { Closes file.now at directions.now q.now j (headed kind target (net_from file.now at).pending)
-        row.old row.new result.figure result.at }
-    ensures after { Stands file.now result.at result.said result.next }
+    ensures list { row.new ≡ coefficients_list (lent_of directions.now q.now (condition_at file.now heading)) row.old }
+    ensures closed { MatchResult result
+        (λ closed. Closes file.now heading.next directions.now q.now j (condition_at file.now heading) closed.w closed.at × (closed.turn ≡ turn_at file.now closed.at))
+        (λ why. condition_reply directions.now q.now j (condition_at file.now heading) ≡ Err why) }
 {
-    let mut kinds = [0i64; 12];
-    let mut values = [0i64; 12];
-    let mut ds = [0i64; 12];
-    let mut is = [0i64; 12];
-    let mut ks = [0i64; 12];
-    let terms = terms::gather(file, at, &mut kinds, &mut values, &mut ds, &mut is, &mut ks);
-    let n = terms.count;
-    let figure = form(
-        directions,
-        q,
-        kind,
-        target,
-        &kinds[..n],
-        &values[..n],
-        &ds[..n],
-        &is[..n],
-        &ks[..n],
-        row,
-        j,
-    );
-    let said = terms.said;
-    Closed {
-        figure,
-        at: terms.at,
-        said,
-        next: terms.next,
-    }
+    let mut terms = Terms {
+        kinds: [0; 12],
+        values: [0; 12],
+        d: [0; 12],
+        i: [0; 12],
+        k: [0; 12],
+    };
+    let read = terms::gather(file, heading.next, &mut terms);
+    let n = read.count;
+    let c = Asked {
+        kind: heading.kind,
+        target: heading.target,
+        kinds: &terms.kinds[..n],
+        values: &terms.values[..n],
+        d: &terms.d[..n],
+        i: &terms.i[..n],
+        k: &terms.k[..n],
+    };
+    let w = form(directions, q, c, row, j)?;
+    Ok(Closed {
+        w,
+        at: read.at,
+        turn: read.turn,
+    })
 }
 
-// What has been formed: n rows, misclosures and letters, or why not.
-#[derive(Clone, Copy)]
-pub struct Formed {
-    pub reply: Reply,
-    pub n: usize,
+// Lists for what is formed of conditions: rows of coefficients, misclosures, and beside these the letters of their kinds.
+#[derive(Drop)]
+pub struct Rows {
+    pub a: [i64; 1536],
+    pub w: [i64; 24],
+    pub letters: [u8; 24],
 }
 
-// All conditions that stand at `first` and after it, in their order: rows of m coefficients into a, misclosures into w, and beside them the
-// letters of their kinds. The line at `first` has been read.
+// All conditions that stand behind the directions that have been read, in their order: rows of a coefficient for each direction, misclosures, and
+// letters; how many conditions they are.
 pub fn form_all(
     file: &[u8],
-    first: usize,
-    opening: Record,
-    behind: usize,
+    read: Run,
     directions: &[i64],
     q: &[i64],
-    a: &mut [i64],
-    w: &mut [i64],
-    letters: &mut [u8],
-) -> Formed
-    requires first_in_bounds { (first ≤ length file.now) × (length directions.now ≤ 64) × (length a.old ≡ 1536) × (length w.old ≡ 24) × (length letters.old ≡ 24) }
-    requires stands { Stands file.now first opening behind }
-    requires first_len_bound { (length (net_from file.now first).conditions ≤ 24) × Fit (net_from file.now first).conditions × Opened (lines_of (drop first file.now)) }
-    ensures { Forms directions.now q.now (net_from file.now first).conditions result.reply result.n a.new w.new letters.new }
+    rows: &mut Rows,
+) -> Result<usize, Refusal>
+    requires first_in_bounds { (read.at ≤ length file.now) × (length directions.now ≤ 64) }
+    requires opening { read.turn ≡ turn_at file.now read.at }
+    requires first_len_bound { (length (net_from file.now read.at).conditions ≤ 24) × Fit (net_from file.now read.at).conditions
+        × Opened (lines_of (drop read.at file.now)) }
+    ensures { Forms directions.now q.now (net_from file.now read.at).conditions result rows.new.a rows.new.w rows.new.letters }
 {
     let m = directions.len();
-    // where the line that says `said` starts: what is still to come is told from there
-    let mut start = first;
-    let mut said = opening;
-    let mut next = behind;
+    // For the proof alone: where the line that has been read starts. What is still to come is told from there.
+    let mut start = read.at;
+    let mut turn = read.turn;
     let mut at = 0;
     let mut n = 0;
+    // A loop that a line ends: the scan has counted the lines, but answers only whether they are refused.
     loop {
-        let heading = heading_of(said);
-        let Heading::Of { kind, target } = heading else {
-            return Formed {
-                reply: Reply::Accepted,
-                n,
-            };
+        let Some(heading) = heading_of(turn) else {
+            return Ok(n);
         };
         let closed = form_at(
             file,
-            next,
+            heading,
             directions,
             q,
-            kind,
-            target,
-            &mut a[at..at + m],
-            (n + 1) as u64,
-        );
-        let figure = closed.figure;
-        match figure {
-            Figure::Value(x) => {
-                w[n] = x;
-                letters[n] = letter_of(kind);
-            }
-            Figure::Refused(why) => {
-                return Formed {
-                    reply: Reply::Refused(why),
-                    n,
-                };
-            }
-        }
+            &mut rows.a[at..at + m],
+            n as u64 + 1,
+        )?;
+        rows.w[n] = closed.w;
+        rows.letters[n] = letter_of(heading.kind);
         at += m;
         n += 1;
         start = closed.at;
-        said = closed.said;
-        next = closed.next;
+        turn = closed.turn;
     }
 }

@@ -2,48 +2,43 @@
 ghost use Rattle.std.specs.Prelude.{◌≡◌, ◌≤◌, length};
 ghost use Rattle.text.specs.Lines.{lines_of};
 ghost use Rattle.network.specs.Net.{net_from};
-ghost use Rattle.network.specs.Turns.{Stands};
+ghost use Rattle.network.specs.Turns.{turn_at};
 ghost use Rattle.network.specs.Gathered.{Led, Directed};
 
 use crate::record;
-use crate::record::Record;
+use crate::record::{Record, Run, Turn};
 
-// How many there are, where the first line after them starts, and what it says, with the start of the next if it says something.
-#[derive(Clone, Copy)]
-pub struct Directions {
-    pub m: usize,
-    pub at: usize,
-    pub said: Record,
-    pub next: usize,
-}
-
-pub fn read(file: &[u8], directions: &mut [i64], q: &mut [i64]) -> Directions
-    requires file_len_bound { (length (net_from file.now 0).directions ≤ 64) × Led (lines_of file.now) }
-    requires directions_len { (length directions.old ≡ 64) × (length q.old ≡ 64) }
-    ensures directions { Directed file.now directions.new q.new result.m result.at }
-    ensures after { Stands file.now result.at result.said result.next }
+pub fn read(file: &[u8], directions: &mut [i64; 64], q: &mut [i64; 64]) -> Run
+    requires { (length (net_from file.now 0).directions ≤ 64) × Led (lines_of file.now) }
+    ensures directions { Directed file.now directions.new q.new result.count result.at }
+    ensures after { result.turn ≡ turn_at file.now result.at }
 {
     let mut m = 0;
     let mut start = 0;
+    // A loop that a line ends: the scan has counted the lines, but answers only whether they are refused.
+    // Not one with the other loops over lines: each takes up other fields, and a closure for that would be no plainer.
     loop {
         let turn = record::read(file, start);
-        let said = turn.said;
-        let Record::Direction {
-            number: _,
-            direction: x,
-            q: g,
-        } = said
+        let Some(
+            Turn {
+                said: Record::Direction {
+                    direction,
+                    q: weight,
+                    ..
+                },
+                next,
+            },
+        ) = turn
         else {
-            return Directions {
-                m,
+            return Run {
+                count: m,
                 at: start,
-                said,
-                next: turn.next,
+                turn,
             };
         };
-        directions[m] = x;
-        q[m] = g;
+        directions[m] = direction;
+        q[m] = weight;
         m += 1;
-        start = turn.next;
+        start = next;
     }
 }

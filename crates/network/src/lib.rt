@@ -3,60 +3,46 @@
 
 mod conditions;
 mod directions;
+mod lists;
 mod record;
 pub mod scan;
 mod terms;
 
-ghost use Rattle.std.specs.Prelude.{◌≡◌, length};
+ghost use Rattle.std.specs.Prelude.{◌≡◌};
 ghost use Rattle.network.specs.Net.{net_of, table_reply, Tables};
 ghost use Rattle.text.specs.Lines.{lines_of};
 
-use reply::Reply;
+pub use lists::{Lists, NetTable};
+use reply::Refusal;
 
-// What has become of a file: the reply, and of an accepted one the counts of its directions and conditions.
-#[derive(Clone, Copy)]
-pub struct Tabled {
-    pub reply: Reply,
+// How many directions and how many conditions a net has.
+#[derive(Clone, Copy, Debug, PartialEq, Eq)]
+pub struct Size {
     pub m: usize,
     pub n: usize,
 }
 
-// The condition table of a file: directions and q, rows of m coefficients, misclosures, and the letters of the conditions' kinds (A or S, beside
-// the misclosures), each in the first places of its list.
-pub fn table(
-    file: &[u8],
-    directions: &mut [i64],
-    q: &mut [i64],
-    a: &mut [i64],
-    w: &mut [i64],
-    letters: &mut [u8],
-) -> Tabled
-    requires { (length directions.old ≡ 64) × (length q.old ≡ 64) × (length a.old ≡ 1536) × (length w.old ≡ 24) × (length letters.old ≡ 24) }
-    ensures { Tables (table_reply file.now) (net_of (lines_of file.now)) result directions.new q.new a.new w.new letters.new }
+// The condition table of a file, in lent lists.
+pub fn table<'a>(file: &[u8], lists: &'a mut Lists) -> Result<NetTable<'a>, Refusal>
+    ensures { Tables (table_reply file.now) (net_of (lines_of file.now)) result }
 {
-    let scanned = scan::scan(file);
-    if let Reply::Refused(why) = scanned {
-        return Tabled {
-            reply: Reply::Refused(why),
-            m: 0,
-            n: 0,
-        };
-    }
-    let read = directions::read(file, directions, q);
-    let m = read.m;
-    let said = read.said;
-    let formed = conditions::form_all(
+    scan::scan(file)?;
+    let read = directions::read(file, &mut lists.directions, &mut lists.q);
+    let m = read.count;
+    let n = conditions::form_all(
         file,
-        read.at,
-        said,
-        read.next,
-        &directions[..m],
-        &q[..m],
-        a,
-        w,
-        letters,
-    );
-    let n = formed.n;
-    let reply = formed.reply;
-    Tabled { reply, m, n }
+        read,
+        &lists.directions[..m],
+        &lists.q[..m],
+        &mut lists.rows,
+    )?;
+    // Once more as a whole, as it was lent: the borrow checker does not cover its parts one by one.
+    let rows = &lists.rows;
+    Ok(NetTable {
+        directions: &lists.directions[..m],
+        q: &lists.q[..m],
+        a: &rows.a[..n * m],
+        w: &rows.w[..n],
+        letters: &rows.letters[..n],
+    })
 }

@@ -1,16 +1,13 @@
 // One line of the network file as a record: what it says, before any count, heading or range is looked at. It is read once, from its letter to its LF.
 ghost use Rattle.std.specs.Prelude.{◌≡◌, ◌+◌, ◌≤◌, length, get_or};
-ghost use Rattle.text.specs.Parts.{place_from};
-ghost use Rattle.text.specs.Lines.{LF};
 ghost use Rattle.text.specs.Fields.{TAB};
 ghost use Rattle.network.specs.Records.{letter_C};
-ghost use Rattle.network.specs.Turns.{Readable, numbers_of, record_with, numbered_at, said_at};
+ghost use Rattle.network.specs.Turns.{numbers_of, record_with, numbered_at, turn_at};
 
-use text::row::RowEnd;
 use text::{LF, MOST_DIGITS, TAB, row};
 
 // What a line says.
-#[derive(Clone, Copy)]
+#[derive(Clone, Copy, Debug, PartialEq, Eq)]
 pub enum Record {
     // D: number, direction, q.
     Direction {
@@ -24,7 +21,7 @@ pub enum Record {
     },
     // C S.
     Sides,
-    // P, F, L or R, by its letter. A field that the letter does not have is 0.
+    // P, F, L or R, by its letter, as `condition` is lent it. A field that the letter does not have is 0.
     Term {
         letter: u8,
         value: i64,
@@ -32,164 +29,119 @@ pub enum Record {
         i: i64,
         k: i64,
     },
-    // None of these.
-    Unreadable,
 }
 
-// What the line at a start says, and where the next one starts if it says something.
-#[derive(Clone, Copy)]
+// A line that says something: what, and where the next one starts.
+#[derive(Clone, Copy, Debug, PartialEq, Eq)]
 pub struct Turn {
     pub said: Record,
     pub next: usize,
 }
 
-// How many numbers the line of a letter has; C stands for a line C A, and 0 for a letter that no such line has.
-fn numbers_of(letter: u8) -> usize
+// A run of lines of one kind: how many they are, and the first line behind them: where it starts, and what is read there.
+#[derive(Clone, Copy, Debug, PartialEq, Eq)]
+pub struct Run {
+    pub count: usize,
+    pub at: usize,
+    pub turn: Option<Turn>,
+}
+
+// How many numbers the line of a letter has, if there is such a line. C stands for a line C A.
+#[tactic(auto, unfolding(crate::specs::Turns::numbers_of))]
+fn numbers_of(letter: u8) -> Option<usize>
     ensures { result ≡ numbers_of letter }
 {
-    if letter == b'D' {
-        return 3;
+    match letter {
+        b'D' => Some(3),
+        b'C' => Some(1),
+        b'P' => Some(2),
+        b'F' => Some(1),
+        b'L' | b'R' => Some(4),
+        _ => None,
     }
-    if letter == b'C' {
-        return 1;
-    }
-    if letter == b'P' {
-        return 2;
-    }
-    if letter == b'F' {
-        return 1;
-    }
-    if letter == b'L' {
-        return 4;
-    }
-    if letter == b'R' {
-        return 4;
-    }
-    0
 }
 
 // The record of a letter and the numbers x.
+#[tactic(auto, unfolding(crate::specs::Turns::record_with))]
 fn record_with(letter: u8, x: &[i64]) -> Record
     requires { length x.now ≡ 4 }
     ensures { result ≡ record_with letter x.now }
 {
-    if letter == b'D' {
-        return Record::Direction {
+    match letter {
+        b'D' => Record::Direction {
             number: x[0],
             direction: x[1],
             q: x[2],
-        };
-    }
-    if letter == b'C' {
-        return Record::Angles { target: x[0] };
-    }
-    if letter == b'P' {
-        return Record::Term {
+        },
+        b'C' => Record::Angles { target: x[0] },
+        b'P' => Record::Term {
             letter,
             value: 0,
             d: 0,
             i: x[0],
             k: x[1],
-        };
-    }
-    if letter == b'F' {
-        return Record::Term {
+        },
+        b'F' => Record::Term {
             letter,
             value: x[0],
             d: 0,
             i: 0,
             k: 0,
-        };
-    }
-    Record::Term {
-        letter,
-        value: x[0],
-        d: x[1],
-        i: x[2],
-        k: x[3],
+        },
+        _ => Record::Term {
+            letter,
+            value: x[0],
+            d: x[1],
+            i: x[2],
+            k: x[3],
+        },
     }
 }
 
 // A line of numbers, from the first of them on.
-fn numbered(file: &[u8], at: usize, letter: u8) -> Turn
+#[tactic(auto, using(crate::proofs::Recording::numbers_few, crate::proofs::Recording::numbered_zero))]
+fn numbered(file: &[u8], at: usize, letter: u8) -> Option<Turn>
     requires { at ≤ length file.now }
-    ensures said { result.said ≡ numbered_at file.now at letter }
-    ensures next { Readable result.said → result.next ≡ place_from LF file.now at + 1 }
+    ensures { result ≡ numbered_at file.now at letter }
 {
-    let count = numbers_of(letter);
+    let count = numbers_of(letter)?;
     let mut x = [0i64; 4];
-    if count == 0 {
-        return Turn {
-            said: Record::Unreadable,
-            next: at,
-        };
-    }
-    let end = row::read(MOST_DIGITS, file, at, count, &mut x);
-    let RowEnd::Next(next) = end else {
-        return Turn {
-            said: Record::Unreadable,
-            next: at,
-        };
-    };
-    Turn {
-        said: record_with(letter, &x),
-        next,
-    }
+    let next = row::read(MOST_DIGITS, file, at, count, &mut x)?;
+    let said = record_with(letter, &x);
+    Some(Turn { said, next })
 }
 
 // The C line at a start: S and the LF, or A, a tab and a number.
-fn heading(file: &[u8], start: usize) -> Turn
+#[tactic(auto, using(crate::proofs::Recording::c_lines))]
+fn heading(file: &[u8], start: usize) -> Option<Turn>
     requires { (start + 2 ≤ length file.now) × (get_or file.now (start + 1) 0 ≡ TAB) × (get_or file.now start 0 ≡ letter_C) }
-    ensures said { result.said ≡ said_at file.now start }
-    ensures next { Readable result.said → result.next ≡ place_from LF file.now start + 1 }
+    ensures { result ≡ turn_at file.now start }
 {
-    let unreadable = Turn {
-        said: Record::Unreadable,
-        next: start,
-    };
     let at = start + 2;
     if file.len() - at < 2 {
-        return unreadable;
+        return None;
     }
-    let kind = file[at];
-    let end = file[at + 1];
-    if kind == b'S' {
-        if end == LF {
-            return Turn {
-                said: Record::Sides,
-                next: at + 2,
-            };
-        }
-        return unreadable;
+    match (file[at], file[at + 1]) {
+        (b'S', LF) => Some(Turn {
+            said: Record::Sides,
+            next: at + 2,
+        }),
+        (b'A', TAB) => numbered(file, at + 2, b'C'),
+        _ => None,
     }
-    if kind == b'A' {
-        if end == TAB {
-            return numbered(file, at + 2, b'C');
-        }
-        return unreadable;
-    }
-    unreadable
 }
 
 // The line at a start, by its letter.
-pub fn read(file: &[u8], start: usize) -> Turn
+#[tactic(auto, using(crate::proofs::Recording::short_said, crate::proofs::Recording::no_tab_said, crate::proofs::Recording::numbers_said))]
+pub fn read(file: &[u8], start: usize) -> Option<Turn>
     requires { start ≤ length file.now }
-    ensures said { result.said ≡ said_at file.now start }
-    ensures next { Readable result.said → result.next ≡ place_from LF file.now start + 1 }
+    ensures { result ≡ turn_at file.now start }
 {
-    let unreadable = Turn {
-        said: Record::Unreadable,
-        next: start,
-    };
-    if file.len() - start < 2 {
-        return unreadable;
+    if file.len() - start < 2 || file[start + 1] != TAB {
+        return None;
     }
-    if file[start + 1] != TAB {
-        return unreadable;
+    match file[start] {
+        b'C' => heading(file, start),
+        letter => numbered(file, start + 2, letter),
     }
-    let letter = file[start];
-    if letter == b'C' {
-        return heading(file, start);
-    }
-    numbered(file, start + 2, letter)
 }

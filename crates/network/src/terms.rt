@@ -1,63 +1,55 @@
 // The terms of one condition, from the line after its C line on.
-ghost use Rattle.std.specs.Prelude.{◌≤◌, length, drop};
+ghost use Rattle.std.specs.Prelude.{◌≡◌, ◌≤◌, length, drop};
 ghost use Rattle.text.specs.Lines.{lines_of};
 ghost use Rattle.network.specs.Net.{net_from};
-ghost use Rattle.network.specs.Turns.{Stands};
-ghost use Rattle.network.specs.Gathered.{Body, Twelve, Gathers};
+ghost use Rattle.network.specs.Turns.{turn_at};
+ghost use Rattle.network.specs.Gathered.{Body, Gathers};
 
 use crate::record;
-use crate::record::Record;
+use crate::record::{Record, Run, Turn};
 
-// How many there are, where the first line after them starts, and what it says, with the start of the next if it says something.
-#[derive(Clone, Copy)]
+// Lists for the terms of a condition: their fields, as `condition` takes them.
+#[derive(Drop)]
 pub struct Terms {
-    pub count: usize,
-    pub at: usize,
-    pub said: Record,
-    pub next: usize,
+    pub kinds: [i64; 12],
+    pub values: [i64; 12],
+    pub d: [i64; 12],
+    pub i: [i64; 12],
+    pub k: [i64; 12],
 }
 
-// The terms that stand at `start`, up to the first line that is none. Their fields, as `condition` takes them, go into the first places of the lists.
-pub fn gather(
-    file: &[u8],
-    start: usize,
-    kinds: &mut [i64],
-    values: &mut [i64],
-    ds: &mut [i64],
-    is: &mut [i64],
-    ks: &mut [i64],
-) -> Terms
-    requires start_in_bounds { (start ≤ length file.now) × (length (net_from file.now start).pending.kinds ≤ 12) × Body (lines_of (drop start file.now)) }
-    requires twelve { Twelve kinds.old values.old ds.old is.old ks.old }
-    ensures terms { Gathers file.now start kinds.new values.new ds.new is.new ks.new result.count result.at }
-    ensures after { Stands file.now result.at result.said result.next }
+// The terms that stand at `start`, up to the first line that is none, into the first places of the lists.
+pub fn gather(file: &[u8], start: usize, terms: &mut Terms) -> Run
+    requires { (start ≤ length file.now) × (length (net_from file.now start).pending.kinds ≤ 12) × Body (lines_of (drop start file.now)) }
+    ensures terms { Gathers file.now start terms.new result.count result.at }
+    ensures after { result.turn ≡ turn_at file.now result.at }
 {
     let mut count = 0;
     let mut at = start;
+    // A loop that a line ends: the scan has counted the lines, but answers only whether they are refused.
     loop {
         let turn = record::read(file, at);
-        let said = turn.said;
-        let Record::Term {
-            letter,
-            value,
-            d,
-            i,
-            k,
-        } = said
+        let Some(
+            Turn {
+                said: Record::Term {
+                    letter,
+                    value,
+                    d,
+                    i,
+                    k,
+                },
+                next,
+            },
+        ) = turn
         else {
-            return Terms {
-                count,
-                at,
-                said,
-                next: turn.next,
-            };
+            return Run { count, at, turn };
         };
-        kinds[count] = letter as i64;
-        values[count] = value;
-        ds[count] = d;
-        is[count] = i;
-        ks[count] = k;
+        terms.kinds[count] = letter as i64;
+        terms.values[count] = value;
+        terms.d[count] = d;
+        terms.i[count] = i;
+        terms.k[count] = k;
         count += 1;
-        at = turn.next;
+        at = next;
     }
 }

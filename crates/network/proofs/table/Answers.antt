@@ -1,54 +1,61 @@
 -- `network::table` meets its contract. Assumes nothing.
-use mathlib.Core.Path.{◌≡◌, sym, ◌∙◌, ap, subst}
-use mathlib.Core.List.{List}
+use mathlib.Core.Path.{refl, sym, ◌∙◌, ap, subst}
 use native.Mathlib.Omega.{arith}
 use lib.ListN.{length}
 use lib.Seq.{length-take-le}
-use Rattle.reply.specs.declared.Reply.TheVariants.{Accepted}
-use Rattle.network.specs.Scan.{scan_reply}
-use Rattle.network.specs.Net.{Condition}
+use Rattle.std.proofs.lemmas.Result.{err_from_is_err_and}
 use Rattle.network.specs.Gathered.{Fit}
 use Rattle.network.proofs.Bounding.{scan_bounds}
 use Rattle.network.proofs.Leading.{file_led}
-use Rattle.network.proofs.Tables.{directions_long, table_refused, table_formed}
+use Rattle.network.proofs.Tables.{directions_long, n_most, each_long, rows_most, table_refused, table_failed, table_formed}
 use Rattle.network.proofs.table.Goals as goal
-use Rattle.network.proofs.table.Goals.{In_default, Start}
 
--- ---- a file whose scan is accepted
-module _ (c : In_default) where
-  abbrev start : Start
-  start = c.before.before.before.before.before
-
-  accepts : scan_reply start.args.file.now ≡ Accepted
-  accepts = sym c.scan-scanned.ensures.answer ∙ c.in_default.is
-
-pub returns-in-Refused : goal.returns-in-Refused
-returns-in-Refused c =
-    table_refused c.args.file.now _ (sym c.scan-scanned.ensures.answer ∙ c.in-Refused.is)
+pub returns-in_err-scan : goal.returns-in_err-scan
+returns-in_err-scan c =
+    let p = err_from_is_err_and c.from_residual.result c.from_residual.ensures.1 in
+    rw (p.1, p.2) (table_refused c.args.file.now _ (sym c.scan.ensures.answer ∙ c.in_err-scan.was))
 
 pub read-read-requires : goal.read-read-requires
 read-read-requires c =
-    let s = start (record { before = c.before.before.before; type_inv = record { letters = c.slice_known-1.given; file = c.shared_slice_known-1.given } }) in let file = s.args.file.now in let accepted = accepts (record { before = c.before.before.before; type_inv = record { letters = c.slice_known-1.given; file = c.shared_slice_known-1.given } }) in
+    let accepted = sym c.scan.ensures.answer ∙ c.in_ok-scan.was in
+    (omega (arith, (scan_bounds c.args.file.now accepted).m), file_led c.args.file.now accepted)
+
+pub form_all-requires-clause-first_len_bound : goal.form_all-requires-clause-first_len_bound
+form_all-requires-clause-first_len_bound c =
+    let d = c.read-read.ensures.directions in let room = scan_bounds c.args.file.now (sym c.scan.ensures.answer ∙ c.in_ok-scan.was) in
+    (omega (arith, room.n, ap length d.conditions), subst Fit (sym d.conditions) room.fit, d.opened)
+
+pub returns-in_err-n : goal.returns-in_err-n
+returns-in_err-n c =
+    let p = err_from_is_err_and c.from_residual-in_err-n.result c.from_residual-in_err-n.ensures.1 in
+    rw (p.1, p.2) (table_failed c.args.file.now (sym c.scan.ensures.answer ∙ c.in_ok-scan.was) c.read-read.ensures.directions c.form_all.ensures c.in_err-n.was)
+
+pub overflow_mul-result : goal.overflow_mul-result
+overflow_mul-result c =
     record {
-      file_len_bound = (omega (arith, (scan_bounds file accepted).m), file_led file accepted);
-      directions_len = (s.requires.0, s.requires.1);
+      fits = omega (arith, rows_most c.args.file.now (sym c.scan.ensures.answer ∙ c.in_ok-scan.was) c.read-read.ensures.directions c.form_all.ensures c.in_ok-n.was);
     }
 
-pub slice_bounds-form_all-end-2 : goal.slice_bounds-form_all-end-2
-slice_bounds-form_all-end-2 c = let d = c.read-read.ensures.directions in sym (length-take-le _ _ (omega (arith, d.most, d.long)))
+pub shared_ref_as_front-result-3 : goal.shared_ref_as_front-result-3
+shared_ref_as_front-result-3 c =
+    rows_most c.args.file.now (sym c.scan.ensures.answer ∙ c.in_ok-scan.was) c.read-read.ensures.directions c.form_all.ensures c.in_ok-n.was
 
-pub slice_bounds-form_all-end-4 : goal.slice_bounds-form_all-end-4
-slice_bounds-form_all-end-4 c = let d = c.read-read.ensures.directions in sym (length-take-le _ _ (omega (arith, d.most, d.q_long)))
+pub shared_ref_as_front-result-4 : goal.shared_ref_as_front-result-4
+shared_ref_as_front-result-4 c =
+    n_most c.args.file.now (sym c.scan.ensures.answer ∙ c.in_ok-scan.was) c.read-read.ensures.directions c.form_all.ensures c.in_ok-n.was
 
-pub form_all-formed-requires : goal.form_all-formed-requires
-form_all-formed-requires c =
-    let d = c.read-read.ensures.directions in let told : In_default = record { before = c.before.before.before.before.before.before.before.before.before; type_inv = record { letters = c.slice_known-1.given; file = c.shared_slice_known-1.given } } in let s = start told in let room = scan_bounds s.args.file.now (accepts told) in record {
-      first_in_bounds = (d.within, omega (arith, directions_long d, d.most), s.requires.2, s.requires.3, s.requires.4);
-      stands = c.read-read.ensures.after;
-      first_len_bound = (omega (arith, room.n, ap (λ (cs : List Condition). length cs) d.conditions), subst Fit (sym d.conditions) room.fit, d.opened);
-    }
+pub shared_ref_as_front-result-5 : goal.shared_ref_as_front-result-5
+shared_ref_as_front-result-5 c =
+    n_most c.args.file.now (sym c.scan.ensures.answer ∙ c.in_ok-scan.was) c.read-read.ensures.directions c.form_all.ensures c.in_ok-n.was
+
+pub invariant_of-result : goal.invariant_of-result
+invariant_of-result c =
+    let d = c.read-read.ensures.directions in let accepted = sym c.scan.ensures.answer ∙ c.in_ok-scan.was in
+    let most = n_most c.args.file.now accepted d c.form_all.ensures c.in_ok-n.was in let long = each_long c.args.file.now accepted d c.form_all.ensures c.in_ok-n.was in
+    let qs = length-take-le c.read-read.result.count c.read-read.new.q (omega (arith, d.q_long, d.most)) in
+    record { few = (omega (arith, directions_long d, d.most), omega (arith, long.0, most)); paired = (qs ∙ sym (directions_long d), long.1 ∙ sym long.0) }
 
 pub returns : goal.returns
 returns c =
-    let told : In_default = record { before = c.before.before.before.before.before.before.before.before.before.before.before.before.before.before; type_inv = record { letters = c.slice_known-1.given; file = c.shared_slice_known-1.given } } in
-    table_formed (start told).args.file.now (accepts told) c.read-read.ensures.directions c.form_all-formed.ensures
+    table_formed c.args.file.now (sym c.scan.ensures.answer ∙ c.in_ok-scan.was) c.read-read.ensures.directions c.form_all.ensures c.in_ok-n.was
+    _ refl refl refl refl refl

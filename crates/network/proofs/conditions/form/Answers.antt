@@ -1,77 +1,30 @@
 -- `network::conditions::form` meets its contract. Assumes nothing.
-use mathlib.Core.Path.{◌≡◌, sym, ◌∙◌, ap}
-use mathlib.Core.List.{List}
+use mathlib.Core.Path.{◌≡◌, sym, ◌∙◌}
 use borrow.Author.Rules.{rules}
-use lib.IntN.{ℤ}
-use lib.ListN.{length}
-use mir.ValLaws.{to_z-of_z}
+use Rattle.std.specs.Prelude.{Err}
 use Rattle.exact.proofs.Bound.{read_at}
-use Rattle.reply.specs.declared.Reply.TheVariants.{Accepted}
-use Rattle.reply.specs.declared.Figure.TheVariants.{Value}
-use Rattle.condition.specs.Rules.{coefficients_reply, coefficients_list, misclosure_figure}
-use Rattle.network.specs.Net.{Condition, lent_of}
-use Rattle.network.specs.Gathered.{condition_in}
-use Rattle.network.proofs.Forming.{row_refused, closing_refused, closing_accepted}
+use Rattle.reply.specs.Reply.{Figure}
+use Rattle.network.specs.Net.{lent_of}
+use Rattle.network.proofs.Forming.{row_refused, closed}
 use Rattle.network.proofs.conditions.form.Goals as goal
-use Rattle.network.proofs.conditions.form.Goals.{After-coefficients-checked, After-misclosure-closed, Start}
 
--- ---- what the operation on coefficients has said, of the condition whose terms are lent
-module _ (e : After-coefficients-checked) where
-  abbrev start : Start
-  start = e.before.before
+pub returns-in_err-or-clause-figure : goal.returns-in_err-or-clause-figure
+unfolding lent_of
+returns-in_err-or-clause-figure c =
+    let target = read_at c.args.c.target (search rules) in let r : ◌≡◌ {A = Figure} c.from_residual.result (Err c.in_err-or.field-0.0) = search rules in
+    r ∙ row_refused _ _ _ _ (c.coefficients-formed.ensures.answer ∙ rw c.requires (simp target)) (sym c.or.ensures ∙ c.in_err-or.was)
 
-  abbrev directions : List ℤ
-  directions = start.args.directions.now
+pub returns-in_err-or-clause-list : goal.returns-in_err-or-clause-list
+unfolding lent_of
+returns-in_err-or-clause-list c = c.coefficients-formed.ensures.list ∙ simp (read_at c.args.c.target (search rules))
 
-  abbrev q : List ℤ
-  q = start.args.q.now
+pub returns-clause-figure : goal.returns-clause-figure
+unfolding lent_of
+returns-clause-figure c =
+    let target = read_at c.args.c.target (search rules) in
+    c.or-2.ensures
+    ∙ closed _ _ _ _ (c.coefficients-formed.ensures.answer ∙ rw c.requires (simp target)) (sym c.or.ensures ∙ c.in_ok-or.was) (c.misclosure-closed.ensures.answer ∙ simp target)
 
-  abbrev asked : Condition
-  asked =
-      condition_in start.args.kind start.args.target start.args.kinds.now start.args.values.now start.args.d.now start.args.i.now start.args.k.now
-
-  row_reply : coefficients_reply (lent_of directions q asked) (length directions) ≡ e.coefficients-checked.result
-  unfolding lent_of
-  row_reply =
-      let f = start.ranges.target in
-      sym (e.coefficients-checked.ensures.answer ∙ rw start.requires (simp to_z-of_z))
-
-  row_list : e.coefficients-checked.new.a ≡ coefficients_list (lent_of directions q asked) start.args.row.now
-  unfolding lent_of
-  row_list = let f = start.ranges.target in e.coefficients-checked.ensures.list ∙ simp to_z-of_z
-
--- and what the one on the misclosure has said
-module _ (g : After-misclosure-closed) where
-  abbrev formed : After-coefficients-checked
-  formed = g.before.before.before
-
-  accepted : coefficients_reply (lent_of (directions formed) (q formed) (asked formed)) (length (directions formed)) ≡ Accepted
-  accepted = row_reply formed ∙ g.in_default.is
-
-  figure : misclosure_figure (lent_of (directions formed) (q formed) (asked formed)) ≡ g.misclosure-closed.result
-  unfolding lent_of
-  figure = let f = (start formed).ranges.target in sym (g.misclosure-closed.ensures.answer ∙ simp to_z-of_z)
-
-pub returns-in-Refused : goal.returns-in-Refused
-returns-in-Refused c =
-    let e = c.before.before in
-    record {
-      figure = row_refused (directions e) (q e) (start e).args.j (asked e) _ (row_reply e ∙ c.in-Refused.is);
-      list = row_list e;
-    }
-
-pub returns-in-Value : goal.returns-in-Value
-returns-in-Value c =
-    let g = c.before in let e = formed g in record {
-      figure = ap Value (read_at c.in-Value.w (search rules))
-          ∙ closing_accepted (directions e) (q e) (start e).args.j (asked e) (accepted g) c.in-Value.w (figure g ∙ c.in-Value.is);
-      list = row_list e;
-    }
-
-pub returns-in-Refused-closed : goal.returns-in-Refused-closed
-returns-in-Refused-closed c =
-    let g = c.before in let e = formed g in
-    record {
-      figure = closing_refused (directions e) (q e) (start e).args.j (asked e) (accepted g) _ (figure g ∙ c.in-Refused-closed.is);
-      list = row_list e;
-    }
+pub returns-clause-list : goal.returns-clause-list
+unfolding lent_of
+returns-clause-list c = c.coefficients-formed.ensures.list ∙ simp (read_at c.args.c.target (search rules))

@@ -1,189 +1,45 @@
 -- `network::conditions::form_all` meets its contract: what has been formed and what the conditions left give are all. Assumes nothing.
-use mathlib.Core.Path.{◌≡◌, sym, ◌∙◌, ap}
-use mathlib.Core.List.{List, ◌∷◌}
-use Prim.Native.Nat.{ℕ, ◌+◌, ◌-◌, ◌<◌, ◌≤◌}
+use mathlib.Core.Path.{sym, ◌∙◌}
 use native.Mathlib.Omega.{arith}
 use borrow.Author.Rules.{rules}
-use borrow.Rule.Slice.PartMut.{put_mid}
-use lib.IntN.{ℤ}
-use lib.ListN.{length, take, drop}
-use mir.Syntax.{w64}
-use mir.Val.{to_z, of_z}
+use Rattle.std.proofs.lemmas.Result.{err_from_is_err_and}
 use Rattle.exact.proofs.Bound.{read_at}
-use Rattle.reply.specs.Checks.{figure_of}
-use Rattle.condition.specs.Rules.{coefficients_list}
-use Rattle.condition.specs.declared.Kind.{Kind}
-use Rattle.network.specs.Net.{Condition, Net, headed, net_from, lent_of, condition_reply, misclosure_of}
-use Rattle.network.specs.Gathered.{heading_in}
-use Rattle.network.specs.declared.conditions.Heading.TheVariants.{Of}
-use Rattle.network.proofs.Walking.{Walked, walked, heading_readable, opened_rest, no_heading}
-use Rattle.network.proofs.Forming.{heading_here, same_left, formed_none, terms_fit, form_turn, form_room, part_length, form_refused, forms_refused, form_more, row_put, form_end}
+use Rattle.network.proofs.Forming.{ended, line, terms_stand, one_more_fits, room, stopped, onto}
 use Rattle.network.proofs.conditions.form_all.Goals as goal
-use Rattle.network.proofs.conditions.form_all.Goals.{After-form_at-closed, At-loop-kind, In-Of, Start}
-
-pub loop-kind-init : goal.loop-kind-init
-loop-kind-init c =
-    (formed_none _ _ _ _ _ _ c.requires.first_in_bounds.2 c.requires.first_in_bounds.3 c.requires.first_in_bounds.4 c.requires.first_len_bound.1, c.requires.first_in_bounds.0, c.requires.first_len_bound.2, c.requires.stands)
-
-pub shape_of-a-in_default : goal.shape_of-a-in_default
-shape_of-a-in_default c = c.loop-kind.invariant.0.a_long ∙ sym c.requires.first_in_bounds.2
-
-pub shape_of-w-in_default : goal.shape_of-w-in_default
-shape_of-w-in_default c = c.loop-kind.invariant.0.w_long ∙ sym c.requires.first_in_bounds.3
-
-pub shape_of-letters-in_default : goal.shape_of-letters-in_default
-shape_of-letters-in_default c = c.loop-kind.invariant.0.letters_long ∙ sym c.requires.first_in_bounds.4
 
 pub returns-in_default : goal.returns-in_default
-returns-in_default c =
-    form_end c.loop-kind.invariant.0
-    (no_heading c.args.file.now c.loop-kind.start c.loop-kind.said c.loop-kind.invariant.3.says (sym c.heading_of-heading.ensures ∙ c.in_default.is) c.loop-kind.invariant.2)
-
--- ---- a C line, with its kind and target
-module _ (c : In-Of) where
-  abbrev loop : At-loop-kind
-  loop = (record { before = c.before.before.before; type_inv = record { file = c.shared_slice_known-1.given } })
-
-  abbrev start : Start
-  start = loop.before.before.before.before
-
-  abbrev file : List ℕ
-  file = start.args.file.now
-
-  abbrev directions : List ℤ
-  directions = start.args.directions.now
-
-  abbrev q : List ℤ
-  q = start.args.q.now
-
-  abbrev next : ℕ
-  next = loop.loop-kind.next
-
-  abbrev kind : Kind
-  kind = c.in-Of.kind
-
-  abbrev target : ℤ
-  target = c.in-Of.target
-
-  told : heading_in loop.loop-kind.said ≡ Of kind target
-  told = sym c.heading_of-heading.ensures ∙ c.in-Of.is
-
-  on : Walked file loop.loop-kind.start loop.loop-kind.said next
-  on = let s = loop.loop-kind.invariant.3 in let h = heading_readable loop.loop-kind.said kind target told in walked file loop.loop-kind.start loop.loop-kind.said next s.says h (s.after h)
-
-  abbrev condition : Condition
-  condition = headed kind target (net_from file next).pending
-
-  here : (net_from file loop.loop-kind.start).conditions ≡ condition ∷ (net_from file next).conditions
-  here = ap (λ (net : Net). net.conditions) on.net ∙ heading_here loop.loop-kind.said (net_from file next) kind target told
-
-  few : length (net_from file start.args.first).conditions ≤ 24
-  few = start.requires.first_len_bound.0
-
-  narrow : length directions ≤ 64
-  narrow = start.requires.first_in_bounds.1
-
-  turn : loop.loop-kind.n < 24
-  turn = form_turn loop.loop-kind.invariant.0 here few narrow
-
-  room : loop.loop-kind.at + length directions ≤ 1536
-  room = form_room loop.loop-kind.invariant.0 here few narrow
-
-  abbrev old : List ℤ
-  old = take (loop.loop-kind.at + length directions - loop.loop-kind.at) (drop loop.loop-kind.at loop.loop-kind.a)
-
-  old_long : length old ≡ length directions
-  old_long = part_length loop.loop-kind.at (length directions) loop.loop-kind.a room loop.loop-kind.invariant.0.a_long
-
-pub overflow_add-at : goal.overflow_add-at
-overflow_add-at c = omega (arith, room c)
-
-pub offset_bounds-a-at : goal.offset_bounds-a-at
-offset_bounds-a-at c = omega (arith, room c)
-
-pub slice_bounds-form_at-count : goal.slice_bounds-form_at-count
-slice_bounds-form_at-count c = omega (arith, room c)
-
-pub slice_bounds-form_at-start : goal.slice_bounds-form_at-start
-slice_bounds-form_at-start c = slice_bounds-form_at-count c
+returns-in_default c = ended c.loop-heading.invariant (sym c.heading_of.ensures ∙ c.in_default.is)
 
 pub slice_bounds-form_at-end : goal.slice_bounds-form_at-end
-slice_bounds-form_at-end c = omega (arith, room c, (loop c).loop-kind.invariant.0.a_long)
+slice_bounds-form_at-end c =
+    let f = c.loop-heading.invariant in
+    omega (arith, room f (sym c.heading_of.ensures ∙ c.in-Some.is) c.requires.first_len_bound.0 c.requires.first_in_bounds.1, f.so_far.a_long)
 
-pub overflow_add-n : goal.overflow_add-n
-overflow_add-n c = omega (arith, turn (record { before = c.before.before; type_inv = record { file = c.shared_slice_known-1.given } }))
+pub form_at-requires-clause-at_in_bounds : goal.form_at-requires-clause-at_in_bounds
+form_at-requires-clause-at_in_bounds c = terms_stand c.loop-heading.invariant (sym c.heading_of.ensures ∙ c.in-Some.is)
 
-pub form_at-closed-requires : goal.form_at-closed-requires
-form_at-closed-requires c =
-    let k : In-Of = record { before = c.before.before; type_inv = record { file = c.shared_slice_known-1.given } } in record {
-      at_in_bounds = ((on k).within, terms_fit (loop k).loop-kind.invariant.0 (here k), opened_rest (on k) (kind k) (target k) (told k) (loop k).loop-kind.invariant.2);
-      row_len = old_long k;
-    }
+pub returns-in_err-closed : goal.returns-in_err-closed
+returns-in_err-closed c =
+    let p = err_from_is_err_and c.from_residual.result c.from_residual.ensures.1 in
+    rw (p.1, p.2)
+    (stopped c.loop-heading.invariant (sym c.heading_of.ensures ∙ c.in-Some.is) c.requires.first_len_bound.0 c.requires.first_in_bounds.1 c.in_err-closed.ensures.closed)
 
--- ---- what has been formed
-module _ (c : After-form_at-closed) where
-  abbrev line : In-Of
-  line = (record { before = c.before.before.before; type_inv = record { file = c.shared_slice_known-1.given } })
+pub bounds-rows-n : goal.bounds-rows-n
+bounds-rows-n c =
+    let f = c.loop-heading.invariant in
+    omega (arith, one_more_fits f (sym c.heading_of.ensures ∙ c.in-Some.is) c.requires.first_len_bound.0 c.requires.first_in_bounds.1, f.so_far.w_long)
 
-  asked : headed (kind line) (to_z w64 (of_z w64 (target line))) (net_from (file line) (next line)).pending ≡ condition line
-  asked = ap (λ (z : ℤ). headed (kind line) z (net_from (file line) (next line)).pending) (read_at (target line) (search rules))
+pub bounds-rows-n-in-loop-heading : goal.bounds-rows-n-in-loop-heading
+bounds-rows-n-in-loop-heading c =
+    let f = c.loop-heading.invariant in
+    omega (arith, one_more_fits f (sym c.heading_of.ensures ∙ c.in-Some.is) c.requires.first_len_bound.0 c.requires.first_in_bounds.1, f.so_far.letters_long)
 
-  wide : (loop line).loop-kind.at + length (directions line) - (loop line).loop-kind.at ≡ length (directions line)
-  wide = omega arith
+pub loop-heading-smaller : goal.loop-heading-smaller
+loop-heading-smaller c =
+    let k = c.in_ok-closed.ensures.closed in omega (arith, (line c.loop-heading.invariant (sym c.heading_of.ensures ∙ c.in-Some.is)).on, k.0.on, k.0.within)
 
-  figured : c.form_at-closed.result.figure ≡ figure_of
-      (condition_reply (directions line) (q line) ((loop line).loop-kind.n + 1) (condition line))
-      (misclosure_of (directions line) (q line) (condition line))
-  figured =
-      c.form_at-closed.ensures.closed.answer
-      ∙ ap (λ (d : Condition). figure_of (condition_reply (directions line) (q line) ((loop line).loop-kind.n + 1) d) (misclosure_of (directions line) (q line) d)) asked
-
-  listed : c.form_at-closed.new.row ≡ coefficients_list (lent_of (directions line) (q line) (condition line)) (old line)
-  listed = c.form_at-closed.ensures.closed.list ∙ ap (λ (d : Condition). coefficients_list (lent_of (directions line) (q line) d) (old line)) asked
-
-  put_back : length (put_mid (loop line).loop-kind.at ((loop line).loop-kind.at + length (directions line) - (loop line).loop-kind.at) (loop line).loop-kind.a c.form_at-closed.new.row) ≡ length (loop line).loop-kind.a
-  put_back =
-      row_put (loop line).loop-kind.invariant.0 (here line) (few line) (narrow line) c.form_at-closed.new.row (old line) _ listed (old_long line) wide
-
-pub offset_bounds-w-n : goal.offset_bounds-w-n
-offset_bounds-w-n c = let t = turn (line (record { before = c.before.before.before; type_inv = record { file = c.shared_slice_known-1.given } })) in omega (arith, t)
-
-pub bounds-w-n : goal.bounds-w-n
-bounds-w-n c = let k = line (record { before = c.before.before.before; type_inv = record { file = c.shared_slice_known-1.given } }) in omega (arith, turn k, (loop k).loop-kind.invariant.0.w_long)
-
-pub bounds-letters-n : goal.bounds-letters-n
-bounds-letters-n c = let k = line (record { before = c.before.before.before.before; type_inv = record { file = c.shared_slice_known-1.given } }) in omega (arith, turn k, (loop k).loop-kind.invariant.0.letters_long)
-
-pub shape_of-a-in-Refused : goal.shape_of-a-in-Refused
-shape_of-a-in-Refused c = let e : After-form_at-closed = record { before = c.before.before.before; type_inv = record { file = c.shared_slice_known-1.given } } in let k = line e in put_back e ∙ (loop k).loop-kind.invariant.0.a_long ∙ sym (start k).requires.first_in_bounds.2
-
-pub shape_of-w-in-Refused : goal.shape_of-w-in-Refused
-shape_of-w-in-Refused c = let k = line (record { before = c.before.before.before; type_inv = record { file = c.shared_slice_known-1.given } }) in (loop k).loop-kind.invariant.0.w_long ∙ sym (start k).requires.first_in_bounds.3
-
-pub shape_of-letters-in-Refused : goal.shape_of-letters-in-Refused
-shape_of-letters-in-Refused c = let k = line (record { before = c.before.before.before; type_inv = record { file = c.shared_slice_known-1.given } }) in (loop k).loop-kind.invariant.0.letters_long ∙ sym (start k).requires.first_in_bounds.4
-
-pub returns-in-Refused : goal.returns-in-Refused
-returns-in-Refused c =
-    let e : After-form_at-closed = record { before = c.before.before.before; type_inv = record { file = c.shared_slice_known-1.given } } in let k = line e in let why = c.in-Refused.why in
-    forms_refused why (form_refused (loop k).loop-kind.invariant.0 (here k) why (sym (figured e) ∙ c.in-Refused.is))
-
-pub overflow_add-at-in-loop-kind : goal.overflow_add-at-in-loop-kind
-overflow_add-at-in-loop-kind c = omega (arith, room (line (record { before = c.before.before.before.before; type_inv = record { file = c.shared_slice_known-1.given } })))
-
-pub overflow_add-n-in-loop-kind : goal.overflow_add-n-in-loop-kind
-overflow_add-n-in-loop-kind c = omega (arith, turn (line (record { before = c.before.before.before.before; type_inv = record { file = c.shared_slice_known-1.given } })))
-
-pub loop-kind-smaller : goal.loop-kind-smaller
-loop-kind-smaller c = let e : After-form_at-closed = record { before = c.before.before.before.before; type_inv = record { file = c.shared_slice_known-1.given } } in omega (arith, (on (line e)).on, e.form_at-closed.ensures.closed.on, e.form_at-closed.ensures.closed.within)
-
-pub loop-kind-preserved : goal.loop-kind-preserved
-loop-kind-preserved c =
-    let e : After-form_at-closed = record { before = c.before.before.before.before; type_inv = record { file = c.shared_slice_known-1.given } } in let k = line e in let l = loop k in (
-      same_left e.form_at-closed.ensures.closed.conditions
-          (form_more l.loop-kind.invariant.0 (here k) (few k) (narrow k) _ (old k) _ (listed e) (old_long k) (wide e) c.in-Value.x (sym (figured e) ∙ c.in-Value.is) _ _
-          (read_at c.in-Value.x (search rules)) c.letter_of.ensures),
-      e.form_at-closed.ensures.closed.within,
-      e.form_at-closed.ensures.closed.opened,
-      e.form_at-closed.ensures.after,
-    )
+pub loop-heading-preserved : goal.loop-heading-preserved
+loop-heading-preserved c =
+    let k = c.in_ok-closed.ensures.closed in
+    onto c.loop-heading.invariant (sym c.heading_of.ensures ∙ c.in-Some.is) c.requires.first_len_bound.0 c.requires.first_in_bounds.1
+    c.in_ok-closed.ensures.list k.0 k.1 (read_at c.in_ok-closed.closed.w (search rules)) c.letter_of.ensures

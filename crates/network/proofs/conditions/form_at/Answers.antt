@@ -1,30 +1,17 @@
 -- `network::conditions::form_at` meets its contract. Assumes nothing.
-use mathlib.Core.Path.{sym}
-use native.Mathlib.Omega.{arith}
-use lib.Seq.{length-take-le}
-use Rattle.exact.proofs.Bound.{read}
-use Rattle.network.proofs.Forming.{closes}
+use borrow.Author.Rules.{rules}
+use Rattle.std.proofs.lemmas.Result.{err_from_is_err_and}
+use Rattle.exact.proofs.Bound.{read_at}
+use Rattle.network.proofs.Forming.{closes, closing_stops}
 use Rattle.network.proofs.conditions.form_at.Goals as goal
 
-pub slice_bounds-form-end : goal.slice_bounds-form-end
-slice_bounds-form-end c = let g = c.gather-terms.ensures.terms in sym (length-take-le _ _ (omega (arith, g.most, g.long.0)))
+pub returns-in_err-w-clause-closed : goal.returns-in_err-w-clause-closed
+returns-in_err-w-clause-closed c =
+    let p = err_from_is_err_and c.from_residual.result c.from_residual.ensures.1 in
+    rw (p.1, p.2) (closing_stops c.args.heading c.gather-read.ensures.terms _ _ _ (read_at c.args.heading.target (search rules)) c.form.ensures.figure c.in_err-w.was)
 
-pub slice_bounds-form-end-2 : goal.slice_bounds-form-end-2
-slice_bounds-form-end-2 c = let g = c.gather-terms.ensures.terms in sym (length-take-le _ _ (omega (arith, g.most, g.long.1)))
-
-pub slice_bounds-form-end-3 : goal.slice_bounds-form-end-3
-slice_bounds-form-end-3 c = let g = c.gather-terms.ensures.terms in sym (length-take-le _ _ (omega (arith, g.most, g.long.2)))
-
-pub slice_bounds-form-end-4 : goal.slice_bounds-form-end-4
-slice_bounds-form-end-4 c = let g = c.gather-terms.ensures.terms in sym (length-take-le _ _ (omega (arith, g.most, g.long.3)))
-
-pub slice_bounds-form-end-5 : goal.slice_bounds-form-end-5
-slice_bounds-form-end-5 c = let g = c.gather-terms.ensures.terms in sym (length-take-le _ _ (omega (arith, g.most, g.long.4)))
-
-pub returns : goal.returns
-returns c =
-    let f = c.form-figure in let g = c.gather-terms in
-    record {
-      closed = closes g.ensures.terms (read c.ranges.target) f.ensures.figure f.ensures.list;
-      after = g.ensures.after;
-    }
+pub returns-clause-closed : goal.returns-clause-closed
+returns-clause-closed c = (
+  rw (read_at c.in_ok-w.w (search rules)) (closes c.args.heading c.gather-read.ensures.terms _ _ _ (read_at c.args.heading.target (search rules)) c.form.ensures.figure c.in_ok-w.was),
+  c.gather-read.ensures.after,
+)

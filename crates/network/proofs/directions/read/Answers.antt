@@ -1,69 +1,53 @@
 -- `network::directions::read` meets its contract: what has been read and the directions of what is left are those of the file. Assumes nothing.
-use mathlib.Core.Path.{sym, ◌∙◌, subst}
-use mathlib.Core.List.{List}
-use Prim.Native.Nat.{ℕ, ◌<◌}
+use mathlib.Core.Path.{◌≡◌, sym, ◌∙◌}
 use native.Mathlib.Omega.{arith}
 use borrow.Author.Rules.{rules}
+use lib.IntN.{ℤ}
+use Rattle.std.specs.Prelude.{None, Some}
 use Rattle.exact.proofs.Bound.{read_at}
-use Rattle.network.specs.Turns.{Readable}
-use Rattle.network.proofs.Walking.{Walked, walked, directions_stop}
-use Rattle.network.proofs.Reading.{read_none, read_room, read_more, read_all}
+use Rattle.network.specs.declared.record.Record.TheVariants.{Direction}
+use Rattle.network.proofs.Walking.{Walked, walked_as, directions_stop}
+use Rattle.network.proofs.Reading.{read_room, read_more, read_all}
 use Rattle.network.proofs.directions.read.Goals as goal
-use Rattle.network.proofs.directions.read.Goals.{At-loop-x, In-Direction}
-
-pub loop-x-init : goal.loop-x-init
-loop-x-init c = read_none _ _ _ c.requires.directions_len.0 c.requires.directions_len.1 c.requires.file_len_bound.1
-
-pub read-turn-requires : goal.read-turn-requires
-read-turn-requires c = c.loop-x.invariant.within
-
-pub shape_of-directions-in_default : goal.shape_of-directions-in_default
-shape_of-directions-in_default c = c.loop-x.invariant.long ∙ sym c.requires.directions_len.0
-
-pub shape_of-q-in_default : goal.shape_of-q-in_default
-shape_of-q-in_default c = c.loop-x.invariant.q_long ∙ sym c.requires.directions_len.1
+use Rattle.network.proofs.directions.read.Goals.{In-Some-Direction}
 
 pub returns-in_default : goal.returns-in_default
 returns-in_default c =
+    let no : (x y z : ℤ) → c.in_default.field-0.said ≡ Direction x y z → ⊥ = search rules in
     record {
-      directions = read_all c.loop-x.invariant (directions_stop c.args.file.now c.loop-x.start c.read-turn.result.said c.read-turn.ensures.said c.in_default.not-Direction c.loop-x.invariant.led);
-      after = record { says = c.read-turn.ensures.said; after = c.read-turn.ensures.next };
+      directions = read_all c.loop-direction.invariant
+          (directions_stop c.args.file.now c.loop-direction.start
+          (λ x y z next e. no x y z (let same : Some c.in_default.field-0 ≡ Some (record { said = Direction x y z; next = next }) = sym c.in_default.is ∙ c.read-turn.ensures ∙ e in cc))
+          c.loop-direction.invariant.led);
+      after = c.read-turn.ensures;
     }
 
+pub returns-in_default-2-clause-directions : goal.returns-in_default-2-clause-directions
+returns-in_default-2-clause-directions c =
+    read_all c.loop-direction.invariant
+    (directions_stop c.args.file.now c.loop-direction.start
+    (λ x y z next e. let same : None ≡ Some (record { said = Direction x y z; next = next }) = sym c.in_default.is ∙ c.read-turn.ensures ∙ e in cc)
+    c.loop-direction.invariant.led)
+
 -- ---- a D line
-module _ (c : In-Direction) where
-  abbrev loop : At-loop-x
-  loop = (record { before = c.before.before.before; type_inv = record { file = c.shared_slice_known-1.given } })
+module _ (c : In-Some-Direction) where
+  known : (number : ℤ) × (c.in-Some-Direction.field-0.said ≡ Direction number c.in-Some-Direction.direction c.in-Some-Direction.weight)
+  known = search rules
 
-  abbrev file : List ℕ
-  file = loop.args.file.now
-
-  on : Walked file loop.loop-x.start c.read-turn.result.said c.read-turn.result.next
-  on =
-      let r = c.read-turn in let h = subst Readable (sym c.in-Direction.is) tt in
-      walked file loop.loop-x.start r.result.said r.result.next r.ensures.said h (r.ensures.next h)
-
-  room : loop.loop-x.m < 64
-  room = read_room loop.loop-x.invariant on _ _ _ c.in-Direction.is loop.requires.file_len_bound.0
-
-pub offset_bounds-directions-m : goal.offset_bounds-directions-m
-offset_bounds-directions-m c = omega (arith, room c)
+  line : Walked c.args.file.now c.loop-direction.start (Direction known.0 c.in-Some-Direction.direction c.in-Some-Direction.weight) c.in-Some-Direction.next
+  line = walked_as c.read-turn.ensures c.in-Some-Direction.is known.1 (search rules)
 
 pub bounds-directions-m : goal.bounds-directions-m
-bounds-directions-m c = omega (arith, room c, (loop c).loop-x.invariant.long)
-
-pub offset_bounds-q-m : goal.offset_bounds-q-m
-offset_bounds-q-m c = omega (arith, room c)
+bounds-directions-m c = omega (arith, read_room c.loop-direction.invariant (line c) c.requires.0, c.loop-direction.invariant.long)
 
 pub bounds-q-m : goal.bounds-q-m
-bounds-q-m c = omega (arith, room c, (loop c).loop-x.invariant.q_long)
+bounds-q-m c = omega (arith, read_room c.loop-direction.invariant (line c) c.requires.0, c.loop-direction.invariant.q_long)
 
-pub overflow_add-m : goal.overflow_add-m
-overflow_add-m c = omega (arith, room c)
+pub loop-direction-smaller : goal.loop-direction-smaller
+loop-direction-smaller c = let w = line c in omega (arith, w.on, w.within)
 
-pub loop-x-smaller : goal.loop-x-smaller
-loop-x-smaller c = omega (arith, (on c).on, (on c).within)
-
-pub loop-x-preserved : goal.loop-x-preserved
-loop-x-preserved c =
-    read_more (loop c).loop-x.invariant (on c) _ _ _ c.in-Direction.is _ _ (read_at c.in-Direction.x (search rules)) (read_at c.in-Direction.g (search rules)) (room c)
+pub loop-direction-preserved : goal.loop-direction-preserved
+loop-direction-preserved c =
+    rw c.in-Some-Direction.next-is
+    (read_more c.loop-direction.invariant (line c) _ _ (read_at c.in-Some-Direction.direction (search rules)) (read_at c.in-Some-Direction.weight (search rules))
+    (read_room c.loop-direction.invariant (line c) c.requires.0))

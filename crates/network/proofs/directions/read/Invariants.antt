@@ -4,8 +4,8 @@ use lib.ListN.{length}
 use Rattle.network.proofs.Reading.{ReadTo}
 use Rattle.network.proofs.directions.read.Given as goal
 
-abbrev pub invariant-loop-x : goal.invariant-loop-x
-invariant-loop-x l = ReadTo l.file l.directions l.q l.m l.start
+abbrev pub invariant-loop-direction : goal.invariant-loop-direction
+invariant-loop-direction l = ReadTo l.file l.directions l.q l.m l.start
 
-abbrev pub decreases-loop-x : goal.decreases-loop-x
-decreases-loop-x l = length l.file - l.start
+abbrev pub decreases-loop-direction : goal.decreases-loop-direction
+decreases-loop-direction l = length l.file - l.start

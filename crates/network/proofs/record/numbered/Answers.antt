@@ -1,48 +1,19 @@
 -- `network::record::numbered` meets its contract. Assumes nothing.
-use mathlib.Core.Path.{◌≡◌, sym, ◌∙◌, ap, subst}
-use mathlib.Core.Option.{some}
-use Prim.Native.Nat.{ℕ, ◌≤◌}
-use native.Mathlib.Omega.{arith}
+use mathlib.Core.Path.{sym, ◌∙◌}
 use lib.ListN.{take}
-use Rattle.text.specs.Rows.{row_at, row_end}
-use Rattle.text.specs.declared.row.RowEnd.TheVariants.{NoRow}
 use Rattle.text.proofs.Rowing.{row_told, no_row_told}
-use Rattle.network.specs.Turns.{numbers_of}
-use Rattle.network.proofs.Recording.{numbers_most, numbered_zero, numbered_none, numbered_some}
+use Rattle.network.proofs.Recording.{numbered_none, numbered_some}
 use Rattle.network.proofs.record.numbered.Goals as goal
 
-pub returns-then-count-eq0 : goal.returns-then-count-eq0
-returns-then-count-eq0 c =
-    let a = c.args in
-    record {
-      said = numbered_zero a.file.now a.at a.letter (sym c.numbers_of-count.ensures ∙ c.if-count-eq0.true);
-      next = λ z. absurd z;
-    }
-
-pub read-end-requires : goal.read-end-requires
-read-end-requires c =
-    let most = subst (λ (k : ℕ). k ≤ 4) (sym c.numbers_of-count.ensures) (numbers_most c.args.letter) in
-    (omega arith, c.requires, omega (arith, c.if-count-eq0.false), most)
-
-pub returns-in_default : goal.returns-in_default
-returns-in_default c =
-    let a = c.args in
-    let row : row_end 11 a.file.now a.at (numbers_of a.letter) ≡ NoRow =
-    ap (row_end 11 a.file.now a.at) (sym c.numbers_of-count.ensures) ∙ sym c.read-end.ensures.end ∙ c.in_default.is in
-    record {
-      said = numbered_none a.file.now a.at a.letter (no_row_told 11 a.file.now a.at (numbers_of a.letter) row);
-      next = λ z. absurd z;
-    }
+pub returns-in_err-next : goal.returns-in_err-next
+returns-in_err-next c =
+    rw c.from_residual-in_err-next.ensures
+    (numbered_none c.args.file.now c.args.at c.args.letter (sym c.numbers_of.ensures ∙ c.in_ok-count.was)
+    (no_row_told 11 c.args.file.now c.args.at c.in_ok-count.count (sym c.read.ensures.end ∙ c.in_err-next.was)))
 
 pub returns : goal.returns
 returns c =
-    let a = c.args in
-    let r = c.read-end in let x = r.new.x in
-    let told =
-    row_told 11 a.file.now a.at c.numbers_of-count.result c.in-Next.next (take c.numbers_of-count.result x)
-    (sym r.ensures.end ∙ c.in-Next.is) r.ensures.values in
-    let row = subst (λ (k : ℕ). row_at a.file.now a.at k ≡ some (take k x)) c.numbers_of-count.ensures told.0 in record {
-      said = c.record_with.ensures
-          ∙ numbered_some a.file.now a.at a.letter x (λ z. c.if-count-eq0.false (c.numbers_of-count.ensures ∙ z)) row;
-      next = λ z. told.1;
-    }
+    let told = row_told 11 c.args.file.now c.args.at c.in_ok-count.count c.in_ok-next.next (take c.in_ok-count.count c.read.new.x)
+    (sym c.read.ensures.end ∙ c.in_ok-next.was) c.read.ensures.values in
+    rw c.record_with-said.ensures
+    (numbered_some c.args.file.now c.args.at c.args.letter (sym c.numbers_of.ensures ∙ c.in_ok-count.was) c.read.new.x told.0 told.1)

@@ -1,102 +1,14 @@
 -- `network::scan::scan` meets its contract: what is left of the file from `start` on has the reply of the whole. Assumes nothing.
-use mathlib.Core.Path.{◌≡◌, refl, sym, ◌∙◌, ap}
-use mathlib.Core.List.{List}
-use Prim.Native.Nat.{ℕ, ◌+◌, ◌<◌}
+use mathlib.Core.Path.{sym, ◌∙◌}
 use native.Mathlib.Omega.{arith}
-use borrow.Author.Tests.{lt-ltb, le-ltb}
-use lib.ListN.{length}
-use Rattle.reply.specs.declared.Reply.TheVariants.{Accepted}
-use Rattle.reply.proofs.Unique.{replies}
-use Rattle.text.specs.Parts.{place_from}
-use Rattle.text.specs.Lines.{LF}
-use Rattle.network.specs.Scan.{Low, line_reply, scanned, scan_reply}
-use Rattle.network.specs.Turns.{said_at}
-use Rattle.network.specs.declared.scan.Counts.{Counts}
-use Rattle.network.proofs.Walking.{Walked, walked}
-use Rattle.network.proofs.Scanning.{passed_more, passed_low, left, scan_none, readable, said_refused, said_accepted}
+use Rattle.network.proofs.Scanning.{scan_goes}
 use Rattle.network.proofs.scan.scan.Goals as goal
-use Rattle.network.proofs.scan.scan.Goals.{After-line_reply-checked, At-loop-start}
-
-pub returns-then-file-gt-MOST_BYTES : goal.returns-then-file-gt-MOST_BYTES
-unfolding scan_reply
-returns-then-file-gt-MOST_BYTES c = replies (rw (lt-ltb 65535 (length c.args.file.now) c.if-file-gt-MOST_BYTES.true))
-
-pub loop-start-init : goal.loop-start-init
-loop-start-init c = (omega arith, omega arith, record { m = omega arith; n = omega arith; terms = omega arith }, refl)
-
--- ---- a turn
-module _ (l : At-loop-start) where
-  abbrev file : List ℕ
-  file = l.args.file.now
-
-  abbrev start : ℕ
-  start = l.loop-start.start
-
-  abbrev place : ℕ
-  place = l.loop-start.place
-
-  abbrev counts : Counts
-  counts = l.loop-start.counts
-
-  onward : scanned place counts (left file start) ≡ scan_reply file
-  unfolding scan_reply
-  onward = rw (le-ltb 65535 (length file) (omega arith)) l.loop-start.invariant.3
-
-  low : Low counts
-  low = passed_low place counts (omega (arith, l.loop-start.invariant.1, l.loop-start.invariant.0, l.if-file-gt-MOST_BYTES.false)) l.loop-start.invariant.2
-
--- ---- a turn that has read a line and its reply
-module _ (c : After-line_reply-checked) where
-  abbrev turn : At-loop-start
-  turn = (record { before = c.before.before.before.before; type_inv = record { file = c.shared_slice_known-1.given } })
-
-  inside : start turn < length (file turn)
-  inside = c.loop-start-test.true
-
-  replied : line_reply (place turn) (counts turn) (said_at (file turn) (start turn)) ≡ c.line_reply-checked.result
-  replied = ap (line_reply (place turn) (counts turn)) (sym c.read-turn.ensures.said) ∙ sym c.line_reply-checked.ensures
-
-  module _ (e : c.line_reply-checked.result ≡ Accepted) where
-    accepted : line_reply (place turn) (counts turn) c.read-turn.result.said ≡ Accepted
-    accepted = sym c.line_reply-checked.ensures ∙ e
-
-    next : c.read-turn.result.next ≡ place_from LF (file turn) (start turn) + 1
-    next = c.read-turn.ensures.next (readable (place turn) (counts turn) c.read-turn.result.said accepted)
-
-    on : Walked (file turn) (start turn) c.read-turn.result.said c.read-turn.result.next
-    on = walked (file turn) (start turn) c.read-turn.result.said c.read-turn.result.next c.read-turn.ensures.said (readable (place turn) (counts turn) _ accepted) next
-
-pub read-turn-requires : goal.read-turn-requires
-read-turn-requires c = c.loop-start.invariant.0
-
-pub line_reply-checked-requires : goal.line_reply-checked-requires
-line_reply-checked-requires c = (low (record { before = c.before.before.before; type_inv = record { file = c.shared_slice_known-1.given } })).m
-
-pub returns-in-Refused : goal.returns-in-Refused
-returns-in-Refused c =
-    let e : After-line_reply-checked = record { before = c.before.before; type_inv = record { file = c.shared_slice_known-1.given } } in let l = turn e in
-    replies (sym (said_refused (file l) (start l) (place l) (counts l) (inside e) c.in-Refused.why (replied e ∙ c.in-Refused.is)) ∙ onward l)
-
-pub counted-counts-requires : goal.counted-counts-requires
-counted-counts-requires c = low (turn (record { before = c.before.before; type_inv = record { file = c.shared_slice_known-1.given } }))
-
-pub overflow_add-place : goal.overflow_add-place
-overflow_add-place c = let e : After-line_reply-checked = record { before = c.before.before.before; type_inv = record { file = c.shared_slice_known-1.given } } in let l = turn e in omega (arith, inside e, l.loop-start.invariant.1, l.if-file-gt-MOST_BYTES.false)
 
 pub loop-start-smaller : goal.loop-start-smaller
-loop-start-smaller c = let e : After-line_reply-checked = record { before = c.before.before.before; type_inv = record { file = c.shared_slice_known-1.given } } in let w = on e c.in_default.is in omega (arith, w.on, w.within)
+loop-start-smaller c =
+    let s = scan_goes c.args.file.now (omega arith) c.loop-start.invariant (sym c.read.ensures ∙ c.in-Some.is) (sym c.line_reply.ensures ∙ c.in_ok-line_reply.was) c.counted-counts.ensures in
+    omega (arith, s.1, s.0.within)
 
 pub loop-start-preserved : goal.loop-start-preserved
 loop-start-preserved c =
-    let e : After-line_reply-checked = record { before = c.before.before.before; type_inv = record { file = c.shared_slice_known-1.given } } in let l = turn e in let a = c.in_default.is in let w = on e a in (
-      w.within,
-      omega (arith, l.loop-start.invariant.1, w.on),
-      rw c.counted-counts.ensures (passed_more (place l) (counts l) e.read-turn.result.said l.loop-start.invariant.2),
-      said_accepted (file l) (start l) (place l) (counts l) (inside e) e.read-turn.result.said c.counted-counts.result _ e.read-turn.ensures.said c.counted-counts.ensures (next e a) (accepted e a)
-          ∙ l.loop-start.invariant.3,
-    )
-
-pub returns : goal.returns
-returns c =
-    let l : At-loop-start = record { before = c.before.before.before; type_inv = record { file = c.shared_slice_known-1.given } } in
-    replies (c.end_reply.ensures ∙ sym (scan_none (file l) (start l) (place l) (counts l) (omega arith)) ∙ onward l)
+    (scan_goes c.args.file.now (omega arith) c.loop-start.invariant (sym c.read.ensures ∙ c.in-Some.is) (sym c.line_reply.ensures ∙ c.in_ok-line_reply.was) c.counted-counts.ensures).0

@@ -1,106 +1,76 @@
 -- `network::terms::gather` meets its contract: what has been gathered and the terms of what is left are those at `start`. Assumes nothing.
-use mathlib.Core.Path.{sym, ◌∙◌, subst}
-use mathlib.Core.List.{List}
+use mathlib.Core.Path.{◌≡◌, sym, ◌∙◌}
 use Prim.Native.Nat.{ℕ, ◌<◌}
 use native.Mathlib.Omega.{arith}
 use borrow.Author.Rules.{rules}
+use lib.IntN.{ℤ}
 use mir.Syntax.{w64}
 use mir.ValLaws.{to_z_pos}
-use Rattle.exact.proofs.Bound.{read_at}
-use Rattle.network.specs.Turns.{Readable}
-use Rattle.network.proofs.Walking.{Walked, walked, terms_stop}
-use Rattle.network.proofs.Reading.{gather_none, gather_room, gather_more, gathered}
+use Rattle.std.specs.Prelude.{None, Some}
 use Rattle.std.proofs.lemmas.Int.{ints}
+use Rattle.exact.proofs.Bound.{read_at}
+use Rattle.network.specs.declared.record.Record.TheVariants.{Term}
+use Rattle.network.proofs.Walking.{Walked, walked_as, terms_stop}
+use Rattle.network.proofs.Reading.{gather_room, gather_more, gathered}
 use Rattle.network.proofs.terms.gather.Goals as goal
-use Rattle.network.proofs.terms.gather.Goals.{At-loop-letter, In-Term}
-
-pub loop-letter-init : goal.loop-letter-init
-loop-letter-init c = gather_none _ _ _ _ _ _ _ c.requires.twelve c.requires.start_in_bounds.2 c.requires.start_in_bounds.0
-
-pub read-turn-requires : goal.read-turn-requires
-read-turn-requires c = c.loop-letter.invariant.within
-
-pub shape_of-kinds-in_default : goal.shape_of-kinds-in_default
-shape_of-kinds-in_default c = c.loop-letter.invariant.long.0 ∙ sym c.requires.twelve.0
-
-pub shape_of-values-in_default : goal.shape_of-values-in_default
-shape_of-values-in_default c = c.loop-letter.invariant.long.1 ∙ sym c.requires.twelve.1
-
-pub shape_of-ds-in_default : goal.shape_of-ds-in_default
-shape_of-ds-in_default c = c.loop-letter.invariant.long.2 ∙ sym c.requires.twelve.2
-
-pub shape_of-is-in_default : goal.shape_of-is-in_default
-shape_of-is-in_default c = c.loop-letter.invariant.long.3 ∙ sym c.requires.twelve.3
-
-pub shape_of-ks-in_default : goal.shape_of-ks-in_default
-shape_of-ks-in_default c = c.loop-letter.invariant.long.4 ∙ sym c.requires.twelve.4
+use Rattle.network.proofs.terms.gather.Goals.{In-Some-Term}
 
 pub returns-in_default : goal.returns-in_default
 returns-in_default c =
+    let no : (x : ℕ) (v y z w : ℤ) → c.in_default.field-0.said ≡ Term x v y z w → ⊥ = search rules in
     record {
-      terms = gathered c.loop-letter.invariant (terms_stop c.args.file.now c.loop-letter.at c.read-turn.result.said c.read-turn.ensures.said c.in_default.not-Term c.loop-letter.invariant.body);
-      after = record { says = c.read-turn.ensures.said; after = c.read-turn.ensures.next };
+      terms = gathered c.loop-letter.invariant
+          (terms_stop c.args.file.now c.loop-letter.at
+          (λ x v y z w next e. no x v y z w (let same : Some c.in_default.field-0 ≡ Some (record { said = Term x v y z w; next = next }) = sym c.in_default.is ∙ c.read-turn.ensures ∙ e in cc))
+          c.loop-letter.invariant.body);
+      after = c.read-turn.ensures;
     }
 
--- ---- a term
-module _ (c : In-Term) where
-  abbrev loop : At-loop-letter
-  loop = (record { before = c.before.before.before; type_inv = record { file = c.shared_slice_known-1.given } })
+pub returns-in_default-2-clause-terms : goal.returns-in_default-2-clause-terms
+returns-in_default-2-clause-terms c =
+    gathered c.loop-letter.invariant
+    (terms_stop c.args.file.now c.loop-letter.at
+    (λ x v y z w next e. let same : None ≡ Some (record { said = Term x v y z w; next = next }) = sym c.in_default.is ∙ c.read-turn.ensures ∙ e in cc)
+    c.loop-letter.invariant.body)
 
-  abbrev file : List ℕ
-  file = loop.args.file.now
+-- ---- a term: `search` reads it off its pattern
+module _ (c : In-Some-Term) where
+  said : c.in-Some-Term.field-0.said ≡ Term c.in-Some-Term.letter c.in-Some-Term.value c.in-Some-Term.d c.in-Some-Term.i c.in-Some-Term.k
+  said = search rules
 
-  on : Walked file loop.loop-letter.at c.read-turn.result.said c.read-turn.result.next
-  on =
-      let r = c.read-turn in let h = subst Readable (sym c.in-Term.is) tt in
-      walked file loop.loop-letter.at r.result.said r.result.next r.ensures.said h (r.ensures.next h)
+  line : Walked c.args.file.now c.loop-letter.at (Term c.in-Some-Term.letter c.in-Some-Term.value c.in-Some-Term.d c.in-Some-Term.i c.in-Some-Term.k) c.in-Some-Term.next
+  line = walked_as c.read-turn.ensures c.in-Some-Term.is said (search rules)
 
-  room : loop.loop-letter.count < 12
-  room = gather_room loop.loop-letter.invariant on _ _ _ _ _ c.in-Term.is loop.requires.start_in_bounds.1
+  room : c.loop-letter.count < 12
+  room = gather_room c.loop-letter.invariant line c.requires.1
 
-pub offset_bounds-kinds-count : goal.offset_bounds-kinds-count
-offset_bounds-kinds-count c = omega (arith, room c)
+pub bounds-terms-count : goal.bounds-terms-count
+bounds-terms-count c = room (goal.at.bounds-terms-count c).In-Some-Term
 
-pub bounds-kinds-count : goal.bounds-kinds-count
-bounds-kinds-count c = omega (arith, room c, (loop c).loop-letter.invariant.long.0)
+pub bounds-terms-count-in-loop-letter : goal.bounds-terms-count-in-loop-letter
+bounds-terms-count-in-loop-letter c = room (goal.at.bounds-terms-count-in-loop-letter c).In-Some-Term
 
-pub offset_bounds-values-count : goal.offset_bounds-values-count
-offset_bounds-values-count c = omega (arith, room c)
+pub bounds-terms-count-in-loop-letter-2 : goal.bounds-terms-count-in-loop-letter-2
+bounds-terms-count-in-loop-letter-2 c = room (goal.at.bounds-terms-count-in-loop-letter-2 c).In-Some-Term
 
-pub bounds-values-count : goal.bounds-values-count
-bounds-values-count c = omega (arith, room c, (loop c).loop-letter.invariant.long.1)
+pub bounds-terms-count-in-loop-letter-3 : goal.bounds-terms-count-in-loop-letter-3
+bounds-terms-count-in-loop-letter-3 c = room (goal.at.bounds-terms-count-in-loop-letter-3 c).In-Some-Term
 
-pub offset_bounds-ds-count : goal.offset_bounds-ds-count
-offset_bounds-ds-count c = omega (arith, room c)
-
-pub bounds-ds-count : goal.bounds-ds-count
-bounds-ds-count c = omega (arith, room c, (loop c).loop-letter.invariant.long.2)
-
-pub offset_bounds-is-count : goal.offset_bounds-is-count
-offset_bounds-is-count c = omega (arith, room c)
-
-pub bounds-is-count : goal.bounds-is-count
-bounds-is-count c = omega (arith, room c, (loop c).loop-letter.invariant.long.3)
-
-pub offset_bounds-ks-count : goal.offset_bounds-ks-count
-offset_bounds-ks-count c = omega (arith, room c)
-
-pub bounds-ks-count : goal.bounds-ks-count
-bounds-ks-count c = omega (arith, room c, (loop c).loop-letter.invariant.long.4)
-
-pub overflow_add-count : goal.overflow_add-count
-overflow_add-count c = omega (arith, room c)
+pub bounds-terms-count-in-loop-letter-4 : goal.bounds-terms-count-in-loop-letter-4
+bounds-terms-count-in-loop-letter-4 c = room (goal.at.bounds-terms-count-in-loop-letter-4 c).In-Some-Term
 
 pub loop-letter-smaller : goal.loop-letter-smaller
-loop-letter-smaller c = omega (arith, (on c).on, (on c).within)
+loop-letter-smaller c = let w = line (goal.at.loop-letter-smaller c).In-Some-Term in omega (arith, w.on, w.within, c.in-Some-Term.next-is)
 
 pub loop-letter-preserved : goal.loop-letter-preserved
 loop-letter-preserved c =
-    gather_more (loop c).loop-letter.invariant (on c) _ _ _ _ _ c.in-Term.is _ _ _ _ _ (
-      to_z_pos w64 c.in-Term.letter (omega (arith, ints)),
-      read_at c.in-Term.value (search rules),
-      read_at c.in-Term.d (search rules),
-      read_at c.in-Term.i (search rules),
-      read_at c.in-Term.k (search rules),
+    let here = (goal.at.loop-letter-preserved c).In-Some-Term in
+    rw c.in-Some-Term.next-is
+    (gather_more c.loop-letter.invariant (line here) _ _ _ _ _ (
+      to_z_pos w64 c.in-Some-Term.letter (omega (arith, ints)),
+      read_at c.in-Some-Term.value (search rules),
+      read_at c.in-Some-Term.d (search rules),
+      read_at c.in-Some-Term.i (search rules),
+      read_at c.in-Some-Term.k (search rules),
     )
-    (room c)
+    (room here))

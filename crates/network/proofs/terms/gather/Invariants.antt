@@ -5,7 +5,7 @@ use Rattle.network.proofs.Reading.{Gathering}
 use Rattle.network.proofs.terms.gather.Given as goal
 
 abbrev pub invariant-loop-letter : goal.invariant-loop-letter
-invariant-loop-letter l = Gathering l.file l.start l.kinds l.values l.ds l.is l.ks l.count l.at
+invariant-loop-letter l = Gathering l.file l.start l.terms l.count l.at
 
 abbrev pub decreases-loop-letter : goal.decreases-loop-letter
 decreases-loop-letter l = length l.file - l.at

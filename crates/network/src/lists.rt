@@ -1,0 +1,39 @@
+// The lists that a net's condition table stands in, and the table.
+ghost use Rattle.std.specs.Prelude.{◌≡◌, ◌≤◌, length};
+
+use crate::conditions::Rows;
+
+// Lists that hold the table of any net.
+#[derive(Drop)]
+pub struct Lists {
+    pub(crate) directions: [i64; 64],
+    pub(crate) q: [i64; 64],
+    pub(crate) rows: Rows,
+}
+
+impl Lists {
+    pub fn new() -> Lists {
+        Lists {
+            directions: [0; 64],
+            q: [0; 64],
+            rows: Rows {
+                a: [0; 1536],
+                w: [0; 24],
+                letters: [0; 24],
+            },
+        }
+    }
+}
+
+// The condition table of an accepted net: directions and q, rows of a coefficient for each direction, misclosures, and beside these the letters of the
+// conditions' kinds (A or S).
+#[derive(Clone, Copy)]
+pub struct NetTable<'a> {
+    pub directions: &'a [i64],
+    pub q: &'a [i64],
+    pub a: &'a [i64],
+    pub w: &'a [i64],
+    pub letters: &'a [u8],
+    ghost few: { (length directions.now ≤ 64) × (length w.now ≤ 24) },
+    ghost paired: { (length q.now ≡ length directions.now) × (length letters.now ≡ length w.now) },
+}
