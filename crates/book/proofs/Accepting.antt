@@ -17,7 +17,6 @@ use lib.ListN.{length, get_or, length-append}
 use Rattle.exact.proofs.Filling.{tabulate_length, tabulate_at}
 use Rattle.exact.proofs.Searching.{Failed}
 use Rattle.reply.specs.declared.Refusal.TheVariants.{Malformed, Count}
-use Rattle.reply.specs.declared.Reply.TheVariants.{Accepted}
 use Rattle.reply.specs.Checks.{refuse_if, refuse_first, ◌and_then◌}
 use Rattle.reply.proofs.Checking.{both_accepted, if_accepted, none_refused, refuse_none}
 use Rattle.text.specs.Decimal.{written}
@@ -36,6 +35,7 @@ use Rattle.station.proofs.Sounding.{rescue_in}
 use Rattle.station.proofs.Tallying.{in_fields}
 use Rattle.book.specs.Lines.{letter_S, sighting_of, field_no, column, malformed, book_of, lines_reply}
 use Rattle.book.specs.Rescue.{spoiled_reply}
+use Rattle.std.specs.Prelude.{Ok}
 
 -- the text of the sighting at place h of a list
 abbrev pub sighting_text : Book → ℕ → List ℕ
@@ -43,19 +43,19 @@ sighting_text b h = letter_S ∷ signed_fields (position_at b h ∷ object_at b 
 
 module _ (file : List ℕ) where
   -- ---- lines
-  pub lines_sound : lines_reply file ≡ Accepted → Failed (malformed file) (lines_in file)
+  pub lines_sound : lines_reply file ≡ Ok tt → Failed (malformed file) (lines_in file)
   unfolding lines_reply
   lines_sound e =
       let n = lines_in file in
       none_refused n (malformed file) (λ h. Malformed (h + 1)) (both_accepted (refuse_first n (malformed file) (λ h. Malformed (h + 1))) (refuse_if (unended file) (Malformed (n + 1))) e).0
 
-  pub lines_ended : lines_reply file ≡ Accepted → unended file ≡ false
+  pub lines_ended : lines_reply file ≡ Ok tt → unended file ≡ false
   unfolding lines_reply
   lines_ended e =
       let n = lines_in file in
       if_accepted (unended file) (Malformed (n + 1)) (both_accepted (refuse_first n (malformed file) (λ h. Malformed (h + 1))) (refuse_if (unended file) (Malformed (n + 1))) e).1
 
-  pub lines_passed : Failed (malformed file) (lines_in file) → unended file ≡ false → lines_reply file ≡ Accepted
+  pub lines_passed : Failed (malformed file) (lines_in file) → unended file ≡ false → lines_reply file ≡ Ok tt
   unfolding lines_reply
   lines_passed sound ended = rw (refuse_none (lines_in file) (malformed file) (λ h. Malformed (h + 1)) sound, ended)
 
@@ -73,32 +73,32 @@ module _ (file : List ℕ) where
   sighted = tabulate_length (lines_in file) (field_no 0 file)
 
   -- a line that is read as a sighting is that sighting's text
-  pub line_text : lines_reply file ≡ Accepted → (h : ℕ) → h < lines_in file → line_no file h ≡ sighting_text (book_of file) h
+  pub line_text : lines_reply file ≡ Ok tt → (h : ℕ) → h < lines_in file → line_no file h ≡ sighting_text (book_of file) h
   unfolding book_of malformed sighting_of
   line_text e h l =
       let zs = row_of h in let line = line_no file h in
       let told = letter_told 11 letter_S 4 (omega arith) (omega arith) zs line (not_missing (sighting_of line) (lines_sound e h l)) in
       told.text ∙ ap (λ (ys : List ℤ). letter_S ∷ signed_fields ys) (four_of zs told.many) ∙ rw (field_at 0 h l, field_at 1 h l, field_at 2 h l, field_at 3 h l)
 
-  pub book_text : lines_reply file ≡ Accepted → file ≡ stacked (sightings (book_of file)) (sighting_text (book_of file))
+  pub book_text : lines_reply file ≡ Ok tt → file ≡ stacked (sightings (book_of file)) (sighting_text (book_of file))
   book_text e =
       sym (all_lines file (lines_ended e))
       ∙ order_ext (lines_in file) (λ h. line_no file h ++ line_end) (λ h. sighting_text (book_of file) h ++ line_end) (λ h l. ap (λ (s : List ℕ). s ++ line_end) (line_text e h l))
       ∙ ap (λ (n : ℕ). stacked n (sighting_text (book_of file))) (sym sighted)
 
   -- ---- a spoiled book
-  pub spoiled_passed : spoiled_reply file ≡ Accepted → (length file ≤ 65535) × (lines_reply file ≡ Accepted) × (rescue_reply (book_of file) true ≡ Accepted)
+  pub spoiled_passed : spoiled_reply file ≡ Ok tt → (length file ≤ 65535) × (lines_reply file ≡ Ok tt) × (rescue_reply (book_of file) true ≡ Ok tt)
   unfolding spoiled_reply
   spoiled_passed e =
       let a = both_accepted (refuse_if (ltb 65535 (length file)) (Count 0)) (lines_reply file and_then rescue_reply (book_of file) true) e in
       let b = both_accepted (lines_reply file) (rescue_reply (book_of file) true) a.1 in
       (ltb-false 65535 (length file) (if_accepted (ltb 65535 (length file)) (Count 0) a.0), b.0, b.1)
 
-  pub by_rescue : length file ≤ 65535 → lines_reply file ≡ Accepted → spoiled_reply file ≡ rescue_reply (book_of file) true
+  pub by_rescue : length file ≤ 65535 → lines_reply file ≡ Ok tt → spoiled_reply file ≡ rescue_reply (book_of file) true
   unfolding spoiled_reply
   by_rescue l e = rw (le-ltb 65535 (length file) l, e)
 
-  module _ (e : spoiled_reply file ≡ Accepted) where
+  module _ (e : spoiled_reply file ≡ Ok tt) where
     ranges : InRange (book_of file)
     ranges = (rescue_in (book_of file) true (spoiled_passed e).2).0
 

@@ -4,7 +4,7 @@
 --   object_most, means_most              an O line takes at most 68 bytes, the listing 1,136
 use mathlib.Core.Path.{◌≡◌, refl}
 use mathlib.Core.Bool.{Bool, true, false, cond}
-use mathlib.Core.List.{List, []}
+use mathlib.Core.List.{List, [], ◌∷◌}
 use Prim.Native.Nat.{ℕ, zero, suc, ◌+◌, ◌≤◌}
 use native.Mathlib.Numerals.{add-one}
 use native.Mathlib.Omega.{arith}
@@ -54,7 +54,7 @@ pub means_most : (sightings : ℕ) (directions pairs : List ℤ) → length (mea
 means_most sightings directions pairs =
     omega (
       arith,
-      heading_most 83 84 65 sightings (objects_seen pairs 16),
+      heading_most (83 ∷ 84 ∷ 65 ∷ []) sightings (objects_seen pairs 16) refl,
       lines_most 16 68 (object_line directions pairs) (object_most directions pairs),
       length-append (sta_line sightings (objects_seen pairs 16)) (in_order 16 (object_line directions pairs)),
     )

@@ -6,7 +6,6 @@ use Prim.Native.Nat.{ℕ}
 use Rattle.exact.specs.First.{first}
 use Rattle.exact.specs.Tabulate.{tabulate}
 use Rattle.reply.specs.declared.Refusal.TheVariants.{Malformed, Sightings, Field}
-use Rattle.reply.specs.declared.Reply.TheVariants.{Accepted, Refused}
 use Rattle.station.specs.Sightings.{lengths_fit, out_of_range}
 use Rattle.station.specs.Replies.{reply_of}
 use Rattle.station.proofs.StationFigures.{pair_of_objects, figure_9 as station-9}
@@ -21,6 +20,7 @@ use Rattle.page.specs.Page.{printed}
 use Rattle.book.specs.Lines.{sighting_of, field_no, malformed, book_of, lines_reply, book_reply}
 use Rattle.book.specs.Listing.{objects_seen, object_line, means_lines, station_listing}
 use Rattle.book.specs.File.{listing_of}
+use Rattle.std.specs.Prelude.{Ok, Err}
 
 -- S 1 1 0 0|S 1 1 1 648004000|S 1 2 0 144010000|S 1 2 1 792016000|
 abbrev pub book9 : List ℕ
@@ -44,11 +44,11 @@ sightings_9 : book_of book9 ≡ pair_of_objects 648004000 144010000 792016000
 unfolding tabulate on_first parted lines_of fields_of field_at letter_of read_digits unsigned_of plus minus numeral_within before numbers_within behind_within row_values sighting_of line_no field_no book_of
 sightings_9 = refl
 
-lines_9 : lines_reply book9 ≡ Accepted
+lines_9 : lines_reply book9 ≡ Ok tt
 unfolding first on_first parted lines_of bytes_of unended fields_of field_at letter_of read_digits unsigned_of plus minus numeral_within before numbers_within behind_within sighting_of line_no malformed lines_reply
 lines_9 = refl
 
-reply_9 : book_reply book9 ≡ Accepted
+reply_9 : book_reply book9 ≡ Ok tt
 unfolding book_reply
 reply_9 = rw (lines_9, sightings_9) station-9.0
 
@@ -56,7 +56,7 @@ means_9 : station_listing (book_of book9) ≡ listing9
 unfolding station_listing objects_seen object_line in_order digits digits_of written
 means_9 = ap station_listing sightings_9 ∙ ap₂ (means_lines 4) station-9.1.0 station-9.1.1
 
-pub figure_9 : (book_reply book9 ≡ Accepted) × (listing_of book9 ≡ listing9)
+pub figure_9 : (book_reply book9 ≡ Ok tt) × (listing_of book9 ≡ listing9)
 unfolding listing_of printed
 figure_9 = (reply_9, rw reply_9 means_9)
 
@@ -80,6 +80,6 @@ third_face =
     83 ∷ 9 ∷ 49 ∷ 9 ∷ 49 ∷ 9 ∷ 50 ∷ 9 ∷ 54 ∷ 52 ∷ 56 ∷ 48 ∷ 48 ∷ 48 ∷ 48 ∷ 48 ∷ 48 ∷ 10 ∷
     []
 
-pub refusals : (book_reply unknown ≡ Refused (Malformed 1)) × (book_reply lacks_lf ≡ Refused (Malformed 2)) × (book_reply [] ≡ Refused Sightings) × (book_reply third_face ≡ Refused (Field 2))
+pub refusals : (book_reply unknown ≡ Err (Malformed 1)) × (book_reply lacks_lf ≡ Err (Malformed 2)) × (book_reply [] ≡ Err Sightings) × (book_reply third_face ≡ Err (Field 2))
 unfolding first tabulate on_first parted lines_of bytes_of unended fields_of field_at letter_of read_digits unsigned_of plus minus numeral_within before numbers_within behind_within row_values sighting_of line_no field_no malformed book_of lines_reply book_reply lengths_fit out_of_range reply_of
 refusals = (refl, refl, refl, refl)

@@ -2,6 +2,7 @@ pub mod Entering
 pub mod Composing
 pub mod Filing
 pub mod Accepting
+pub mod Refusing
 pub mod Ordering
 pub mod Figures
 pub mod Parting

@@ -17,7 +17,6 @@ use Rattle.exact.proofs.Sum.{sum_none, sum_first, sum_ext}
 use Rattle.exact.proofs.Filling.{tabulate_length}
 use Rattle.exact.proofs.Searching.{Failed}
 use Rattle.reply.specs.declared.Refusal.TheVariants.{Field}
-use Rattle.reply.specs.declared.Reply.TheVariants.{Accepted}
 use Rattle.reply.proofs.Checking.{never}
 use Rattle.text.specs.Lines.{lines_of, lines_in, line_no, bytes_of, unended}
 use Rattle.text.specs.Rows.{row_values, missing}
@@ -34,6 +33,7 @@ use Rattle.book.specs.File.{book_listing, listing_of}
 use Rattle.book.specs.Order.{Reordered}
 use Rattle.book.proofs.Accepting.{lines_sound, lines_passed, field_at}
 use Rattle.book.proofs.Filing.{book_passed, by_station}
+use Rattle.std.specs.Prelude.{Ok}
 
 -- ---- how many bytes lines have
 abbrev size : List (List ℕ) → ℕ → ℤ
@@ -67,7 +67,7 @@ module _ {file file' : List ℕ} (o : Reordered file file') where
   same_length l = omega (arith, l, same_bytes, bytes_most file, ltb-false (bytes_of (lines_of file')) (length file') o.ended)
 
   -- ---- what they say
-  pub lines_same : lines_reply file ≡ Accepted → lines_reply file' ≡ Accepted
+  pub lines_same : lines_reply file ≡ Ok tt → lines_reply file' ≡ Ok tt
   lines_same e = lines_passed file' (moved (lines_sound file e)) o.ended
     where
       moved : Failed (malformed file) n → Failed (malformed file') (lines_in file')
@@ -107,7 +107,7 @@ module _ {file file' : List ℕ} (o : Reordered file file') where
       here : (h : ℕ) → h < length (column 0 file) → h < n
       here h l = omega (arith, l, sized 0 file)
 
-  station_same : reply_of (book_of file) 16 16 ≡ Accepted → reply_of (book_of file') 16 16 ≡ Accepted
+  station_same : reply_of (book_of file) 16 16 ≡ Ok tt → reply_of (book_of file') 16 16 ≡ Ok tt
   station_same e =
       let none : List ℤ = replicate 16 (pos 0) in
       sym (order_free sightings_same none none (reply_of (book_of file) 16 16) (reply_of (book_of file') 16 16) _ _ _ _ (answers_kept refl refl refl) (answers_kept refl refl refl) (λ h f. never (Field h) (sym f ∙ e))).0 ∙ e
@@ -118,9 +118,9 @@ module _ {file file' : List ℕ} (o : Reordered file file') where
       let q = sightings_same in
       λ t. means_lines (q.positions_long t) (directions (counts_rearranged q t) (readings_rearranged q t)) (pair_counts (counts_rearranged q t))
 
-  pub order_free_book : book_reply file ≡ Accepted → (book_reply file' ≡ Accepted) × (listing_of file' ≡ listing_of file)
+  pub order_free_book : book_reply file ≡ Ok tt → (book_reply file' ≡ Ok tt) × (listing_of file' ≡ listing_of file)
   unfolding listing_of
   order_free_book e =
       let passed = book_passed file e in
-      let e' : book_reply file' ≡ Accepted = by_station file' (same_length passed.0) (lines_same passed.1) ∙ station_same passed.2 in
+      let e' : book_reply file' ≡ Ok tt = by_station file' (same_length passed.0) (lines_same passed.1) ∙ station_same passed.2 in
       (e', ap₂ printed (e' ∙ sym e) listing_same)

@@ -9,7 +9,6 @@ use Prim.Native.Nat.{ℕ, ◌<◌, ◌≤◌}
 use native.Mathlib.Omega.{arith}
 use lib.ListN.{length}
 use Rattle.reply.specs.declared.Refusal.TheVariants.{Field}
-use Rattle.reply.specs.declared.Reply.TheVariants.{Accepted, Refused}
 use Rattle.text.specs.Lines.{lines_in, line_no}
 use Rattle.text.proofs.Lining.{signed_fields}
 use Rattle.station.specs.Sightings.{sightings}
@@ -22,8 +21,9 @@ use Rattle.book.specs.Rescue.{spoiled_reply, part_of}
 use Rattle.book.proofs.Accepting.{lines_ended, sighted, line_text, by_rescue}
 use Rattle.book.proofs.Ordering.{same_length, lines_same, sightings_same}
 use Rattle.book.proofs.Rescuing.{kept_book, kept_lines}
+use Rattle.std.specs.Prelude.{Ok, Err}
 
-pub reordered_by : (file file' : List ℕ) → lines_reply file ≡ Accepted → lines_reply file' ≡ Accepted → Rearranged (book_of file) (book_of file') → Reordered file file'
+pub reordered_by : (file file' : List ℕ) → lines_reply file ≡ Ok tt → lines_reply file' ≡ Ok tt → Rearranged (book_of file) (book_of file') → Reordered file file'
 reordered_by file file' e e' q = record {
   from = q.from;
   to = q.to;
@@ -49,8 +49,8 @@ reordered_by file file' e e' q = record {
         ∙ (λ t. letter_S ∷ signed_fields (q.position_is h k t ∷ q.object_is h k t ∷ q.face_is h k t ∷ q.reading_is h k t ∷ []))
         ∙ sym (line_text file e (q.from h) m)
 
-module _ {file file' : List ℕ} (o : Reordered file file') (e : lines_reply file ≡ Accepted) where
-  pub spoiled_same : length file ≤ 65535 → ((h : ℕ) → spoiled_reply file ≡ Refused (Field h) → ⊥) → spoiled_reply file' ≡ spoiled_reply file
+module _ {file file' : List ℕ} (o : Reordered file file') (e : lines_reply file ≡ Ok tt) where
+  pub spoiled_same : length file ≤ 65535 → ((h : ℕ) → spoiled_reply file ≡ Err (Field h) → ⊥) → spoiled_reply file' ≡ spoiled_reply file
   spoiled_same l other =
       let own = by_rescue file l e in
       by_rescue file' (same_length o l) (lines_same o e)

@@ -9,7 +9,6 @@ use native.Mathlib.Omega.{arith}
 use lib.ListN.{length, get_or}
 use Rattle.exact.specs.First.{first}
 use Rattle.exact.specs.Tabulate.{tabulate}
-use Rattle.reply.specs.declared.Reply.TheVariants.{Accepted}
 use Rattle.text.specs.Parts.{on_first, parted}
 use Rattle.text.specs.Lines.{lines_of, line_no, bytes_of, unended}
 use Rattle.text.specs.Fields.{fields_of, field_at, letter_of}
@@ -27,6 +26,7 @@ use Rattle.book.specs.Lines.{sighting_of, field_no, malformed, book_of, lines_re
 use Rattle.book.specs.Rescue.{spoiled_reply, x_line, part_of}
 use Rattle.book.proofs.Accepting.{sighting_text, by_rescue}
 use Rattle.book.proofs.Rescuing.{kept_text, dropped_text}
+use Rattle.std.specs.Prelude.{Ok}
 
 -- S 1 1 0 0|S 1 2 0 144010000|S 1 1 1 648004000|S 1 2 0 144010000|S 1 2 1 792016000|
 abbrev pub spoiled_book : List ℕ
@@ -57,7 +57,7 @@ its_sightings : book_of spoiled_book ≡ doubled_left
 unfolding tabulate on_first parted lines_of fields_of field_at letter_of read_digits unsigned_of plus minus numeral_within before numbers_within behind_within row_values sighting_of line_no field_no book_of
 its_sightings = refl
 
-its_lines : lines_reply spoiled_book ≡ Accepted
+its_lines : lines_reply spoiled_book ≡ Ok tt
 unfolding first on_first parted lines_of bytes_of unended fields_of field_at letter_of read_digits unsigned_of plus minus numeral_within before numbers_within behind_within sighting_of line_no malformed lines_reply
 its_lines = refl
 
@@ -75,5 +75,5 @@ its_dropped =
     ∙ ap (λ (b : Book). in_order (length (ordinals b)) (λ m. x_line (get_or (ordinals b) m 0) (get_or (reasons b) m 0))) its_sightings
     ∙ (λ t. in_order (length (doubled.2 t)) (λ m. x_line (get_or (doubled.2 t) m 0) (get_or (doubled.3 t) m 0)))
 
-pub rescued : (spoiled_reply spoiled_book ≡ Accepted) × (part_of Kept spoiled_book ≡ kept_part) × (part_of Dropped spoiled_book ≡ dropped_part)
+pub rescued : (spoiled_reply spoiled_book ≡ Ok tt) × (part_of Kept spoiled_book ≡ kept_part) × (part_of Dropped spoiled_book ≡ dropped_part)
 rescued = (by_rescue spoiled_book (omega arith) its_lines ∙ ap (λ (b : Book). rescue_reply b true) its_sightings ∙ doubled.0, its_kept, its_dropped)

@@ -21,8 +21,7 @@ use Rattle.exact.specs.Gather.{gather}
 use Rattle.exact.proofs.Filling.{tabulate_at, tabulate_is}
 use Rattle.exact.proofs.Gathering.{rank, nth, gather_rank, gather_at, nth_in, rank_in}
 use Rattle.reply.specs.declared.Refusal.TheVariants.{Malformed, Count, Spread}
-use Rattle.reply.specs.declared.Reply.{Reply}
-use Rattle.reply.specs.declared.Reply.TheVariants.{Accepted, Refused}
+use Rattle.reply.specs.Reply.{Reply}
 use Rattle.reply.specs.Checks.{refuse_if, refuse_first, ◌and_then◌}
 use Rattle.reply.proofs.Checking.{if_accepted, if_refused, refused_by, refused_after, refused_as}
 use Rattle.text.specs.Lines.{lines_in, unended}
@@ -40,6 +39,7 @@ use Rattle.book.specs.Lines.{sighting_of, field_no, column, malformed, book_of, 
 use Rattle.book.specs.Rescue.{spoiled_reply, kept_line, x_line, dropped_line, part_of, SoundBook}
 use Rattle.book.proofs.Accepting.{lines_sound, lines_ended, lines_passed, sighted, sighting_text, book_text, spoiled_passed, by_rescue}
 use Rattle.book.proofs.Filing.{book_passed, by_station}
+use Rattle.std.specs.Prelude.{Ok, Err}
 
 -- ---- those lines of a book at which a test holds
 module _ (file : List ℕ) (t : ℕ → Bool) where
@@ -68,7 +68,7 @@ module _ (file : List ℕ) (t : ℕ → Bool) where
   unfolding book_of
   sifted_book = rw (column_from 0, column_from 1, column_from 2, column_from 3, sighted file)
 
-  pub sifted_lines : lines_reply file ≡ Accepted → lines_reply (sifted file t) ≡ Accepted
+  pub sifted_lines : lines_reply file ≡ Ok tt → lines_reply (sifted file t) ≡ Ok tt
   unfolding malformed
   sifted_lines e = lines_passed (sifted file t) (λ m l. sound m (omega (arith, l, sifted_count file t))) (sifted_ended file t)
     where
@@ -87,11 +87,11 @@ module _ (file : List ℕ) where
   pub kept_book : book_of (part_of Kept file) ≡ kept (book_of file)
   kept_book = ap book_of is_sifted ∙ sifted_book file (is_kept (book_of file))
 
-  pub kept_lines : lines_reply file ≡ Accepted → lines_reply (part_of Kept file) ≡ Accepted
+  pub kept_lines : lines_reply file ≡ Ok tt → lines_reply (part_of Kept file) ≡ Ok tt
   kept_lines e = rw is_sifted (sifted_lines file (is_kept (book_of file)) e)
 
   -- each part by the lists that `station` answers
-  pub kept_text : lines_reply file ≡ Accepted → part_of Kept file ≡ stacked (sightings (kept (book_of file))) (sighting_text (kept (book_of file)))
+  pub kept_text : lines_reply file ≡ Ok tt → part_of Kept file ≡ stacked (sightings (kept (book_of file))) (sighting_text (kept (book_of file)))
   kept_text e = book_text (part_of Kept file) (kept_lines e) ∙ ap (λ (b : Book). stacked (sightings b) (sighting_text b)) kept_book
 
   pub dropped_text : let b = book_of file in part_of Dropped file ≡ in_order (length (ordinals b)) (λ m. x_line (get_or (ordinals b) m 0) (get_or (reasons b) m 0))
@@ -125,7 +125,7 @@ module _ (file : List ℕ) where
       by_test true q = refl
       by_test false q = absurd (omega (arith, rank_in (is_dropped b) h (sightings b) (omega (arith, l, sighted file)) (ap not q), dropped_long b, ap length e))
 
-  pub whole : lines_reply file ≡ Accepted → ordinals (book_of file) ≡ [] → (part_of Kept file ≡ file) × (part_of Dropped file ≡ [])
+  pub whole : lines_reply file ≡ Ok tt → ordinals (book_of file) ≡ [] → (part_of Kept file ≡ file) × (part_of Dropped file ≡ [])
   unfolding part_of dropped_line
   whole p e = (
     is_sifted ∙ sifted_all file (is_kept (book_of file)) (lines_ended file p) (none_dropped e),
@@ -133,14 +133,14 @@ module _ (file : List ℕ) where
   )
 
 -- ---- of a book that is accepted
-module _ (file : List ℕ) (e : spoiled_reply file ≡ Accepted) where
+module _ (file : List ℕ) (e : spoiled_reply file ≡ Ok tt) where
   abbrev rest : List ℕ
   rest = part_of Kept file
 
   short : length rest ≤ 65535
   short = omega (arith, kept_short file, (spoiled_passed file e).0)
 
-  lines : lines_reply rest ≡ Accepted
+  lines : lines_reply rest ≡ Ok tt
   lines = kept_lines file (spoiled_passed file e).1
 
   pub kept_reply : book_reply rest ≡ reply_of (kept (book_of file)) 16 16
@@ -153,14 +153,14 @@ module _ (file : List ℕ) (e : spoiled_reply file ≡ Accepted) where
       by_sound (inl a) = inl (kept_reply ∙ a)
       by_sound (inr x) = inr (x.0, x.1, kept_reply ∙ x.2)
 
-  pub kept_again : (spoiled_reply rest ≡ Accepted) × (part_of Kept rest ≡ rest) × (part_of Dropped rest ≡ [])
+  pub kept_again : (spoiled_reply rest ≡ Ok tt) × (part_of Kept rest ≡ rest) × (part_of Dropped rest ≡ [])
   kept_again =
       let a = again (book_of file) true (spoiled_passed file e).2 in let w = whole rest lines (ap ordinals (kept_book file) ∙ a.2) in
       (by_rescue rest short lines ∙ ap (λ (b : Book). rescue_reply b true) (kept_book file) ∙ a.0, w.0, w.1)
 
 -- ---- of a book that is sound
 module _ (file : List ℕ) where
-  lines_refused : (p o : ℕ) → lines_reply file ≡ Refused (Spread p o) → ⊥
+  lines_refused : (p o : ℕ) → lines_reply file ≡ Err (Spread p o) → ⊥
   unfolding lines_reply
   lines_refused p o e = by_check (refused_by (refuse_first n (malformed file) (λ h. Malformed (h + 1))) (refuse_if (unended file) (Malformed (n + 1))) e)
     where
@@ -170,12 +170,12 @@ module _ (file : List ℕ) where
       other : (line : ℕ) → Malformed line ≡ Spread p o → ⊥
       other line f = let z : ◌≡◌ {A = ℕ} 0 1 = cc in omega arith
 
-      by_check : (refuse_first n (malformed file) (λ h. Malformed (h + 1)) ≡ Refused (Spread p o)) ⊎ (refuse_if (unended file) (Malformed (n + 1)) ≡ Refused (Spread p o)) → ⊥
+      by_check : (refuse_first n (malformed file) (λ h. Malformed (h + 1)) ≡ Err (Spread p o)) ⊎ (refuse_if (unended file) (Malformed (n + 1)) ≡ Err (Spread p o)) → ⊥
       by_check (inl f) = other _ (refused_as n (malformed file) (λ h. Malformed (h + 1)) (Spread p o) f)
       by_check (inr f) = other _ (if_refused (unended file) (Malformed (n + 1)) (Spread p o) f)
 
   -- 26 comes after the length and the lines
-  spread_last : (p o : ℕ) → book_reply file ≡ Refused (Spread p o) → (length file ≤ 65535) × (lines_reply file ≡ Accepted) × (reply_of (book_of file) 16 16 ≡ Refused (Spread p o))
+  spread_last : (p o : ℕ) → book_reply file ≡ Err (Spread p o) → (length file ≤ 65535) × (lines_reply file ≡ Ok tt) × (reply_of (book_of file) 16 16 ≡ Err (Spread p o))
   unfolding book_reply
   spread_last p o e = by_length (refused_after (refuse_if (ltb 65535 (length file)) (Count 0)) (lines_reply file and_then reply_of (book_of file) 16 16) e)
     where
@@ -185,21 +185,21 @@ module _ (file : List ℕ) where
       r : Reply
       r = reply_of (book_of file) 16 16
 
-      by_lines : refuse_if long (Count 0) ≡ Accepted → (lines_reply file ≡ Refused (Spread p o)) ⊎ ((lines_reply file ≡ Accepted) × (r ≡ Refused (Spread p o)))
-          → (length file ≤ 65535) × (lines_reply file ≡ Accepted) × (r ≡ Refused (Spread p o))
+      by_lines : refuse_if long (Count 0) ≡ Ok tt → (lines_reply file ≡ Err (Spread p o)) ⊎ ((lines_reply file ≡ Ok tt) × (r ≡ Err (Spread p o)))
+          → (length file ≤ 65535) × (lines_reply file ≡ Ok tt) × (r ≡ Err (Spread p o))
       by_lines q (inl f) = absurd (lines_refused p o f)
       by_lines q (inr f) = (ltb-false 65535 (length file) (if_accepted long (Count 0) q), f.0, f.1)
 
-      by_length : (refuse_if long (Count 0) ≡ Refused (Spread p o)) ⊎ ((refuse_if long (Count 0) ≡ Accepted) × ((lines_reply file and_then r) ≡ Refused (Spread p o)))
-          → (length file ≤ 65535) × (lines_reply file ≡ Accepted) × (r ≡ Refused (Spread p o))
+      by_length : (refuse_if long (Count 0) ≡ Err (Spread p o)) ⊎ ((refuse_if long (Count 0) ≡ Ok tt) × ((lines_reply file and_then r) ≡ Err (Spread p o)))
+          → (length file ≤ 65535) × (lines_reply file ≡ Ok tt) × (r ≡ Err (Spread p o))
       by_length (inl f) = let g = if_refused long (Count 0) (Spread p o) f in let z : ◌≡◌ {A = ℕ} 0 1 = cc in absurd (omega arith)
       by_length (inr f) = by_lines f.0 (refused_after (lines_reply file) r f.1)
 
-  sound_list : SoundBook file → (length file ≤ 65535) × (lines_reply file ≡ Accepted) × Sound (book_of file)
+  sound_list : SoundBook file → (length file ≤ 65535) × (lines_reply file ≡ Ok tt) × Sound (book_of file)
   sound_list (inl a) = let q = book_passed file a in (q.0, q.1, inl q.2)
   sound_list (inr x) = let q = spread_last x.0 x.1 x.2 in (q.0, q.1, inr (x.0, x.1, q.2))
 
-  pub sound_kept : SoundBook file → (spoiled_reply file ≡ Accepted) × (part_of Kept file ≡ file) × (part_of Dropped file ≡ [])
+  pub sound_kept : SoundBook file → (spoiled_reply file ≡ Ok tt) × (part_of Kept file ≡ file) × (part_of Dropped file ≡ [])
   sound_kept s =
       let q = sound_list s in let a = sound_whole (book_of file) q.2 in let w = whole file q.1 a.2 in
       (by_rescue file q.0 q.1 ∙ a.0, w.0, w.1)

@@ -1,14 +1,13 @@
 -- What becomes of a sighting book: the reply to it, and its listing, byte for byte.
-use Rattle.std.specs.Prelude.{◌≡◌, List, ℕ, length}
+use Rattle.std.specs.Prelude.{◌≡◌, List, ℕ, length, IsOk}
 use Rattle.reply.specs.declared.Refusal.TheVariants.{Sightings}
-use Rattle.reply.specs.declared.Reply.{Reply}
-use Rattle.reply.specs.declared.Reply.TheVariants.{Accepted}
+use Rattle.reply.specs.Reply.{Reply}
 use Rattle.reply.specs.Verdicts.{verdict_of}
-use Rattle.page.specs.declared.Listed.{Listed}
-use Rattle.page.specs.Page.{ListedBy, in_room, printed, printed_in}
+use Rattle.page.specs.Page.{Listed, ListedBy, in_room, printed, printed_in}
 use Rattle.station.specs.Pairs.{JoinedRightly}
 use Rattle.book.specs.Lines.{book_of, book_reply}
 use Rattle.book.specs.Listing.{station_listing}
+use Rattle.reply.specs.Checks.{figure_reply}
 
 -- the listing of an accepted book
 abbrev pub book_listing : List ℕ → List ℕ
@@ -21,9 +20,9 @@ means_reply file room = in_room Sightings 1136 room (book_reply file)
 pub record MeansOf (file before : List ℕ) (listed : Listed) (after : List ℕ) : Type 0 where
   pub lists : ListedBy (means_reply file (length before)) (book_listing file) before listed after
   -- in the rules' numbers: number and place
-  pub verdict : verdict_of listed.reply ≡ verdict_of (means_reply file (length before))
+  pub verdict : verdict_of (figure_reply listed) ≡ verdict_of (means_reply file (length before))
   -- and of every accepted book: left and right are joined only where position and object agree
-  pub joined : listed.reply ≡ Accepted → JoinedRightly (book_of file)
+  pub joined : IsOk listed → JoinedRightly (book_of file)
 
 -- ---- for programs: the listing of any book, an accepted one's or the line of its refusal
 unfoldable pub listing_of : List ℕ → List ℕ

@@ -1,9 +1,8 @@
 -- The sighting book: what its lines say, and the reply to it. "`S`, position, object, face, reading, parted by tabs, numbers written as in the network file."
-use Rattle.std.specs.Prelude.{Bool, List, [], ℕ, ◌+◌, ltb, ℤ, pos, length, get_or}
-use Rattle.std.proofs.Math.Option.{Option}
+use Rattle.std.specs.Prelude.{Bool, List, [], ℕ, ◌+◌, ltb, ℤ, pos, length, get_or, Option}
 use Rattle.exact.specs.Tabulate.{tabulate}
 use Rattle.reply.specs.declared.Refusal.TheVariants.{Malformed, Count}
-use Rattle.reply.specs.declared.Reply.{Reply}
+use Rattle.reply.specs.Reply.{Reply}
 use Rattle.reply.specs.Checks.{refuse_if, refuse_first, ◌and_then◌}
 use Rattle.station.specs.Sightings.{Book, book}
 use Rattle.station.specs.Replies.{reply_of}

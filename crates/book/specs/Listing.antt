@@ -1,5 +1,5 @@
 -- The listing of a station, byte for byte. "`STA`, number of sightings, number of objects seen; then for each object seen, in order, `O`, object, direction, P."
-use Rattle.std.specs.Prelude.{Bool, cond, List, [], ◌++◌, ℕ, zero, suc, ◌+◌, ℤ, pos, get_or}
+use Rattle.std.specs.Prelude.{Bool, cond, List, [], ◌∷◌, ◌++◌, ℕ, zero, suc, ◌+◌, ℤ, pos, get_or}
 use Rattle.std.specs.Int.Signed.{lt_z}
 use Rattle.text.specs.Written.{in_order}
 use Rattle.page.specs.Lines.{heading_line, numbered_line}
@@ -8,7 +8,7 @@ use Rattle.station.specs.Table.{counts, readings}
 use Rattle.station.specs.Means.{directions, pair_counts}
 
 abbrev pub sta_line : (sightings objects : ℕ) → List ℕ
-sta_line sightings objects = heading_line 83 84 65 sightings objects
+sta_line sightings objects = heading_line (83 ∷ 84 ∷ 65 ∷ []) sightings objects
 
 abbrev pub o_line : (object : ℕ) (direction P : ℤ) → List ℕ
 o_line object direction P = numbered_line 79 object direction P

@@ -1,22 +1,20 @@
 -- W-207 on the file of a sighting book: the kept lines, which are a book again, and the list of the dropped sightings, byte for byte.
-use Rattle.std.specs.Prelude.{◌≡◌, true, cond, List, [], ◌∷◌, ◌++◌, ◌⊎◌, ℕ, ◌+◌, ◌≤◌, ltb, length, get_or, take}
+use Rattle.std.specs.Prelude.{◌≡◌, true, cond, List, [], ◌∷◌, ◌++◌, ◌⊎◌, ℕ, ◌+◌, ◌≤◌, ltb, length, get_or, take, Ok, Err, Result, IsOk, IfOk}
 use Rattle.exact.specs.Tabulate.{tabulate}
 use Rattle.reply.specs.declared.Refusal.TheVariants.{Count, Sightings, Spread}
-use Rattle.reply.specs.declared.Reply.{Reply}
-use Rattle.reply.specs.declared.Reply.TheVariants.{Accepted, Refused}
-use Rattle.reply.specs.Checks.{refuse_if, ◌and_then◌}
+use Rattle.reply.specs.Reply.{Reply}
+use Rattle.reply.specs.Checks.{refuse_if, ◌and_then◌, figure_reply, figure_of}
 use Rattle.reply.specs.Verdicts.{verdict_of}
 use Rattle.text.specs.Lines.{lines_in, line_no}
 use Rattle.text.specs.Written.{line_end, in_order}
-use Rattle.page.specs.declared.Listed.{Listed}
 use Rattle.page.specs.Lines.{counts_end}
-use Rattle.page.specs.Page.{ListedBy, in_room, printed_in}
+use Rattle.page.specs.Page.{Listed, ListedBy, in_room, printed_in}
 use Rattle.station.specs.Rescue.{is_kept, reason, rescue_reply}
 use Rattle.station.specs.Steps.{free}
-use Rattle.book.specs.declared.spoiled.Judged.{Judged}
 use Rattle.book.specs.declared.parts.Part.{Part}
 use Rattle.book.specs.declared.parts.Part.TheVariants.{Kept, Dropped}
 use Rattle.book.specs.Lines.{book_of, lines_reply, book_reply}
+use Rattle.reply.specs.declared.Refusal.{Refusal}
 
 -- length, then 1 by line, then 21, 22 and 32 of the sightings: the same for both parts
 unfoldable pub spoiled_reply : List ℕ → Reply
@@ -50,7 +48,7 @@ part_reply part file room = in_room Sightings (room_for part) room (spoiled_repl
 pub record RescuedOf (part : Part) (file before : List ℕ) (listed : Listed) (after : List ℕ) : Type 0 where
   pub lists : ListedBy (part_reply part file (length before)) (part_of part file) before listed after
   -- in the rules' numbers: number and place
-  pub verdict : verdict_of listed.reply ≡ verdict_of (part_reply part file (length before))
+  pub verdict : verdict_of (figure_reply listed) ≡ verdict_of (part_reply part file (length before))
 
 -- ---- for programs: what of any book, that part or the line of its refusal, goes into a lent buffer of so many bytes
 unfoldable pub rescue_listing_in : Part → (file : List ℕ) (room : ℕ) → List ℕ
@@ -58,7 +56,7 @@ rescue_listing_in part file room = printed_in (room_for part) room (spoiled_repl
 
 -- ---- a book "sound under 23 to 25": `means` accepts it, or refuses it with 26 alone
 abbrev pub SoundBook : List ℕ → Type 0
-SoundBook file = (book_reply file ≡ Accepted) ⊎ ((p : ℕ) × (o : ℕ) × (book_reply file ≡ Refused (Spread p o)))
+SoundBook file = (book_reply file ≡ Ok tt) ⊎ ((p : ℕ) × (o : ℕ) × (book_reply file ≡ Err (Spread p o)))
 
 -- ---- what inner functions hand each other: the lines of a book whose reasons are known, by number
 abbrev pub kept_by : (file reasons : List ℕ) (h : ℕ) → List ℕ
@@ -68,8 +66,8 @@ abbrev pub dropped_by : (reasons : List ℕ) (h : ℕ) → List ℕ
 dropped_by reasons h = cond (free reasons h) [] (x_line (h + 1) (get_or reasons h 0))
 
 -- what the reader of a spoiled book hands on: the reply, and of an accepted book the reasons, in the first places of a lent list
-pub record JudgedAs (file : List ℕ) (judged : Judged) (reasons : List ℕ) : Type 0 where
-  pub answer : judged.reply ≡ spoiled_reply file
-  pub few : judged.sightings ≤ 512
-  pub reasons_are : judged.reply ≡ Accepted → take judged.sightings reasons ≡ tabulate (lines_in file) (reason (book_of file))
+pub record JudgedAs (file : List ℕ) (judged : Result ℕ Refusal) (reasons : List ℕ) : Type 0 where
+  pub answer : judged ≡ figure_of (spoiled_reply file) (lines_in file)
+  pub few : IfOk judged (λ n. n ≤ 512)
+  pub reasons_are : IsOk judged → take (lines_in file) reasons ≡ tabulate (lines_in file) (reason (book_of file))
   pub long : length reasons ≡ 512

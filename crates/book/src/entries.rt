@@ -1,64 +1,67 @@
 // The lines of a sighting book, entered into one list for each field.
-ghost use Rattle.std.specs.Prelude.{◌≡◌, ◌≤◌, pos, length, get_or, set};
-ghost use Rattle.book.specs.Inner.{EnteredAs};
+ghost use Rattle.std.specs.Prelude.{◌≡◌, pos, length, get_or, set};
+ghost use Rattle.book.specs.Inner.{EnteredAs, put_at};
 
+use reply::Refusal;
 use station::MOST;
-use text::row::RowEnd;
-use text::{MOST_DIGITS, row};
+use text::{MOST_BYTES, MOST_DIGITS, row};
 
-// How many sightings a book has, or the line that is malformed.
-#[derive(Clone, Copy)]
-pub enum Entries {
-    Sightings(usize),
-    Broken(u64),
+// The fields of sightings, with room for as many as a station takes.
+// A list for each field and no list of sightings: `station` is lent them so, as C lends them.
+#[derive(Drop)]
+pub struct Fields {
+    pub position: [i64; MOST],
+    pub object: [i64; MOST],
+    pub face: [i64; MOST],
+    pub reading: [i64; MOST],
 }
 
-// A sighting x into place n of the lists; nothing, where they have no such place.
-fn enter(
-    position: &mut [i64],
-    object: &mut [i64],
-    face: &mut [i64],
-    reading: &mut [i64],
-    n: usize,
-    x: &[i64],
-)
-    requires { (length position.old ≡ 512) × (length object.old ≡ 512) × (length face.old ≡ 512) × (length reading.old ≡ 512) × (length x.now ≡ 4) }
-    ensures position { position.new ≡ set position.old n (get_or x.now 0 (pos 0)) }
-    ensures object { object.new ≡ set object.old n (get_or x.now 1 (pos 0)) }
-    ensures face { face.new ≡ set face.old n (get_or x.now 2 (pos 0)) }
-    ensures reading { reading.new ≡ set reading.old n (get_or x.now 3 (pos 0)) }
-{
-    if MOST <= n {
-        return;
+impl Fields {
+    pub fn new() -> Fields {
+        Fields {
+            position: [0; MOST],
+            object: [0; MOST],
+            face: [0; MOST],
+            reading: [0; MOST],
+        }
     }
-    position[n] = x[0];
-    object[n] = x[1];
-    face[n] = x[2];
-    reading[n] = x[3];
-}
 
-// All lines, each read once; those past the lists' room are read too, since a malformed line comes before a count.
-pub fn read(
-    file: &[u8],
-    position: &mut [i64],
-    object: &mut [i64],
-    face: &mut [i64],
-    reading: &mut [i64],
-) -> Entries
-    requires { (length file.now ≤ 65535) × (length position.old ≡ 512) × (length object.old ≡ 512) × (length face.old ≡ 512) × (length reading.old ≡ 512) }
-    ensures { EnteredAs file.now result position.new object.new face.new reading.new }
-{
-    let mut x = [0i64; 4];
-    let mut start = 0;
-    let mut n = 0;
-    while start < file.len() {
-        let end = row::read_behind(MOST_DIGITS, file, start, b'S', 4, &mut x);
-        let RowEnd::Next(next) = end else {
-            return Entries::Broken((n + 1) as u64);
-        };
-        enter(position, object, face, reading, n, &x);
-        n += 1;
-        start = next;
+    // A sighting x into place n; nothing, where there is no such place.
+    fn enter(&mut self, n: usize, x: &[i64; 4])
+        ensures { self.new ≡ put_at self.old n x.now }
+    {
+        if MOST <= n {
+            return;
+        }
+        self.position[n] = x[0];
+        self.object[n] = x[1];
+        self.face[n] = x[2];
+        self.reading[n] = x[3];
     }
-    Entries::Sightings(n)
+
+    // All lines of a book, each read once; how many there are, or why the book is refused: it is too long, a line is malformed, or they are too many. Those
+    // past the lists' room are read too, since a malformed line comes before a count.
+    pub fn read(&mut self, file: &[u8]) -> Result<usize, Refusal>
+        ensures { EnteredAs file.now result self.new }
+    {
+        if MOST_BYTES < file.len() {
+            return Err(Refusal::Count(0));
+        }
+        let mut x = [0; 4];
+        let mut start = 0;
+        let mut n = 0;
+        // A while loop: each line says where the next one starts.
+        while start < file.len() {
+            let Some(next) = row::read_behind(MOST_DIGITS, file, start, b'S', 4, &mut x) else {
+                return Err(Refusal::Malformed((n + 1) as u64));
+            };
+            self.enter(n, &x);
+            n += 1;
+            start = next;
+        }
+        if MOST < n {
+            return Err(Refusal::Sightings);
+        }
+        Ok(n)
+    }
 }

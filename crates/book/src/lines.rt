@@ -1,47 +1,42 @@
 // The lines of a station's listing, written into a lent buffer: the STA line, and an O line for each object seen.
 ghost use Rattle.std.specs.Prelude.{◌≡◌, ◌+◌, ◌<◌, ◌≤◌, length};
-ghost use Rattle.text.specs.Written.{Wrote, in_order};
+ghost use Rattle.text.specs.Written.{Wrote, Puts, in_order};
 ghost use Rattle.book.specs.Listing.{objects_seen, object_line, means_lines};
 
 use page::lines;
+use text::writer::Writer;
 
 // How many objects have a pair.
 fn objects_seen(pairs: &[i64]) -> u64
     requires { length pairs.now ≡ 16 }
     ensures { result ≡ objects_seen pairs.now 16 }
 {
-    let mut n: u64 = 0;
-    for j in 0..16 {
-        if 0 < pairs[j] {
-            n = n + 1;
+    let mut n = 0;
+    for (j, p) in pairs.iter().enumerate() {
+        if 0 < *p {
+            n += 1;
         }
     }
     n
 }
 
 // The line of object j + 1, where it has a pair: O, object, direction, P.
-fn put_object(out: &mut [u8], at: usize, directions: &[i64], pairs: &[i64], j: usize) -> usize
-    requires { (at + 68 ≤ length out.old) × (length directions.now ≡ 16) × (length pairs.now ≡ 16) × (j < 16) }
-    ensures { Wrote out.old at (object_line directions.now pairs.now j) out.new result }
+fn put_object(w: &mut Writer, directions: &[i64], pairs: &[i64], j: usize)
+    requires { (w.old.at + 68 ≤ length w.old.out.now) × (length directions.now ≡ 16) × (length pairs.now ≡ 16) × (j < 16) }
+    ensures { Puts w.old (object_line directions.now pairs.now j) 68 w.new }
 {
-    let p = pairs[j];
-    if 0 < p {
-        return lines::put_numbered(out, at, b'O', (j as u64) + 1, directions[j], p);
+    if 0 < pairs[j] {
+        lines::put_numbered(w, b'O', j as u64 + 1, directions[j], pairs[j]);
     }
-    at
 }
 
-fn put_objects(out: &mut [u8], at: usize, directions: &[i64], pairs: &[i64]) -> usize
-    requires { (at + 1088 ≤ length out.old) × (length directions.now ≡ 16) × (length pairs.now ≡ 16) }
-    ensures { Wrote out.old at (in_order 16 (object_line directions.now pairs.now)) out.new result }
+fn put_objects(w: &mut Writer, directions: &[i64], pairs: &[i64])
+    requires { (w.old.at + 1088 ≤ length w.old.out.now) × (length directions.now ≡ 16) × (length pairs.now ≡ 16) }
+    ensures { Puts w.old (in_order 16 (object_line directions.now pairs.now)) 1088 w.new }
 {
-    let mut next = at;
-    let mut j = 0;
-    while j < 16 {
-        next = put_object(out, next, directions, pairs, j);
-        j += 1;
+    for j in 0..16 {
+        put_object(w, directions, pairs, j);
     }
-    next
 }
 
 // The listing of an accepted station, from the start of the buffer.
@@ -49,7 +44,8 @@ pub fn put_means(out: &mut [u8], sightings: u64, directions: &[i64], pairs: &[i6
     requires { (1136 ≤ length out.old) × (length directions.now ≡ 16) × (length pairs.now ≡ 16) }
     ensures { Wrote out.old 0 (means_lines sightings directions.now pairs.now) out.new result }
 {
-    let seen = objects_seen(pairs);
-    let next = lines::put_heading(out, 0, b'S', b'T', b'A', sightings, seen);
-    put_objects(out, next, directions, pairs)
+    let mut w = Writer { out, at: 0 };
+    lines::put_heading(&mut w, b"STA", sightings, objects_seen(pairs));
+    put_objects(&mut w, directions, pairs);
+    w.at
 }

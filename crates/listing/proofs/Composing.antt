@@ -1,11 +1,12 @@
 -- How many bytes the listing of an accepted net takes at most: its ADJ line 48, a V line 68 (both by page's laws), a K line 90, an E line 46.
 -- Assumes nothing.
 --   k_most, e_most       a K line, an E line
+--   v_most               the V lines
 --   accepted_most        the listing
 --   plain_fits           the room of any sheet holds the longest listing without an E line
 --   sheet_most           the listing as a sheet has it; ended_by: it is the listing, and behind it what the sheet has of an empty one
 use mathlib.Core.Path.{◌≡◌, refl}
-use mathlib.Core.List.{List, [], ◌++◌, append-nil}
+use mathlib.Core.List.{List, [], ◌∷◌, ◌++◌, append-nil}
 use Prim.Native.Nat.{ℕ, ◌+◌, ◌*◌, ◌≤◌}
 use native.Mathlib.Omega.{arith}
 use lib.ListN.{length, get_or, length-append}
@@ -40,12 +41,16 @@ e_most e probable =
       length-append (written probable) line_end,
     )
 
+-- the V lines of m directions
+pub v_most : (m : ℕ) (u adjusted : List ℤ) → length (v_lines m u adjusted) ≤ m * 68
+v_most m u adjusted = lines_most m 68 (v_line_of u adjusted) (λ i. numbered_most 86 (i + 1) (get_or u i (pos 0)) (get_or adjusted i (pos 0)))
+
 pub accepted_most : (m n : ℕ) (u adjusted k r q : List ℤ) → length (accepted_listing m n u adjusted k r q) ≤ 48 + m * 68 + n * 90
 accepted_most m n u adjusted k r q =
     omega (
       arith,
-      heading_most 65 68 74 m n,
-      lines_most m 68 (v_line_of u adjusted) (λ i. numbered_most 86 (i + 1) (get_or u i (pos 0)) (get_or adjusted i (pos 0))),
+      heading_most (65 ∷ 68 ∷ 74 ∷ []) m n refl,
+      v_most m u adjusted,
       lines_most n 90 (k_line_of k r q) (λ j. k_most (j + 1) (get_or k j (pos 0)) (get_or r j (pos 0)) (get_or q j (pos 0))),
       length-append (adj_line m n) (v_lines m u adjusted ++ k_lines n k r q),
       length-append (v_lines m u adjusted) (k_lines n k r q),

@@ -10,7 +10,6 @@ use Rattle.exact.specs.Nearest.{nearest}
 use Rattle.exact.specs.Same.{same}
 use Rattle.exact.specs.Sum.{sum}
 use Rattle.exact.specs.Tabulate.{tabulate}
-use Rattle.reply.specs.declared.Reply.TheVariants.{Accepted}
 use Rattle.reply.specs.Checks.{in_turn, figure_value}
 use Rattle.direction.specs.Ranges.{directions_reply}
 use Rattle.condition.specs.Terms.{letter_of as kind_of, term_fault, share, angle, part}
@@ -36,6 +35,7 @@ use Rattle.page.specs.Page.{printed}
 use Rattle.listing.specs.declared.Sheet.TheVariants.{Plain, WithErrors}
 use Rattle.listing.specs.Listing.{e_line, on_sheet}
 use Rattle.listing.specs.File.{table_in, room, net_reply, net_answers, file_reply, answers_listing, answers_errors, answers_on, net_listing, listing_of}
+use Rattle.std.specs.Prelude.{Ok}
 
 -- figure 3, "Case 3 input to the adjusting program". Each byte by its number; a blank stands for a tab, and | for an LF:
 -- D 1 216000000 1|D 2 216003000 1|D 3 215997000 1|C A 648000000|P 0 1|P 0 2|F 216000000|C A 648000000|P 0 2|P 0 3|F 216000000|
@@ -71,6 +71,6 @@ listing =
 abbrev pub errors_line : List ℕ
 errors_line = 69 ∷ 9 ∷ 49 ∷ 55 ∷ 51 ∷ 50 ∷ 9 ∷ 49 ∷ 49 ∷ 54 ∷ 56 ∷ 10 ∷ []
 
-pub figure_3 : (file_reply file ≡ Accepted) × (listing_of Plain file ≡ listing) × (listing_of WithErrors file ≡ listing ++ errors_line)
+pub figure_3 : (file_reply file ≡ Ok tt) × (listing_of Plain file ≡ listing) × (listing_of WithErrors file ≡ listing ++ errors_line)
 unfolding floor modulo first nearest sum tabulate directions_reply kind_of share angle part directions_miscounted terms_miscounted in_turn terms_check checks coefficient coefficients_reply coefficients_list misclosure misclosure_figure N reduced D L M weak_row weak back K V_of R_of u_of adjusted_of Q_of counts_amiss differs lengths_amiss coefficient_fault misclosure_fault table_reply rows_reply correlates_reply remainders_reply corrections_reply solution_reply input_reply adjust_reply on_first parted lines_of fields_of field_at letter_of read_digits unsigned_of plus minus numeral_within digits digits_of written with direction_line angles_line sides_line condition_line angle_line fixed_line side_line line_of record_of term_fault same belongs out_of_turn one_too_many direction_reply angles_reply sides_reply term_reply line_reply counted end_fault end_reply scanned scan_reply line_before net_of refused_as figure_value zeros lent_of condition_reply formed_reply row_of misclosure_of rows_of misclosures_of table_in room net_reply net_answers file_reply in_order answers_listing net_listing answers_errors answers_on S probable_error errors_of on_sheet printed listing_of
 figure_3 = (refl, refl, ap (λ (e : ℤ). listing ++ e_line e (probable_error e)) (mean_found 2 15120000000 1732 (omega arith) tt tt))

@@ -8,14 +8,13 @@
 --   one_answer, one_listing                 two answers that keep a promise are equal, and leave equal buffers: of `adjust` and of `list`
 use mathlib.Core.Path.{◌≡◌, sym, ◌∙◌, ap, subst}
 use mathlib.Core.List.{List}
-use Prim.Native.Nat.{ℕ, ◌*◌, ◌≤◌, ◌<◌}
+use Prim.Native.Nat.{ℕ, ◌≤◌, ◌<◌}
 use native.Mathlib.Omega.{arith}
-use lib.ListN.{length, take}
+use lib.ListN.{length}
 use lib.IntN.{ℤ}
 use Rattle.exact.proofs.Filling.{tabulate_length}
 use Rattle.reply.specs.declared.Refusal.{Refusal}
 use Rattle.reply.specs.declared.Refusal.TheVariants.{Count}
-use Rattle.reply.specs.declared.Reply.TheVariants.{Accepted, Refused}
 use Rattle.reply.specs.Verdicts.{verdict_of}
 use Rattle.reply.proofs.Checking.{both_accepted}
 use Rattle.doolittle.specs.Table.{at, table_of}
@@ -30,12 +29,11 @@ use Rattle.precision.proofs.Adjusting.{table_mean_error}
 use Rattle.text.specs.Lines.{lines_of}
 use Rattle.text.specs.Written.{Wrote}
 use Rattle.text.proofs.Putting.{one_wrote}
-use Rattle.page.specs.declared.Listed.{Listed}
-use Rattle.page.specs.Page.{ListedBy, Printed}
-use Rattle.page.proofs.Printing.{listed_refused, relisted, refusal_leaves, one_listed, short, roomy, room_accepted, printed_most, nothing_printed, listed_printed}
+use Rattle.page.specs.Page.{Listed, ListedBy, Printed}
+use Rattle.page.proofs.Printing.{listed_refused, listed_reply, listed_ok, relisted, refusal_leaves, one_listed, short, roomy, room_accepted, printed_most, nothing_printed, listed_printed}
 use Rattle.network.specs.Scan.{scan_reply}
-use Rattle.network.specs.Net.{Net, net_of, net_from, formed_reply, rows_of, misclosures_of, table_reply, Tables}
-use Rattle.network.specs.declared.Tabled.{Tabled}
+use Rattle.network.specs.Net.{Net, net_of, net_from, formed_reply, rows_of, misclosures_of, table_reply, Tabled}
+use Rattle.network.specs.declared.lists.NetTable.{NetTable}
 use Rattle.network.proofs.Bounding.{scan_bounds}
 use Rattle.network.proofs.Passing.{file_passed}
 use Rattle.listing.specs.declared.Sheet.{Sheet}
@@ -43,6 +41,7 @@ use Rattle.listing.specs.Listing.{room_of}
 use Rattle.listing.specs.File.{table_in, room, net_reply, net_answers, file_reply, answers_listing, answers_errors, answers_on, table_listing, net_listing, file_listing, FileDemand3, FileWithinMinute, FileMeanError, adjust_file_reply, AdjustsFile, listing_of, listing_in}
 use Rattle.listing.proofs.Composing.{plain_fits, sheet_most}
 use Rattle.listing.proofs.Tabling.{answers_errors_lem, misclosures_length, file_refused, file_reply_lem, file_listing_lem, answers_most}
+use Rattle.std.specs.Prelude.{Ok, Err, IsOk}
 
 -- any REFUSED line has room too
 line_fits : (sheet : Sheet) → 52 ≤ room_of sheet
@@ -62,8 +61,8 @@ module _ (file : List ℕ) where
   abbrev lent : Answers
   lent = room (length net.directions) (length net.conditions)
 
-  module _ (e : file_reply file ≡ Accepted) where
-    pub solved : adjust_reply net.directions net.q rows closings lent ≡ Accepted
+  module _ (e : file_reply file ≡ Ok tt) where
+    pub solved : adjust_reply net.directions net.q rows closings lent ≡ Ok tt
     unfolding file_reply net_reply
     solved =
         (both_accepted (formed_reply net.directions net.q 1 net.conditions) (adjust_reply net.directions net.q rows closings lent)
@@ -85,7 +84,7 @@ module _ (file : List ℕ) where
         (table_mean_error net.directions net.q rows closings lent solved)
 
   -- ---- the longest listing
-  answers_short : file_reply file ≡ Accepted → length (answers_listing (net_answers net)) ≤ 6560
+  answers_short : file_reply file ≡ Ok tt → length (answers_listing (net_answers net)) ≤ 6560
   unfolding file_reply net_answers net_from table_in
   answers_short e =
       let scanned = (both_accepted (scan_reply file) (net_reply net) e).0 in let r = scan_bounds file scanned in let p = file_passed file scanned in
@@ -95,7 +94,7 @@ module _ (file : List ℕ) where
       (omega (arith, r.n, n, tabulate_length (length (misclosures_of net.directions net.q net.conditions)) (K (table_in net))))
 
   module _ (sheet : Sheet) where
-    pub file_most : file_reply file ≡ Accepted → length (file_listing sheet file) ≤ room_of sheet
+    pub file_most : file_reply file ≡ Ok tt → length (file_listing sheet file) ≤ room_of sheet
     unfolding net_listing answers_on
     file_most e = sheet_most sheet (answers_listing (net_answers net)) (answers_errors net.q (net_answers net)) (answers_short e)
 
@@ -108,10 +107,10 @@ module _ (file : List ℕ) where
     kept : {listed : Listed} {after : List ℕ} → ListedBy (adjust_file_reply sheet file (length before)) (file_listing sheet file) before listed after → AdjustsFile sheet file before listed after
     unfolding adjust_file_reply
     kept {listed} l =
-        let accepted : listed.reply ≡ Accepted → file_reply file ≡ Accepted = λ e. room_accepted (Count 0) (room_of sheet) (length before) (file_reply file) (sym l.answer ∙ e) in
-        record { lists = l; verdict = ap verdict_of l.answer; demand3 = λ e. file_demand3 (accepted e); within_minute = λ e. file_within_minute (accepted e); mean_error = λ e. file_mean_error (accepted e) }
+        let accepted : IsOk listed → file_reply file ≡ Ok tt = λ e. room_accepted (Count 0) (room_of sheet) (length before) (file_reply file) (listed_ok l e) in
+        record { lists = l; verdict = ap verdict_of (listed_reply l); demand3 = λ e. file_demand3 (accepted e); within_minute = λ e. file_within_minute (accepted e); mean_error = λ e. file_mean_error (accepted e) }
 
-    pub too_short : length before < room_of sheet → AdjustsFile sheet file before (record { reply = Refused (Count 0); length = 0 }) before
+    pub too_short : length before < room_of sheet → AdjustsFile sheet file before (Err (Count 0)) before
     unfolding adjust_file_reply
     too_short l = kept (listed_refused (Count 0) (short (Count 0) (room_of sheet) (length before) (file_reply file) l))
 
@@ -120,18 +119,16 @@ module _ (file : List ℕ) where
       unfolding adjust_file_reply
       has_room = roomy (Count 0) (room_of sheet) (length before) (file_reply file) l
 
-      pub table_refused : (why : Refusal) → table_reply file ≡ Refused why → AdjustsFile sheet file before (record { reply = Refused why; length = 0 }) before
+      pub table_refused : (why : Refusal) → table_reply file ≡ Err why → AdjustsFile sheet file before (Err why) before
       table_refused why e = kept (listed_refused why (has_room ∙ file_refused file why e))
 
-      pub table_listed : {t : Tabled} {directions q a w : List ℤ} {letters : List ℕ} (is : Tables (table_reply file) net t directions q a w letters) → t.reply ≡ Accepted
-          → {listed : Listed} {after : List ℕ}
-          → let ds = take t.m directions in let closings = take t.n w in
-          ListedBy (adjust_reply ds (take t.m q) (take (t.n * t.m) a) closings (room (length ds) (length closings)))
-          (table_listing sheet ds (take t.m q) (take (t.n * t.m) a) closings) before listed after
+      pub table_listed : {t : NetTable} (is : Tabled net t) → table_reply file ≡ Ok tt → {listed : Listed} {after : List ℕ}
+          → ListedBy (adjust_reply t.directions.now t.q.now t.a.now t.w.now (room (length t.directions.now) (length t.w.now)))
+          (table_listing sheet t.directions.now t.q.now t.a.now t.w.now) before listed after
           → AdjustsFile sheet file before listed after
       table_listed is e b = kept (relisted (file_reply_lem file is e ∙ sym has_room) (file_listing_lem file is e sheet) b)
 
-    pub refusal_leaves_buffer : (why : Refusal) (listed : Listed) (after : List ℕ) → AdjustsFile sheet file before listed after → listed.reply ≡ Refused why → (after ≡ before) × (listed.length ≡ 0)
+    pub refusal_leaves_buffer : (why : Refusal) (listed : Listed) (after : List ℕ) → AdjustsFile sheet file before listed after → listed ≡ Err why → after ≡ before
     refusal_leaves_buffer why listed after a e = refusal_leaves why a.lists e
 
     -- ---- `list`

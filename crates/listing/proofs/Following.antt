@@ -18,8 +18,7 @@ use Rattle.exact.specs.Tabulate.{tabulate}
 use Rattle.exact.proofs.Filling.{tabulate_length, tabulate_at}
 use Rattle.exact.proofs.Searching.{all_failed, some_none}
 use Rattle.reply.specs.declared.Refusal.TheVariants.{Coefficient, Misclosure}
-use Rattle.reply.specs.declared.Reply.{Reply}
-use Rattle.reply.specs.declared.Reply.TheVariants.{Accepted, Refused}
+use Rattle.reply.specs.Reply.{Reply}
 use Rattle.reply.specs.Checks.{refuse_if, ◌and_then◌, figure_value}
 use Rattle.reply.proofs.Checking.{both_accepted, if_accepted, refuse_none}
 use Rattle.condition.specs.Rules.{Lent, checks, coefficient, beyond, misclosure, coefficients_reply, coefficients_list, misclosure_figure}
@@ -36,6 +35,7 @@ use Rattle.listing.specs.File.{room, table_in, net_reply, file_reply}
 use Rattle.network.proofs.Bounding.{Room, scan_bounds}
 use Rattle.network.proofs.Passing.{Passed, Checked, directions_pass, file_passed, scan_checks, four_and_five}
 use Rattle.listing.proofs.Tabling.{misclosures_length}
+use Rattle.std.specs.Prelude.{Ok, Err}
 
 -- ---- lists one after the other
 append_right : (xs ys : List ℤ) (i : ℕ) → get_or (xs ++ ys) (length xs + i) (pos 0) ≡ get_or ys i (pos 0)
@@ -52,11 +52,11 @@ module _ (ds q : List ℤ) where
     pub row : (i : ℕ) → i < m → nat_abs (get_or (row_of ds q c) i (pos 0)) ≤ 2000
     pub closing : nat_abs (misclosure_of ds q c) ≤ 1000000
 
-  module _ (j : ℕ) (c : Condition) (checked : checks (lent_of ds q c) ≡ Accepted) (e : condition_reply ds q j c ≡ Accepted) where
+  module _ (j : ℕ) (c : Condition) (checked : checks (lent_of ds q c) ≡ Ok tt) (e : condition_reply ds q j c ≡ Ok tt) where
     abbrev l : Lent
     l = lent_of ds q c
 
-    both : (refuse_if (beyond l) (Coefficient j) ≡ Accepted) × (refuse_if (ltb 1000000 (nat_abs (misclosure l))) (Misclosure j) ≡ Accepted)
+    both : (refuse_if (beyond l) (Coefficient j) ≡ Ok tt) × (refuse_if (ltb 1000000 (nat_abs (misclosure l))) (Misclosure j) ≡ Ok tt)
     both = both_accepted (refuse_if (beyond l) (Coefficient j)) (refuse_if (ltb 1000000 (nat_abs (misclosure l))) (Misclosure j)) (sym (four_and_five ds q j c checked) ∙ e)
 
     low : beyond l ≡ false
@@ -65,7 +65,7 @@ module _ (ds q : List ℤ) where
     small : ltb 1000000 (nat_abs (misclosure l)) ≡ false
     small = if_accepted (ltb 1000000 (nat_abs (misclosure l))) (Misclosure j) both.1
 
-    accepted : coefficients_reply l m ≡ Accepted
+    accepted : coefficients_reply l m ≡ Ok tt
     unfolding coefficients_reply lent_of
     accepted = rw (eq-eqb m m refl, checked, low)
 
@@ -110,7 +110,7 @@ module _ (ds q : List ℤ) where
       every zero h = w.closing
       every (suc j) h = a.closings j (omega arith)
 
-  all_in_range : (j : ℕ) (cs : List Condition) → Checked ds q cs → formed_reply ds q j cs ≡ Accepted → AllInRange cs
+  all_in_range : (j : ℕ) (cs : List Condition) → Checked ds q cs → formed_reply ds q j cs ≡ Ok tt → AllInRange cs
   unfolding Checked formed_reply rows_of misclosures_of
   all_in_range j [] k e = record { long = omega (arith, zero-mul m); rows = λ j h i l. absurd (omega arith); closings = λ j h. absurd (omega arith) }
   all_in_range j (c ∷ cs) k e =
@@ -137,7 +137,7 @@ module _ (net : Net) where
   abbrev formed : Reply
   formed = formed_reply net.directions net.q 1 net.conditions
 
-  module _ (p : Passed none net) (r : Room none net) (e : formed ≡ Accepted) (k : Checked net.directions net.q net.conditions) where
+  module _ (p : Passed none net) (r : Room none net) (e : formed ≡ Ok tt) (k : Checked net.directions net.q net.conditions) where
     all : AllInRange net.directions net.q net.conditions
     all = all_in_range net.directions net.q 1 net.conditions k e
 
@@ -167,7 +167,7 @@ module _ (net : Net) where
     unfolding misclosure_fault
     closings_low j h = le-ltb 1000000 (nat_abs (t.w j)) (all.closings j h)
 
-    table : table_reply t ≡ Accepted
+    table : table_reply t ≡ Ok tt
     unfolding table_reply
     table =
         refuse_none (length closings) (λ j. coefficient_fault t j || misclosure_fault t j) (λ j. cond (coefficient_fault t j) (Coefficient (j + 1)) (Misclosure (j + 1)))
@@ -188,20 +188,20 @@ module _ (net : Net) where
           eq-eqb n n refl,
         )
 
-    pub table_passes : input net.directions net.q rows closings lent ≡ Accepted
+    pub table_passes : input net.directions net.q rows closings lent ≡ Ok tt
     unfolding input_reply
     table_passes = rw (counts, lengths, directions_pass net.directions net.q p.directions, table)
 
 -- ---- the file
-after : (r s t : Reply) → (r ≡ Accepted → s ≡ t) → r and_then s ≡ r and_then t
-after Accepted s t h = h refl
-after (Refused why) s t h = refl
+after : (r s t : Reply) → (r ≡ Ok tt → s ≡ t) → r and_then s ≡ r and_then t
+after (Ok _) s t h = h refl
+after (Err why) s t h = refl
 
-module _ (file : List ℕ) (e : scan_reply file ≡ Accepted) where
+module _ (file : List ℕ) (e : scan_reply file ≡ Ok tt) where
   abbrev given : Net
   given = net_of (lines_of file)
 
-  file_passes : formed given ≡ Accepted → input given.directions given.q (rows given) (closings given) (lent given) ≡ Accepted
+  file_passes : formed given ≡ Ok tt → input given.directions given.q (rows given) (closings given) (lent given) ≡ Ok tt
   unfolding net_from
   file_passes h = table_passes given (file_passed file e) (scan_bounds file e) h (scan_checks file e)
 
@@ -209,7 +209,7 @@ module _ (file : List ℕ) (e : scan_reply file ≡ Accepted) where
   unfolding file_reply net_reply table_in
   file_replies = rw e (after (formed given) _ _ (λ h. passed_solved given.directions given.q (rows given) (closings given) (lent given) (file_passes h)))
 
-  pub lone_file : formed given ≡ Accepted → length given.conditions ≡ 1 → WeakExactly (file_reply file) (Untouching (table_in given) 0)
+  pub lone_file : formed given ≡ Ok tt → length given.conditions ≡ 1 → WeakExactly (file_reply file) (Untouching (table_in given) 0)
   unfolding file_reply net_reply table_in
   lone_file h one =
       rw (e, h)

@@ -7,15 +7,14 @@
 --   answers_most                                the ADJ, V and K lines have no more than 6,560 bytes
 use mathlib.Core.Path.{◌≡◌, refl, sym, ◌∙◌, ap, ap₂, subst}
 use mathlib.Core.List.{List, [], ◌∷◌, ◌++◌}
-use Prim.Native.Nat.{ℕ, suc, ◌*◌, ◌≤◌}
+use Prim.Native.Nat.{ℕ, suc, ◌≤◌}
 use native.Mathlib.Omega.{arith}
 use lib.IntN.{ℤ}
-use lib.ListN.{length, take}
+use lib.ListN.{length}
 use Rattle.exact.specs.Tabulate.{tabulate}
 use Rattle.exact.proofs.Filling.{tabulate_length}
 use Rattle.reply.specs.declared.Refusal.{Refusal}
-use Rattle.reply.specs.declared.Reply.{Reply}
-use Rattle.reply.specs.declared.Reply.TheVariants.{Accepted, Refused}
+use Rattle.reply.specs.Reply.{Reply}
 use Rattle.reply.specs.Checks.{◌and_then◌}
 use Rattle.reply.proofs.Checking.{never}
 use Rattle.doolittle.specs.Table.{Table, at, table_of}
@@ -29,12 +28,13 @@ use Rattle.precision.specs.Promise.{errors_reply}
 use Rattle.precision.proofs.Adjusting.{table_admitted}
 use Rattle.text.specs.Lines.{lines_of}
 use Rattle.network.specs.Scan.{scan_reply}
-use Rattle.network.specs.Net.{Condition, Net, net_of, zeros, formed_reply, rows_of, misclosures_of, table_reply, Tables}
-use Rattle.network.specs.declared.Tabled.{Tabled}
+use Rattle.network.specs.Net.{Condition, Net, net_of, zeros, formed_reply, rows_of, misclosures_of, table_reply, Tabled}
+use Rattle.network.specs.declared.lists.NetTable.{NetTable}
 use Rattle.listing.specs.declared.Sheet.{Sheet}
 use Rattle.listing.specs.Listing.{accepted_listing, on_sheet}
 use Rattle.listing.specs.File.{table_in, room, net_reply, net_answers, file_reply, answers_listing, answers_errors, answers_on, table_listing, net_listing, file_listing}
 use Rattle.listing.proofs.Composing.{accepted_most, ended_by}
+use Rattle.std.specs.Prelude.{Ok, Err}
 
 -- the lengths of lent answer lists, m by direction and n by condition
 pub record Lent (m n : ℕ) (lent : Answers) : Type 0 where
@@ -65,27 +65,20 @@ module _ (ds q a w : List ℤ) {lent : Answers} (l : Lent (length ds) (length w)
     pub answered : adjust_reply ds q a w (room (length ds) (length w)) ≡ reply
     answered = by_room ∙ sym p.answer
 
-    module _ (e : reply ≡ Accepted) where
+    module _ (e : reply ≡ Ok tt) where
       left_is : left ≡ answers
       left_is = p.lists e
 
       -- its errors are not refused
-      pub errors_accepted : errors_reply left.printed q (length w) ≡ Accepted
-      errors_accepted = subst (λ (x : Answers). errors_reply x.printed q (length w) ≡ Accepted) (sym left_is) (table_admitted ds q a w lent (sym p.answer ∙ e))
+      pub errors_accepted : errors_reply left.printed q (length w) ≡ Ok tt
+      errors_accepted = subst (λ (x : Answers). errors_reply x.printed q (length w) ≡ Ok tt) (sym left_is) (table_admitted ds q a w lent (sym p.answer ∙ e))
 
-      lines_are : length q ≡ length ds
-          → accepted_listing (length ds) (length w) left.printed left.adjusted left.correlates left.remainders left.misses ≡ answers_listing answers
-      unfolding answers_listing
-      lines_are l =
-          ap (λ (x : Answers). accepted_listing (length ds) (length w) x.printed x.adjusted x.correlates x.remainders x.misses) left_is
-          ∙ ap₂ (λ (m n : ℕ). accepted_listing m n answers.printed answers.adjusted answers.correlates answers.remainders answers.misses) (sym (tabulate_length (length q) _ ∙ l)) (sym (tabulate_length (length w) _))
-
-      pub table_accepted : (sheet : Sheet) → length q ≡ length ds
-          → accepted_listing (length ds) (length w) left.printed left.adjusted left.correlates left.remainders left.misses ++ on_sheet sheet [] (errors_of left.printed q (length w))
+      pub table_accepted : (sheet : Sheet)
+          → accepted_listing (length left.printed) (length left.correlates) left.printed left.adjusted left.correlates left.remainders left.misses ++ on_sheet sheet [] (errors_of left.printed q (length w))
           ≡ table_listing sheet ds q a w
-      unfolding table_listing answers_on
-      table_accepted sheet l =
-          ap₂ (λ (x : List ℕ) (y : Errors). x ++ on_sheet sheet [] y) (lines_are l)
+      unfolding table_listing answers_on answers_listing
+      table_accepted sheet =
+          ap₂ (λ (x : List ℕ) (y : Errors). x ++ on_sheet sheet [] y) (ap answers_listing left_is)
           (ap (λ (x : Answers). errors_of x.printed q (length w)) left_is ∙ sym (answers_errors_lem q (table_of q a w) (K (table_of q a w)) (at ds)))
           ∙ ended_by sheet (answers_listing answers) (answers_errors q answers)
 
@@ -96,52 +89,40 @@ misclosures_length directions q [] = refl
 misclosures_length directions q (c ∷ cs) = ap suc (misclosures_length directions q cs)
 
 -- where two replies are one after the other, and a third after both
-both_refused : (a b c : Reply) (why : Refusal) → a and_then b ≡ Refused why → a and_then (b and_then c) ≡ Refused why
-both_refused Accepted Accepted c why e = never why (sym e)
-both_refused Accepted (Refused other) c why e = e
-both_refused (Refused other) b c why e = e
+both_refused : (a b c : Reply) (why : Refusal) → a and_then b ≡ Err why → a and_then (b and_then c) ≡ Err why
+both_refused (Ok _) (Ok _) c why e = never why (sym e)
+both_refused (Ok _) (Err other) c why e = e
+both_refused (Err other) b c why e = e
 
-third : (a b c : Reply) → a and_then b ≡ Accepted → a and_then (b and_then c) ≡ c
-third Accepted Accepted c e = refl
-third Accepted (Refused why) c e = never why e
-third (Refused why) b c e = never why e
+third : (a b c : Reply) → a and_then b ≡ Ok tt → a and_then (b and_then c) ≡ c
+third (Ok _) (Ok _) c e = refl
+third (Ok _) (Err why) c e = never why e
+third (Err why) b c e = never why e
 
 module _ (file : List ℕ) where
   abbrev net : Net
   net = net_of (lines_of file)
 
-  pub file_refused : (why : Refusal) → table_reply file ≡ Refused why → file_reply file ≡ Refused why
+  pub file_refused : (why : Refusal) → table_reply file ≡ Err why → file_reply file ≡ Err why
   unfolding table_reply file_reply net_reply
   file_refused why e = both_refused (scan_reply file) (formed_reply net.directions net.q 1 net.conditions) _ why e
 
-  -- the table that stands in the first places of lent lists
-  module _ {t : Tabled} {directions q a w : List ℤ} {letters : List ℕ} (is : Tables (table_reply file) net t directions q a w letters) (e : t.reply ≡ Accepted) where
-    abbrev ds : List ℤ
-    ds = take t.m directions
-
-    abbrev gs : List ℤ
-    gs = take t.m q
-
-    abbrev rows : List ℤ
-    rows = take (t.n * t.m) a
-
-    abbrev closings : List ℤ
-    closings = take t.n w
-
-    -- what the lists give is what the net gives
+  -- its table
+  module _ {t : NetTable} (is : Tabled net t) (e : table_reply file ≡ Ok tt) where
+    -- what the table gives is what the net gives
     to_net : {A : Type 0} (of : List ℤ → List ℤ → List ℤ → List ℤ → A)
-        → of ds gs rows closings ≡ of net.directions net.q (rows_of net.directions net.q net.conditions) (misclosures_of net.directions net.q net.conditions)
-    to_net of = rw (is.directions_are e, is.q_are e, is.rows_are e, is.misclosures_are e)
+        → of t.directions.now t.q.now t.a.now t.w.now ≡ of net.directions net.q (rows_of net.directions net.q net.conditions) (misclosures_of net.directions net.q net.conditions)
+    to_net of = rw (is.directions_are, is.q_are, is.rows_are, is.misclosures_are)
 
-    pub file_reply_lem : adjust_reply ds gs rows closings (room (length ds) (length closings)) ≡ file_reply file
+    pub file_reply_lem : adjust_reply t.directions.now t.q.now t.a.now t.w.now (room (length t.directions.now) (length t.w.now)) ≡ file_reply file
     unfolding table_reply file_reply net_reply
     file_reply_lem =
         to_net (λ x g r c. adjust_reply x g r c (room (length x) (length c)))
         ∙ ap (λ (n : ℕ). adjust_reply net.directions net.q (rows_of net.directions net.q net.conditions) (misclosures_of net.directions net.q net.conditions) (room (length net.directions) n))
         (misclosures_length net.directions net.q net.conditions)
-        ∙ sym (third (scan_reply file) (formed_reply net.directions net.q 1 net.conditions) _ (sym is.answer ∙ e))
+        ∙ sym (third (scan_reply file) (formed_reply net.directions net.q 1 net.conditions) _ e)
 
-    pub file_listing_lem : (sheet : Sheet) → table_listing sheet ds gs rows closings ≡ file_listing sheet file
+    pub file_listing_lem : (sheet : Sheet) → table_listing sheet t.directions.now t.q.now t.a.now t.w.now ≡ file_listing sheet file
     unfolding net_listing net_answers table_in table_listing
     file_listing_lem sheet = to_net (table_listing sheet)
 

@@ -1,9 +1,8 @@
 -- What becomes of a file: the reply to it, and the listing of an accepted one, byte for byte.
-use Rattle.std.specs.Prelude.{◌≡◌, List, ℕ, ℤ, length}
+use Rattle.std.specs.Prelude.{◌≡◌, List, ℕ, ℤ, length, IsOk}
 use Rattle.reply.specs.declared.Refusal.TheVariants.{Count}
-use Rattle.reply.specs.declared.Reply.{Reply}
-use Rattle.reply.specs.declared.Reply.TheVariants.{Accepted}
-use Rattle.reply.specs.Checks.{◌and_then◌}
+use Rattle.reply.specs.Reply.{Reply}
+use Rattle.reply.specs.Checks.{◌and_then◌, figure_reply}
 use Rattle.reply.specs.Verdicts.{verdict_of}
 use Rattle.doolittle.specs.Table.{Table, at, table_of}
 use Rattle.doolittle.specs.Solution.{K}
@@ -14,8 +13,7 @@ use Rattle.precision.specs.declared.Errors.{Errors}
 use Rattle.precision.specs.Errors.{errors_of}
 use Rattle.precision.specs.Promise.{MeanError}
 use Rattle.text.specs.Lines.{lines_of}
-use Rattle.page.specs.declared.Listed.{Listed}
-use Rattle.page.specs.Page.{ListedBy, in_room, printed, printed_in}
+use Rattle.page.specs.Page.{Listed, ListedBy, in_room, printed, printed_in}
 use Rattle.listing.specs.declared.Sheet.{Sheet}
 use Rattle.listing.specs.Listing.{accepted_listing, on_sheet, room_of}
 use Rattle.network.specs.Scan.{scan_reply}
@@ -87,11 +85,11 @@ adjust_file_reply sheet file room = in_room (Count 0) (room_of sheet) room (file
 pub record AdjustsFile (sheet : Sheet) (file before : List ℕ) (listed : Listed) (after : List ℕ) : Type 0 where
   pub lists : ListedBy (adjust_file_reply sheet file (length before)) (file_listing sheet file) before listed after
   -- in the rules' numbers: number and place
-  pub verdict : verdict_of listed.reply ≡ verdict_of (adjust_file_reply sheet file (length before))
+  pub verdict : verdict_of (figure_reply listed) ≡ verdict_of (adjust_file_reply sheet file (length before))
   -- and of every accepted file demand 3, printed corrections within one minute, and the mean error
-  pub demand3 : listed.reply ≡ Accepted → FileDemand3 file
-  pub within_minute : listed.reply ≡ Accepted → FileWithinMinute file
-  pub mean_error : listed.reply ≡ Accepted → FileMeanError file
+  pub demand3 : IsOk listed → FileDemand3 file
+  pub within_minute : IsOk listed → FileWithinMinute file
+  pub mean_error : IsOk listed → FileMeanError file
 
 -- ---- for programs: the listing of any file, an accepted one's or the line of its refusal
 unfoldable pub listing_of : Sheet → List ℕ → List ℕ

@@ -9,7 +9,7 @@ use Rattle.listing.specs.declared.Sheet.TheVariants.{Plain, WithErrors}
 
 -- ADJ, m, n
 abbrev pub adj_line : ℕ → ℕ → List ℕ
-adj_line m n = heading_line 65 68 74 m n
+adj_line m n = heading_line (65 ∷ 68 ∷ 74 ∷ []) m n
 
 -- V, number, u, adjusted
 abbrev pub v_line : ℕ → ℤ → ℤ → List ℕ

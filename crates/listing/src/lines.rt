@@ -1,86 +1,63 @@
-// The lines of an accepted net's listing: ADJ, V, K and E lines, written into a lent buffer.
-ghost use Rattle.std.specs.Prelude.{◌+◌, ◌*◌, ◌≤◌, length};
-ghost use Rattle.text.specs.Written.{Wrote};
+// The lines of an accepted net's listing: ADJ, V, K and E lines.
+ghost use Rattle.std.specs.Prelude.{◌≡◌, ◌+◌, ◌*◌, ◌≤◌, length};
+ghost use Rattle.text.specs.Written.{Puts};
 ghost use Rattle.listing.specs.Listing.{k_line, e_line, v_lines, k_lines, accepted_listing};
 
-use text::{LF, writer};
+use text::LF;
+use text::writer::Writer;
 
 // K, condition, K, R, Q.
-fn put_k(out: &mut [u8], at: usize, condition: u64, k: i64, r: i64, q: i64) -> usize
-    requires { at + 90 ≤ length out.old }
-    ensures { Wrote out.old at (k_line condition k r q) out.new result }
+fn put_k(w: &mut Writer, condition: u64, k: i64, r: i64, q: i64)
+    requires { w.old.at + 90 ≤ length w.old.out.now }
+    ensures { Puts w.old (k_line condition k r q) 90 w.new }
 {
-    let third = page::lines::put_head(out, at, b'K', condition, k, r);
-    let end = writer::put_signed(out, third, q);
-    writer::put_byte(out, end, LF)
+    page::lines::put_head(w, b'K', condition, k, r);
+    w.signed(q);
+    w.byte(LF);
 }
 
 // E, mean error, probable error.
-pub fn put_e(out: &mut [u8], at: usize, mean: i64, probable: i64) -> usize
-    requires { at + 46 ≤ length out.old }
-    ensures { Wrote out.old at (e_line mean probable) out.new result }
+pub fn put_e(w: &mut Writer, mean: i64, probable: i64)
+    requires { w.old.at + 46 ≤ length w.old.out.now }
+    ensures { Puts w.old (e_line mean probable) 46 w.new }
 {
-    let head = writer::put_byte(out, at, b'E');
-    let one = writer::put_signed(out, head, mean);
-    let two = writer::put_signed(out, one, probable);
-    writer::put_byte(out, two, LF)
+    w.byte(b'E');
+    w.signed(mean);
+    w.signed(probable);
+    w.byte(LF);
 }
 
-// The V lines of m directions.
-fn put_vs(out: &mut [u8], at: usize, u: &[i64], adjusted: &[i64], m: usize) -> usize
-    requires m_in_bounds { at + m * 68 ≤ length out.old }
-    requires m_in_bounds_2 { m ≤ length u.now }
-    requires m_in_bounds_3 { m ≤ length adjusted.now }
-    ensures { Wrote out.old at (v_lines m u.now adjusted.now) out.new result }
+// The V lines of all directions.
+fn put_vs(w: &mut Writer, u: &[i64], adjusted: &[i64])
+    requires room { w.old.at + length u.now * 68 ≤ length w.old.out.now }
+    requires paired { length adjusted.now ≡ length u.now }
+    ensures { Puts w.old (v_lines (length u.now) u.now adjusted.now) (length u.now * 68) w.new }
 {
-    let mut next = at;
-    let mut i = 0;
-    while i < m {
-        next = page::lines::put_numbered(out, next, b'V', (i as u64) + 1, u[i], adjusted[i]);
-        i = i + 1;
+    for (i, x) in u.iter().enumerate() {
+        page::lines::put_numbered(w, b'V', i as u64 + 1, *x, adjusted[i]);
     }
-    next
 }
 
-// The K lines of n conditions.
-fn put_ks(out: &mut [u8], at: usize, k: &[i64], r: &[i64], q: &[i64], n: usize) -> usize
-    requires n_in_bounds { at + n * 90 ≤ length out.old }
-    requires n_in_bounds_2 { n ≤ length k.now }
-    requires n_in_bounds_3 { n ≤ length r.now }
-    requires n_in_bounds_4 { n ≤ length q.now }
-    ensures { Wrote out.old at
-        (k_lines n k.now r.now q.now) out.new result }
+// The K lines of all conditions.
+fn put_ks(w: &mut Writer, k: &[i64], r: &[i64], q: &[i64])
+    requires room { w.old.at + length k.now * 90 ≤ length w.old.out.now }
+    requires paired { (length r.now ≡ length k.now) × (length q.now ≡ length k.now) }
+    ensures { Puts w.old (k_lines (length k.now) k.now r.now q.now) (length k.now * 90) w.new }
 {
-    let mut next = at;
-    let mut j = 0;
-    while j < n {
-        next = put_k(out, next, (j as u64) + 1, k[j], r[j], q[j]);
-        j = j + 1;
+    for (j, x) in k.iter().enumerate() {
+        put_k(w, j as u64 + 1, *x, r[j], q[j]);
     }
-    next
 }
 
-// The ADJ, V and K lines of an accepted net, from the start of the buffer: at most 6,560 bytes for 64 directions and 24 conditions.
-pub fn put_accepted(
-    out: &mut [u8],
-    m: usize,
-    n: usize,
-    u: &[i64],
-    adjusted: &[i64],
-    k: &[i64],
-    r: &[i64],
-    q: &[i64],
-) -> usize
-    requires n_in_bounds { 48 + m * 68 + n * 90 ≤ length out.old }
-    requires m_in_bounds { m ≤ length u.now }
-    requires m_in_bounds_2 { m ≤ length adjusted.now }
-    requires n_in_bounds_2 { n ≤ length k.now }
-    requires n_in_bounds_3 { n ≤ length r.now }
-    requires n_in_bounds_4 { n ≤ length q.now }
-    ensures { Wrote out.old 0 (accepted_listing m n u.now adjusted.now k.now r.now q.now)
-        out.new result }
+// The ADJ, V and K lines of an accepted net: at most 6,560 bytes for 64 directions and 24 conditions.
+pub fn put_accepted(w: &mut Writer, u: &[i64], adjusted: &[i64], k: &[i64], r: &[i64], q: &[i64])
+    requires room { w.old.at + (48 + length u.now * 68 + length k.now * 90) ≤ length w.old.out.now }
+    requires by_direction { length adjusted.now ≡ length u.now }
+    requires by_condition { (length r.now ≡ length k.now) × (length q.now ≡ length k.now) }
+    ensures { Puts w.old (accepted_listing (length u.now) (length k.now) u.now adjusted.now k.now r.now q.now)
+        (48 + length u.now * 68 + length k.now * 90) w.new }
 {
-    let head = page::lines::put_heading(out, 0, b'A', b'D', b'J', m as u64, n as u64);
-    let middle = put_vs(out, head, u, adjusted, m);
-    put_ks(out, middle, k, r, q, n)
+    page::lines::put_heading(w, b"ADJ", u.len() as u64, k.len() as u64);
+    put_vs(w, u, adjusted);
+    put_ks(w, k, r, q);
 }

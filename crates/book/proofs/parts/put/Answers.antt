@@ -1,7 +1,7 @@
 -- `book::parts::put` meets its contract. Assumes nothing.
 use mathlib.Core.Path.{sym, ◌∙◌, ap}
 use native.Mathlib.Omega.{arith}
-use Rattle.text.proofs.Putting.{rewrote}
+use Rattle.text.proofs.Putting.{puts_as, puts_most}
 use Rattle.book.specs.declared.parts.Part.{Part}
 use Rattle.book.specs.Rescue.{room_for, part_of}
 use Rattle.book.proofs.Accepting.{few_lines, line_short}
@@ -28,11 +28,15 @@ put_dropped-requires c =
     )
 
 pub returns-in-Kept : goal.returns-in-Kept
+unfolding room_for
 returns-in-Kept c =
     let file = c.args.file.now in
-    rewrote (kept_by_lem file c.args.reasons.now c.requires.2 ∙ ap (λ (part : Part). part_of part file) (sym c.in-Kept.is)) c.put_kept.ensures
+    puts_most (omega (arith, ap room_for c.in-Kept.is))
+    (puts_as (kept_by_lem file c.args.reasons.now c.requires.2 ∙ ap (λ (part : Part). part_of part file) (sym c.in-Kept.is)) c.put_kept.ensures)
 
 pub returns-in-Dropped : goal.returns-in-Dropped
+unfolding room_for
 returns-in-Dropped c =
     let file = c.args.file.now in
-    rewrote (dropped_by_lem file c.args.reasons.now c.requires.2 ∙ ap (λ (part : Part). part_of part file) (sym c.in-Dropped.is)) c.put_dropped.ensures
+    puts_most (omega (arith, ap room_for c.in-Dropped.is))
+    (puts_as (dropped_by_lem file c.args.reasons.now c.requires.2 ∙ ap (λ (part : Part). part_of part file) (sym c.in-Dropped.is)) c.put_dropped.ensures)

@@ -1,22 +1,23 @@
 -- `book::parts::put_kept` meets its contract: the kept ones of the lines before h have been written, and line h begins at `start`. Assumes nothing.
 use mathlib.Core.Path.{◌≡◌, sym, ◌∙◌, ap, subst}
-use mathlib.Core.List.{List, [], ◌++◌}
-use Prim.Native.Nat.{ℕ, ◌+◌, ◌-◌, ◌<◌}
+use mathlib.Core.List.{List, ◌++◌}
+use Prim.Native.Nat.{ℕ, ◌+◌, ◌-◌, ◌<◌, ◌≤◌}
 use native.Mathlib.Omega.{arith}
+use borrow.Author.Rules.{rules}
 use lib.ListN.{length, take, drop, length-append}
 use Rattle.text.specs.Parts.{place_from}
 use Rattle.text.specs.Lines.{LF, line_no}
-use Rattle.text.specs.Written.{line_end, in_order, Wrote}
+use Rattle.text.specs.Written.{line_end}
 use Rattle.text.proofs.Parting.{place_after}
-use Rattle.text.proofs.Putting.{wrote_length, rewrote, word_none, lines_none, lines_on_lem, room_within}
+use Rattle.text.proofs.Putting.{puts_as, puts_none, puts_most, puts_start, puts_line}
 use Rattle.text.proofs.Stepping.{Reached, reached_none, line_cut, line_here, end_within, reached_more}
 use Rattle.book.specs.Rescue.{kept_by}
-use Rattle.book.proofs.Parting.{kept_line_lem, kept_none, kept_most}
+use Rattle.book.proofs.Parting.{kept_line_lem, kept_none}
 use Rattle.book.proofs.parts.put_kept.Goals as goal
-use Rattle.book.proofs.parts.put_kept.Goals.{After-place_from-end, then-reason-h-eq0, else-reason-h-eq0}
+use Rattle.book.proofs.parts.put_kept.Goals.{After-place_from-end, then-kept, else-kept}
 
 pub loop-h-init : goal.loop-h-init
-loop-h-init c = let a = c.args in (omega arith, (reached_none a.file.now, lines_none a.out.now 0 _))
+loop-h-init c = (reached_none c.args.file.now, puts_start (kept_by c.args.file.now c.args.reason.now))
 
 -- ---- the line at the start
 module _ (c : After-place_from-end) where
@@ -24,60 +25,55 @@ module _ (c : After-place_from-end) where
   file = c.args.file.now
 
   ends : place_from LF file c.loop-h.start < length file
-  ends = end_within file c.loop-h.invariant.1.0 (omega (arith, c.loop-h-test.true, c.requires.2))
+  ends = end_within file c.loop-h.invariant.0 (omega (arith, c.loop-h-test.true, c.requires.2))
 
   cut : take (c.place_from-end.result + 1 - c.loop-h.start) (drop c.loop-h.start file) ≡ line_no file c.loop-h.h ++ line_end
   cut =
       ap (λ (e : ℕ). take (e + 1 - c.loop-h.start) (drop c.loop-h.start file)) c.place_from-end.ensures
       ∙ line_cut file c.loop-h.start ends
-      ∙ ap (λ (line : List ℕ). line ++ line_end) (sym (line_here file c.loop-h.invariant.1.0 ends))
+      ∙ ap (λ (line : List ℕ). line ++ line_end) (sym (line_here file c.loop-h.invariant.0 ends))
 
   on : Reached file (c.place_from-end.result + 1) (c.loop-h.h + 1)
-  on = subst (λ (e : ℕ). Reached file (e + 1) (c.loop-h.h + 1)) (sym c.place_from-end.ensures) (reached_more file c.loop-h.invariant.1.0 ends)
+  on = subst (λ (e : ℕ). Reached file (e + 1) (c.loop-h.h + 1)) (sym c.place_from-end.ensures) (reached_more file c.loop-h.invariant.0 ends)
 
 pub overflow_add-end : goal.overflow_add-end
 overflow_add-end c = omega (arith, ends c, c.place_from-end.ensures)
 
-pub slice_bounds-put_word-count : goal.slice_bounds-put_word-count
-slice_bounds-put_word-count c = omega (arith, c.place_from-end.ensures, place_after LF c.args.file.now c.loop-h.start)
+pub slice_bounds-word-count : goal.slice_bounds-word-count
+slice_bounds-word-count c = omega (arith, c.place_from-end.ensures, place_after LF c.args.file.now c.loop-h.start)
 
-pub slice_bounds-put_word-start : goal.slice_bounds-put_word-start
-slice_bounds-put_word-start c = omega (arith, c.place_from-end.ensures, place_after LF c.args.file.now c.loop-h.start)
+pub slice_bounds-word-start : goal.slice_bounds-word-start
+slice_bounds-word-start c = omega (arith, c.place_from-end.ensures, place_after LF c.args.file.now c.loop-h.start)
 
-pub slice_bounds-put_word-end : goal.slice_bounds-put_word-end
-slice_bounds-put_word-end c = omega (arith, c.place_from-end.ensures, ends (goal.at.slice_bounds-put_word-end c).After-place_from-end)
+pub slice_bounds-word-end : goal.slice_bounds-word-end
+slice_bounds-word-end c = omega (arith, c.place_from-end.ensures, ends (goal.at.slice_bounds-word-end c).After-place_from-end)
 
-pub put_word-next-requires : goal.put_word-next-requires
-put_word-next-requires c =
-    let file = c.args.file.now in let reasons = c.args.reason.now in let line = line_no file c.loop-h.h in
-    let taken = c.loop-h-test.true in
-    rw (cut (goal.at.put_word-next-requires c).After-place_from-end)
-    (omega (
-      arith,
-      length-append line line_end,
-      c.requires.3 c.loop-h.h (omega (arith, taken, c.requires.2)),
-      room_within (length reasons) c.loop-h.h 21 (kept_by file reasons) (λ j m. kept_most file reasons j (c.requires.3 j (omega (arith, m, c.requires.2)))) (omega (arith, c.requires.0, c.requires.1)) taken c.loop-h.invariant.1.1,
-    ))
+-- of at most 21 bytes
+short : (c : After-place_from-end) → length (take (c.place_from-end.result + 1 - c.loop-h.start) (drop c.loop-h.start c.args.file.now)) ≤ 21
+short c =
+    let line = line_no c.args.file.now c.loop-h.h in
+    rw (cut c) (omega (arith, length-append line line_end, c.requires.3 c.loop-h.h (omega (arith, c.loop-h-test.true, c.requires.2))))
+
+pub word-requires : goal.word-requires
+word-requires c =
+    let i = c.loop-h.invariant.1 in
+    omega (arith, i.few, i.room, c.requires.0, c.requires.1, c.loop-h-test.true, short (goal.at.word-requires c).After-place_from-end)
 
 pub loop-h-preserved : goal.loop-h-preserved
 loop-h-preserved c =
     let line = (goal.at.loop-h-preserved c).After-place_from-end in
-    let file = c.args.file.now in let reasons = c.args.reason.now in let h = c.loop-h.h in let lines = kept_by file reasons in (
-      omega (arith, c.loop-h-test.true),
-      (
-        on line,
-        elim c.if-reason-h-eq0.branch [
-          | then-reason-h-eq0 w ↦ rw (w.out-is, w.next-is) (lines_on_lem h lines c.loop-h.invariant.1.1 (rewrote (cut line ∙ sym (kept_line_lem file reasons h w.if-reason-h-eq0.true)) w.put_word-next.ensures))
-          | else-reason-h-eq0 w ↦ rw (w.out-is, w.next-is) (lines_on_lem h lines c.loop-h.invariant.1.1 (rewrote (sym (kept_none file reasons h w.if-reason-h-eq0.false)) (word_none _ [] _)))
-        ],
-      ),
-    )
-
-pub shape_of-out : goal.shape_of-out
-shape_of-out c = wrote_length c.loop-h.invariant.1.1
+    let file = c.args.file.now in let reasons = c.args.reason.now in let h = c.loop-h.h in let lines = kept_by file reasons in
+    elim c.if-kept.branch [
+      | then-kept w ↦
+          rw (w.w-is, w.start-is) (
+            on line,
+            puts_line h 21 lines c.loop-h.invariant.1
+                (puts_as (cut line ∙ sym (kept_line_lem file reasons h w.if-kept.true)) (puts_most (short line) w.word.ensures)),
+          )
+      | else-kept w ↦
+          rw (w.w-is, w.start-is)
+          (on line, puts_line h 21 lines c.loop-h.invariant.1 (puts_as (sym (kept_none file reasons h w.if-kept.false)) (puts_most (omega arith) puts_none)))
+    ]
 
 pub returns : goal.returns
-returns c =
-    let a = c.args in
-    subst (λ (k : ℕ). Wrote a.out.now 0 (in_order k (kept_by a.file.now a.reason.now)) c.loop-h.out c.loop-h.next)
-    (omega (arith, c.loop-h.invariant.0, c.loop-h-test.false)) c.loop-h.invariant.1.1
+returns c = let p = puts_most {most = 10752} (omega (arith, c.requires.1)) c.loop-h.invariant.1 in search rules

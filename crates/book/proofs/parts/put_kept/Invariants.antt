@@ -1,13 +1,9 @@
--- `book::parts::put_kept` meets its contract: the kept ones of the lines before h have been written, and line h begins at `start`. Assumes nothing.
-use Prim.Native.Nat.{◌-◌, ◌≤◌}
-use lib.ListN.{length}
-use Rattle.text.specs.Written.{in_order, Wrote}
+-- `book::parts::put_kept`: the kept ones of the lines before h have been put, and line h begins at `start`.
+use Rattle.std.specs.Prelude.{◌*◌}
+use Rattle.text.specs.Written.{in_order, Puts}
 use Rattle.text.proofs.Stepping.{Reached}
 use Rattle.book.specs.Rescue.{kept_by}
 use Rattle.book.proofs.parts.put_kept.Given as goal
 
 abbrev pub invariant-loop-h : goal.invariant-loop-h
-invariant-loop-h l = (l.h ≤ length l.reason) × (Reached l.file l.start l.h × Wrote l.initial.out 0 (in_order l.h (kept_by l.file l.reason)) l.out l.next)
-
-abbrev pub decreases-loop-h : goal.decreases-loop-h
-decreases-loop-h l = length l.reason - l.h
+invariant-loop-h l = Reached l.file l.start l.h × Puts l.initial.w (in_order l.h (kept_by l.file l.reason)) (l.h * 21) l.w

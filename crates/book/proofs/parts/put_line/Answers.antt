@@ -1,31 +1,35 @@
--- `book::parts::put_line` meets its contract. Assumes nothing.
-use native.Mathlib.Omega.{arith}
-use Rattle.text.proofs.Putting.{then, wrote_length}
-use Rattle.book.proofs.Parting.{x_long}
+-- A line of at most 8 bytes: three digits, and one.
+use Rattle.std.proofs.Common.{arith}
+use Rattle.text.proofs.Putting.{puts, puts_then}
+use Rattle.text.proofs.ReadingBack.{few_digits}
+use Rattle.book.proofs.Parting.{x_most}
 use Rattle.book.proofs.parts.put_line.Goals as goal
 
-pub put_field-numbered-requires : goal.put_field-numbered-requires
-put_field-numbered-requires c =
-    omega (arith, c.requires, x_long c.args.ordinal c.args.reason, c.put_byte-head.ensures.place, wrote_length c.put_byte-head.ensures)
+pub count-requires : goal.count-requires
+count-requires c = let h = c.byte.ensures in omega (arith, c.requires.0, h.few, h.room, few_digits 2 c.args.ordinal c.requires.1)
 
-pub put_field-told-requires : goal.put_field-told-requires
-put_field-told-requires c =
-    omega (arith, c.requires, x_long c.args.ordinal c.args.reason, c.put_byte-head.ensures.place, wrote_length c.put_byte-head.ensures, c.put_field-numbered.ensures.place, wrote_length c.put_field-numbered.ensures)
+pub count-requires-2 : goal.count-requires-2
+count-requires-2 c =
+    let h = c.byte.ensures in let n = c.count.ensures in
+    omega (arith, c.requires.0, h.few, h.room, n.wrote.place, n.room, few_digits 2 c.args.ordinal c.requires.1, few_digits 0 c.args.reason c.requires.2)
 
-pub put_byte-requires : goal.put_byte-requires
-put_byte-requires c =
+pub byte-requires-2 : goal.byte-requires-2
+byte-requires-2 c =
+    let h = c.byte.ensures in let n = c.count.ensures in let r = c.count-2.ensures in
     omega (
       arith,
-      c.requires,
-      x_long c.args.ordinal c.args.reason,
-      c.put_byte-head.ensures.place,
-      wrote_length c.put_byte-head.ensures,
-      c.put_field-numbered.ensures.place,
-      wrote_length c.put_field-numbered.ensures,
-      c.put_field-told.ensures.place,
-      wrote_length c.put_field-told.ensures,
+      c.requires.0,
+      h.few,
+      h.room,
+      n.wrote.place,
+      n.room,
+      r.wrote.place,
+      r.room,
+      few_digits 2 c.args.ordinal c.requires.1,
+      few_digits 0 c.args.reason c.requires.2,
     )
 
 pub returns : goal.returns
 returns c =
-    then c.put_byte-head.ensures (then c.put_field-numbered.ensures (then c.put_field-told.ensures c.put_byte.ensures))
+    let p = puts_then c.byte.ensures (puts_then c.count.ensures (puts_then c.count-2.ensures c.byte-2.ensures)) in
+    puts p.wrote (x_most c.args.ordinal c.args.reason c.requires.1 c.requires.2) p.same

@@ -1,55 +1,7 @@
--- `listing::put_accepted` meets its contract. Assumes nothing.
-use mathlib.Core.Path.{◌∙◌}
-use Prim.Native.Nat.{◌+◌, ◌*◌}
-use native.Mathlib.Omega.{arith}
-use Rattle.listing.specs.Listing.{v_line_of}
-use Rattle.text.proofs.Putting.{Come, then, wrote_length, come_within, come_on, lines_most}
-use Rattle.page.proofs.Composing.{heading_most, numbered_most}
+-- One part after another.
+use Rattle.std.proofs.Common.{arith}
+use Rattle.text.proofs.Putting.{puts_then, puts_most}
 use Rattle.listing.proofs.lines.put_accepted.Goals as goal
-use Rattle.listing.proofs.lines.put_accepted.Goals.{After-put_heading-head, After-put_vs-middle, Start}
-
--- how far the first line, and the V lines, have come
-abbrev start1 : After-put_heading-head → Start
-start1 c = c.before.before.before
-
-come1 : (c : After-put_heading-head) → Come (start1 c).args.out.now 0 48 c.put_heading-head.new.out c.put_heading-head.result
-come1 c = come_within 48 (heading_most 65 68 74 (start1 c).args.m (start1 c).args.n) c.put_heading-head.ensures
-
-pub put_vs-middle-requires : goal.put_vs-middle-requires
-put_vs-middle-requires c =
-    let b = c.before.before.before in let pre = (start1 b).requires in
-    record {
-      m_in_bounds = omega (arith, pre.n_in_bounds, (come1 b).far, (come1 b).kept);
-      m_in_bounds_2 = pre.m_in_bounds;
-      m_in_bounds_3 = pre.m_in_bounds_2;
-    }
-
-abbrev start2 : After-put_vs-middle → Start
-start2 c = start1 c.before.before.before.before
-
-come2 :
-    (c : After-put_vs-middle) → Come (start2 c).args.out.now 0 (48 + (start2 c).args.m * 68) c.put_vs-middle.new.out c.put_vs-middle.result
-come2 c =
-    let s = start2 c in
-    come_on
-    (s.args.m * 68)
-    (come1 c.before.before.before.before)
-    (lines_most s.args.m 68 (v_line_of s.args.u.now s.args.adjusted.now) (λ i. numbered_most 86 (i + 1) _ _))
-    c.put_vs-middle.ensures
-
-pub put_ks-requires : goal.put_ks-requires
-put_ks-requires c =
-    let b = c.before.before.before in let pre = (start2 b).requires in
-    record {
-      n_in_bounds = omega (arith, pre.n_in_bounds, (come2 b).far, (come2 b).kept);
-      n_in_bounds_2 = pre.n_in_bounds_2;
-      n_in_bounds_3 = pre.n_in_bounds_3;
-      n_in_bounds_4 = pre.n_in_bounds_4;
-    }
-
-pub shape_of-out : goal.shape_of-out
-shape_of-out c = wrote_length c.put_ks.ensures ∙ (come2 c.before.before.before.before.before.before.before).kept
 
 pub returns : goal.returns
-returns c =
-    then c.put_heading-head.ensures (then c.put_vs-middle.ensures c.put_ks.ensures)
+returns c = puts_most (omega arith) (puts_then c.put_heading.ensures (puts_then c.put_vs.ensures c.put_ks.ensures))

@@ -1,44 +1,11 @@
--- `listing::put_e` meets its contract. Assumes nothing.
-use mathlib.Core.Path.{◌∙◌}
-use native.Mathlib.Omega.{arith}
-use Rattle.text.proofs.Putting.{Come, then, wrote_length, read_signed, come, signed_on}
+-- One field after another.
+use Rattle.std.proofs.lemmas.Int.{to_z-of_z}
+use Rattle.std.proofs.Common.{arith}
+use Rattle.text.proofs.Putting.{puts_then, puts_most}
 use Rattle.listing.proofs.lines.put_e.Goals as goal
-use Rattle.listing.proofs.lines.put_e.Goals.{After-put_byte-head, After-put_signed-one, After-put_signed-two, Start}
-
--- how far each part has come
-abbrev start1 : After-put_byte-head → Start
-start1 c = c.before.before.before
-
-come1 : (c : After-put_byte-head) → Come (start1 c).args.out.now (start1 c).args.at 1 c.put_byte-head.new.out c.put_byte-head.result
-come1 c = come c.put_byte-head.ensures
-
-pub put_signed-one-requires : goal.put_signed-one-requires
-put_signed-one-requires c = let b = c.before.before.before in omega (arith, (start1 b).requires, (come1 b).far, (come1 b).kept)
-
-abbrev start2 : After-put_signed-one → Start
-start2 c = start1 c.before.before.before.before
-
-come2 : (c : After-put_signed-one) → Come (start2 c).args.out.now (start2 c).args.at 23 c.put_signed-one.new.out c.put_signed-one.result
-come2 c = signed_on _ (come1 c.before.before.before.before) c.put_signed-one.ensures
-
-pub put_signed-two-requires : goal.put_signed-two-requires
-put_signed-two-requires c = let b = c.before.before.before in omega (arith, (start2 b).requires, (come2 b).far, (come2 b).kept)
-
-abbrev start3 : After-put_signed-two → Start
-start3 c = start2 c.before.before.before.before
-
-come3 : (c : After-put_signed-two) → Come (start3 c).args.out.now (start3 c).args.at 45 c.put_signed-two.new.out c.put_signed-two.result
-come3 c = signed_on _ (come2 c.before.before.before.before) c.put_signed-two.ensures
-
-pub put_byte-requires : goal.put_byte-requires
-put_byte-requires c = let b = c.before.before.before in omega (arith, (start3 b).requires, (come3 b).far, (come3 b).kept)
-
-pub shape_of-out : goal.shape_of-out
-shape_of-out c = wrote_length c.put_byte.ensures ∙ (come3 c.before.before.before.before.before.before.before).kept
 
 pub returns : goal.returns
 returns c =
-    (then c.put_byte-head.ensures
-    (then (read_signed c.args.mean c.ranges.mean c.put_signed-one.ensures)
-    (then (read_signed c.args.probable c.ranges.probable c.put_signed-two.ensures)
-    c.put_byte.ensures)))
+    let f = c.ranges.mean in let g = c.ranges.probable in
+    puts_most (omega arith)
+    (puts_then c.byte.ensures (puts_then (simp to_z-of_z at c.signed.ensures) (puts_then (simp to_z-of_z at c.signed-2.ensures) c.byte-2.ensures)))

@@ -1,11 +1,8 @@
--- `listing::put_vs` meets its contract. Assumes nothing.
-use Prim.Native.Nat.{◌-◌, ◌≤◌}
+-- `lines::put_vs`: the lines of the directions before i have been put.
+use Rattle.std.specs.Prelude.{◌*◌}
+use Rattle.text.specs.Written.{in_order, Puts}
 use Rattle.listing.specs.Listing.{v_line_of}
-use Rattle.text.specs.Written.{in_order, Wrote}
 use Rattle.listing.proofs.lines.put_vs.Given as goal
 
 abbrev pub invariant-loop-i : goal.invariant-loop-i
-invariant-loop-i l = (l.i ≤ l.m) × Wrote l.initial.out l.at (in_order l.i (v_line_of l.u l.adjusted)) l.out l.next
-
-abbrev pub decreases-loop-i : goal.decreases-loop-i
-decreases-loop-i l = l.m - l.i
+invariant-loop-i l = Puts l.initial.w (in_order l.i (v_line_of l.u l.adjusted)) (l.i * 68) l.w

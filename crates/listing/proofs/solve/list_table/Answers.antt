@@ -1,72 +1,38 @@
--- `listing::solve::list_table` meets its contract. Assumes nothing.
-use mathlib.Core.Path.{◌∙◌}
-use Prim.Native.Nat.{◌≤◌}
-use native.Mathlib.Omega.{arith}
-use lib.ListN.{length}
+-- `solve::list_table` meets its contract. Assumes nothing.
+use Rattle.std.proofs.Common.{◌≡◌, refl, ◌∙◌, length, Err, rules, arith}
 use Rattle.adjustment.specs.Promise.{lists}
-use Rattle.text.proofs.Putting.{then, rewrote, wrote_length}
+use Rattle.text.proofs.Putting.{rewrote, puts_then, put_whole}
+use Rattle.page.specs.Page.{Listed}
 use Rattle.page.proofs.Printing.{listed_refused, listed_accepted}
-use Rattle.listing.proofs.Composing.{accepted_most, plain_fits}
 use Rattle.listing.proofs.Tabling.{Lent, answered, errors_accepted, table_accepted}
 use Rattle.listing.proofs.solve.list_table.Goals as goal
-use Rattle.listing.proofs.solve.list_table.Goals.{After-adjust_own-reply, After-put_accepted-length, In_default, Start}
+use Rattle.listing.proofs.solve.list_table.Goals.{After-adjust_own}
 
--- ---- what `adjust_own` has answered
-module _ (c : After-adjust_own-reply) where
-  abbrev start : Start
-  start = c.before.before.before.before.before.before.before.before.before
+-- the answer lists are as long as they must be
+lent : (c : After-adjust_own) → Lent (length c.args.directions.now) (length c.args.w.now) (lists c.args.v.now c.args.u.now c.args.adjusted.now c.args.k.now c.args.r.now c.args.misses.now)
+lent c =
+    let d = c.requires.by_direction in let n = c.requires.by_condition in
+    record { corrections = d.0; printed = d.1; adjusted = d.2; correlates = n.0; remainders = n.1; misses = n.2 }
 
-  lent_lists : Lent (length start.args.directions.now) (length start.args.w.now)
-      (lists start.args.v.now start.args.u.now start.args.adjusted.now start.args.k.now start.args.r.now start.args.misses.now)
-  lent_lists =
-      let d = start.requires.v_len in let n = start.requires.k_len in
-      record { corrections = d.0; printed = d.1; adjusted = d.2; correlates = n.0; remainders = n.1; misses = n.2 }
+pub returns-in_err-adjust_own : goal.returns-in_err-adjust_own
+returns-in_err-adjust_own c =
+    let e : ◌≡◌ {A = Listed} c.from_residual.result (Err c.in_err-adjust_own.field-0.0) = search rules in
+    rw e (listed_refused _ (answered _ _ _ _ (lent (goal.at.returns-in_err-adjust_own c).After-adjust_own) c.adjust_own.ensures ∙ c.in_err-adjust_own.was))
 
-pub returns-in-Refused : goal.returns-in-Refused
-returns-in-Refused c =
-    let a : After-adjust_own-reply = record { before = c.before.before.before.before.before.before.before.before; type_inv = record { out = c.slice_known-1.given } } in let s = start a in
-    listed_refused _ (answered s.args.directions.now s.args.q.now s.args.a.now s.args.w.now (lent_lists a) a.adjust_own-reply.ensures ∙ c.in-Refused.is)
+pub put_errors-requires-clause-accepted : goal.put_errors-requires-clause-accepted
+put_errors-requires-clause-accepted c =
+    errors_accepted _ _ _ _ (lent (goal.at.put_errors-requires-clause-accepted c).After-adjust_own) c.adjust_own.ensures c.in_ok-adjust_own.was
 
-pub put_accepted-length-requires : goal.put_accepted-length-requires
-put_accepted-length-requires c =
-    let a : After-adjust_own-reply = record { before = c.before.before.before.before.before.before.before.before; type_inv = record { out = c.slice_known-1.given } } in let s = start a in
-    let p = s.requires in let k = a.adjust_own-reply.auto in record {
-      n_in_bounds = omega (arith, p.directions_len_bound.0, p.directions_len_bound.1, p.directions_len_bound.2, plain_fits s.args.sheet);
-      m_in_bounds = omega (arith, k.u, p.v_len.1);
-      m_in_bounds_2 = omega (arith, k.adjusted, p.v_len.2);
-      n_in_bounds_2 = omega (arith, k.k, p.k_len.0);
-      n_in_bounds_3 = omega (arith, k.r, p.k_len.1);
-      n_in_bounds_4 = omega (arith, k.misses, p.k_len.2);
-    }
-
--- ---- the listing of an accepted table stands in the buffer
-module _ (c : After-put_accepted-length) where
-  abbrev told : In_default
-  told = (record { before = c.before.before; type_inv = record { out = c.slice_known-1.given } })
-
-  abbrev adjusted : After-adjust_own-reply
-  adjusted = (record { before = told.before.before.before.before.before.before.before.before; type_inv = record { out = told.slice_known-1.given } })
-
-  abbrev s : Start
-  s = start adjusted
-
-  within : c.put_accepted-length.result ≤ 6560
-  within =
-      let p = s.requires.directions_len_bound in let f = adjusted.adjust_own-reply.new in
-      omega (arith, c.put_accepted-length.ensures.place, accepted_most (length s.args.directions.now) (length s.args.w.now) f.u f.adjusted f.k f.r f.misses, p.0, p.1)
-
-pub put_errors-end-requires : goal.put_errors-end-requires
-put_errors-end-requires c =
-    let p = c.before.before.before in let a = adjusted p in let s = s p in record {
-      n_value = errors_accepted s.args.directions.now s.args.q.now s.args.a.now s.args.w.now (lent_lists a) a.adjust_own-reply.ensures (told p).in_default.is;
-      at_bound = within p;
-      sheet_in_bounds = omega (arith, s.requires.directions_len_bound.2, wrote_length p.put_accepted-length.ensures);
-    }
+pub put_errors-requires-clause-behind_lines : goal.put_errors-requires-clause-behind_lines
+put_errors-requires-clause-behind_lines c =
+    let kept = c.adjust_own.auto in let p = c.requires in
+    omega (arith, c.put_accepted.ensures.few, kept.u, kept.k, p.by_direction.1, p.by_condition.0, p.sizes.0, p.sizes.1)
 
 pub returns : goal.returns
 returns c =
-    let p = c.before.before.before.before.before.before.before in let a = adjusted p in let s = s p in
-    let accepted = (told p).in_default.is in
-    listed_accepted (answered s.args.directions.now s.args.q.now s.args.a.now s.args.w.now (lent_lists a) a.adjust_own-reply.ensures ∙ accepted)
-    (rewrote (table_accepted s.args.directions.now s.args.q.now s.args.a.now s.args.w.now (lent_lists a) a.adjust_own-reply.ensures accepted s.args.sheet s.requires.directions_len_bound.3)
-    (then p.put_accepted-length.ensures c.put_errors-end.ensures))
+    let l = lent (goal.at.returns c).After-adjust_own in
+    let done =
+    listed_accepted (answered _ _ _ _ l c.adjust_own.ensures ∙ c.in_ok-adjust_own.was)
+    (rewrote (table_accepted _ _ _ _ l c.adjust_own.ensures c.in_ok-adjust_own.was c.args.sheet)
+    (put_whole refl (puts_then c.put_accepted.ensures c.put_errors.ensures))) in
+    search rules

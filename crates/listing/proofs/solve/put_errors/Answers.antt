@@ -1,36 +1,19 @@
--- `listing::solve::put_errors` meets its contract: on a plain sheet nothing is written. Assumes nothing.
-use mathlib.Core.Path.{◌≡◌, refl, sym, ◌∙◌, ap, ap₂, subst}
-use mathlib.Core.List.{List, []}
-use Prim.Native.Nat.{ℕ, ◌≤◌}
-use native.Mathlib.Omega.{arith}
-use lib.ListN.{length}
-use Rattle.exact.proofs.Bound.{read_at}
+-- On a plain sheet nothing is put.
+use Rattle.std.proofs.Common.{◌≡◌, ◌∙◌, ap, ap₂, to_z, of_z, w64, arith}
+use Rattle.std.proofs.lemmas.Int.{to_z-of_z}
 use Rattle.precision.specs.declared.Errors.{Errors}
-use Rattle.precision.specs.Errors.{errors}
-use Rattle.text.specs.Written.{Wrote}
-use Rattle.text.proofs.Putting.{rewrote}
-use Rattle.listing.specs.declared.Sheet.{Sheet}
-use Rattle.listing.specs.declared.Sheet.TheVariants.{Plain, WithErrors}
-use Rattle.listing.specs.Listing.{e_line, on_sheet, room_of}
+use Rattle.text.proofs.Putting.{puts_as, puts_none, puts_most}
+use Rattle.listing.specs.Listing.{e_line, on_sheet}
 use Rattle.listing.proofs.solve.put_errors.Goals as goal
 
-nothing : (out : List ℕ) (at : ℕ) (sheet : Sheet) (e : Errors) → sheet ≡ Plain → Wrote out at (on_sheet sheet [] e) out at
-unfolding on_sheet
-nothing out at sheet e same = rewrote (ap (λ (x : Sheet). on_sheet x [] e) (sym same)) (record { buffer = refl; place = omega arith })
-
-line : {out after : List ℕ} {at end : ℕ} (sheet : Sheet) (e e' : Errors) → sheet ≡ WithErrors → e' ≡ e → Wrote out at (e_line e'.mean e'.probable) after end → Wrote out at (on_sheet sheet [] e) after end
-unfolding on_sheet
-line sheet e e' same f w = rewrote (ap (λ (x : Errors). e_line x.mean x.probable) f ∙ ap (λ (x : Sheet). on_sheet x [] e) (sym same)) w
-
-pub put_e-requires : goal.put_e-requires
-put_e-requires c =
-    omega (arith, c.requires.at_bound, subst (λ (x : Sheet). room_of x ≤ length c.args.out.now) c.in-WithErrors.is c.requires.sheet_in_bounds)
-
 pub returns-in-Plain : goal.returns-in-Plain
-returns-in-Plain c = nothing c.args.out.now c.args.at c.args.sheet _ c.in-Plain.is
+unfolding on_sheet
+returns-in-Plain c = rw c.in-Plain.is (puts_most (omega arith) puts_none)
 
 pub returns-in-WithErrors : goal.returns-in-WithErrors
+unfolding on_sheet
 returns-in-WithErrors c =
-    let r = c.estimate-errors.result in
-    line c.args.sheet _ _ c.in-WithErrors.is
-    (ap₂ errors (read_at r.mean c.struct_told-1.given.0.1) (read_at r.probable c.struct_told-in-WithErrors-1.given.1.0.1) ∙ c.estimate-errors.ensures) c.put_e.ensures
+    let found = c.estimate-mean.result in
+    let mean : to_z w64 (of_z w64 found.mean) ≡ found.mean = grind (arith, to_z-of_z) in
+    let probable : to_z w64 (of_z w64 found.probable) ≡ found.probable = grind (arith, to_z-of_z) in
+    rw c.in-WithErrors.is (puts_as (ap₂ e_line mean probable ∙ ap (λ (x : Errors). e_line x.mean x.probable) c.estimate-mean.ensures) c.put_e.ensures)
