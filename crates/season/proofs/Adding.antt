@@ -17,7 +17,6 @@ use borrow.Author.Tests.{ne_eqb, eqb-true, eqb-false, le-ltb}
 use lib.Dec.{eqb}
 use lib.ListN.{length, get_or, take, length-append}
 use lib.Seq.{take_all}
-use Rattle.reply.specs.declared.Reply.TheVariants.{Accepted}
 use Rattle.text.specs.Fields.{letter_of}
 use Rattle.text.specs.Lines.{LF}
 use Rattle.text.specs.Parts.{bytes_before, parted}
@@ -34,6 +33,7 @@ use Rattle.season.specs.Inner.{IsShare}
 use Rattle.season.proofs.Parting.{onto_none, onto_onto, parts_some, more_than_last}
 use Rattle.season.proofs.Sharing.{share_is, left_is}
 use Rattle.season.proofs.Joining.{unbroken_more, line_stop, line_other}
+use Rattle.std.specs.Prelude.{Ok}
 
 -- ---- an archive that ends with a full stop line: it is one, or one stands behind an LF
 pub data Closed : (archive : List ℕ) → Type 0 where
@@ -157,7 +157,7 @@ shares_joined {first} c second =
     split second ∙ ap (λ (x : List (List ℕ)). x ++ shares_in (parts_of second)) (sym own)
 
 pub joined_report : {first : List ℕ} → Closed first → (second : List ℕ) → length (shares_of first) + length (shares_of second) ≤ most_nets
-    → (season_reply (shares_of (first ++ second)) ≡ Accepted) × (season_report (shares_of (first ++ second)) ≡ sum_of (season_report (shares_of first)) (season_report (shares_of second)))
+    → (season_reply (shares_of (first ++ second)) ≡ Ok tt) × (season_report (shares_of (first ++ second)) ≡ sum_of (season_report (shares_of first)) (season_report (shares_of second)))
 unfolding season_reply season_report
 joined_report {first} c second l =
     let e = shares_joined c second in let n = length-append (shares_of first) (shares_of second) in

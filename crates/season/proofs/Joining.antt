@@ -24,8 +24,7 @@ use lib.ListN.{length, get_or, take, drop, length-append}
 use lib.Seq.{take_at, drop_at, take-suc-set, take-take, append_snoc}
 use Rattle.exact.proofs.Searching.{not_both, either}
 use Rattle.reply.specs.declared.Refusal.TheVariants.{Count, OutOfRange, Nets}
-use Rattle.reply.specs.declared.Reply.{Reply}
-use Rattle.reply.specs.declared.Reply.TheVariants.{Accepted, Refused}
+use Rattle.reply.specs.Reply.{Reply}
 use Rattle.reply.specs.Checks.{leaves}
 use Rattle.reply.proofs.Checking.{refuse_none, if_accepted}
 use Rattle.text.specs.Lines.{LF}
@@ -43,7 +42,9 @@ use Rattle.season.proofs.Walking.{stop_byte, no_stop, stop_length}
 use Rattle.season.proofs.Sharing.{share_is, left_is, long_net}
 use Rattle.season.proofs.Leading.{shares_closed, shares_left, Leads, leads_none, leads_end, turn_fits, turn_past, none_within}
 use Rattle.season.proofs.Promising.{amiss, lengths_known}
-use Rattle.season.proofs.Streaming.{closes_by, taken_close, taken_kept, Sound, byte_sound, fed_sound}
+use Rattle.season.specs.Inner.{Sound}
+use Rattle.season.proofs.Streaming.{closes_by, taken_close, taken_kept, byte_sound, fed_sound}
+use Rattle.std.specs.Prelude.{Ok, Err}
 
 -- ---- where a stream stands in a line
 unfoldable pub line_state : (line : List ℕ) → ℕ
@@ -214,7 +215,7 @@ reading_none held totals past = record { unbroken = omega arith; stands = refl; 
 -- ---- the state and the bytes to come give the report of all: while nets are counted, and once one is past 100,000
 pub data Streams (shares : List (List ℕ)) (s : Stream) (rest : List ℕ) : Type 0 where
   going : (lines line : List ℕ) → s.place.past ≡ 0 → Reading s lines line → Leads shares s.totals (shares_in (onto lines (parts_of (line ++ rest)))) → Streams shares s rest
-  gone : s.place.past ≡ 1 → s.totals ≡ season_report shares → season_reply shares ≡ Refused (Nets 100001) → Streams shares s rest
+  gone : s.place.past ≡ 1 → s.totals ≡ season_report shares → season_reply shares ≡ Err (Nets 100001) → Streams shares s rest
 
 pub stream_opens : (held archive : List ℕ) → Streams (shares_of archive) (stream held (report_of []) (place_at 0 0 0)) archive
 unfolding shares_of
@@ -352,7 +353,7 @@ module _ (shares : List (List ℕ)) (s : Stream) where
     by_left true e = none_left (eqb-true (length (lines ++ line)) 0 e)
     by_left false e = some_left (eqb-false (length (lines ++ line)) 0 e) (ltb (get_or s.totals 0 0) most_nets) refl
 
-  past_ends : s.place.past ≡ 1 → s.totals ≡ season_report shares → season_reply shares ≡ Refused (Nets 100001) → Answers
+  past_ends : s.place.past ≡ 1 → s.totals ≡ season_report shares → season_reply shares ≡ Err (Nets 100001) → Answers
   unfolding ended_totals ended_place past_reply
   past_ends p t q = let b = either (eqb s.place.bytes 0) (eqb s.place.past 1) (eq-eqb s.place.past 1 p) in (rw b t, rw (b, p) (sym q))
 
@@ -361,7 +362,7 @@ module _ (shares : List (List ℕ)) (s : Stream) where
   stream_ends (gone p t q) = past_ends p t q
 
 -- ---- no state on the way is refused
-pub stream_sound : (s : Stream) → Sound 0 s → state_reply s.held s.totals (place_list s.place) ≡ Accepted
+pub stream_sound : (s : Stream) → Sound 0 s → state_reply s.held s.totals (place_list s.place) ≡ Ok tt
 unfolding state_reply lengths_amiss place_reply place_list place_of line_amiss most_at
 stream_sound s h =
     let p = s.place in
@@ -371,7 +372,7 @@ stream_sound s h =
     within_most zero l = h.within.nets
     within_most (suc i) l = rw (ne_eqb (suc i) 0 (λ e. omega (arith, e))) (omega (arith, h.within.nets, h.within.small (suc i) l))
 
-    small : totals_reply s.totals ≡ Accepted
+    small : totals_reply s.totals ≡ Ok tt
     small = refuse_none 16 (total_amiss s.totals) (λ i. OutOfRange (i + 1)) (λ i l. le-ltb (most_at i) (get_or s.totals i 0) (within_most i l))
 
     no_lone : (b : Bool) → eqb s.place.line 1 ≡ b → (b && eqb s.place.bytes 0) ≡ false
@@ -380,7 +381,7 @@ stream_sound s h =
 
 -- ---- the operations: begun, and then fed with the parts of an archive, whatever they are
 pub data Runs : (held totals place archive : List ℕ) → Type 0 where
-  opening : {held totals place totals' place' : List ℕ} → Begins held totals place Accepted totals' place' → Runs held totals' place' []
+  opening : {held totals place totals' place' : List ℕ} → Begins held totals place (Ok tt) totals' place' → Runs held totals' place' []
   onward : {held totals place archive bytes held' totals' place' : List ℕ} {reply : Reply} → Runs held totals place archive
       → Feeds bytes held totals place reply held' totals' place' → Runs held' totals' place' (archive ++ bytes)
 
@@ -397,7 +398,7 @@ placed p = refl
 started : (held : List ℕ) → length held ≡ 65536 → Sound 0 (stream held (report_of []) (place_at 0 0 0))
 started held l = record { long = l; within = none_within 0; stands = record { bytes = omega arith; line = omega arith; past = omega arith; stop = λ e. absurd (omega (arith, e)) } }
 
-ran_begun : {held totals place totals' place' : List ℕ} → Begins held totals place Accepted totals' place' → Ran held totals' place' []
+ran_begun : {held totals place totals' place' : List ℕ} → Begins held totals place (Ok tt) totals' place' → Ran held totals' place' []
 unfolding begin_reply
 ran_begun {held} {totals} {place} b =
     let long = (lengths_known held totals place (if_accepted (amiss held totals place) (Count 0) (sym b.answer))).0 in
@@ -409,13 +410,13 @@ ran_begun {held} {totals} {place} b =
     }
 
 -- a state that a stream has reached is never refused
-ran_accepted : {held totals place archive : List ℕ} → Ran held totals place archive → state_reply held totals place ≡ Accepted
+ran_accepted : {held totals place archive : List ℕ} → Ran held totals place archive → state_reply held totals place ≡ Ok tt
 ran_accepted {held} {totals} {place} r = ap (state_reply held totals) (sym r.place_is) ∙ stream_sound (stream_of held totals place) r.sound
 
 ran_more : {held totals place archive bytes held' totals' place' : List ℕ} {reply : Reply} → Ran held totals place archive
     → Feeds bytes held totals place reply held' totals' place' → Ran held' totals' place' (archive ++ bytes)
 ran_more {held} {totals} {place} {archive} {bytes} {held'} {totals'} {place'} {reply} r f =
-    let e : reply ≡ Accepted = f.answer ∙ ran_accepted r in
+    let e : reply ≡ Ok tt = f.answer ∙ ran_accepted r in
     let s = fed bytes (stream_of held totals place) in
     let h : held' ≡ s.held = f.held_is ∙ ap (λ (x : Reply). leaves x s.held held) e in
     let t : totals' ≡ s.totals = f.totals_are ∙ ap (λ (x : Reply). leaves x s.totals totals) e in
@@ -435,7 +436,7 @@ ran (opening b) = ran_begun b
 ran (onward r f) = ran_more (ran r) f
 
 pub never_refused : {held totals place archive bytes held' totals' place' : List ℕ} {reply : Reply} → Runs held totals place archive
-    → Feeds bytes held totals place reply held' totals' place' → reply ≡ Accepted
+    → Feeds bytes held totals place reply held' totals' place' → reply ≡ Ok tt
 never_refused r f = f.answer ∙ ran_accepted (ran r)
 
 -- whatever parts the bytes come in, the report is the rule's of all of them joined

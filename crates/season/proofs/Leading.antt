@@ -19,7 +19,6 @@ use lib.Dec.{ltb}
 use lib.ListN.{length, get_or, take}
 use lib.Seq.{take-nil}
 use Rattle.reply.specs.declared.Refusal.TheVariants.{Nets}
-use Rattle.reply.specs.declared.Reply.TheVariants.{Accepted, Refused}
 use Rattle.totals.specs.Totals.{largest_at, total, sum_of, report_of}
 use Rattle.totals.specs.Promise.{most_nets}
 use Rattle.totals.proofs.Totalling.{joined_sum, joined_most, sum_length, sum_at_lem, sum_none, sum_comm, sum_more, report_at, report_length}
@@ -29,6 +28,7 @@ use Rattle.season.specs.Season.{left_shares, shares_in, season_reply, season_rep
 use Rattle.season.specs.Stream.{counted_in}
 use Rattle.season.specs.Inner.{IsShare, Within}
 use Rattle.season.proofs.Parting.{parts_some, more_than_last}
+use Rattle.std.specs.Prelude.{Ok, Err}
 
 -- ---- the shares of parts
 pub shares_closed : (net rest : List ℕ) → shares_in (net ∷ parts_of rest) ≡ share_of net ∷ shares_in (parts_of rest)
@@ -76,13 +76,13 @@ module _ {shares : List (List ℕ)} {totals share : List ℕ} {rest : List (List
         report = sum_more totals share (take (most_nets - get_or (sum_of totals share) 0 0) rest) ∙ (rw e at l.report);
       }
 
-  pub leads_past : most_nets ≤ get_or totals 0 0 → (totals ≡ season_report shares) × (season_reply shares ≡ Refused (Nets 100001))
+  pub leads_past : most_nets ≤ get_or totals 0 0 → (totals ≡ season_report shares) × (season_reply shares ≡ Err (Nets 100001))
   unfolding season_reply
   leads_past full =
       let e : most_nets - get_or totals 0 0 ≡ 0 = omega arith in
       (sym (sum_none totals l.long) ∙ (rw e at l.report), rw (lt-ltb most_nets (length shares) (omega (arith, l.counts, l.nets))))
 
-pub leads_end : {shares : List (List ℕ)} {totals : List ℕ} → Leads shares totals [] → (totals ≡ season_report shares) × (season_reply shares ≡ Accepted)
+pub leads_end : {shares : List (List ℕ)} {totals : List ℕ} → Leads shares totals [] → (totals ≡ season_report shares) × (season_reply shares ≡ Ok tt)
 unfolding season_reply
 leads_end {shares} {totals} l = (
   sym (sum_none totals l.long) ∙ ap (λ (x : List (List ℕ)). sum_of totals (report_of x)) (sym (take-nil (most_nets - get_or totals 0 0))) ∙ l.report,
@@ -107,7 +107,7 @@ module _ {shares : List (List ℕ)} {totals share : List ℕ} {rest : List (List
       let below = ltb-true (get_or totals 0 0) most_nets (sym f ∙ e) in
       subst (λ (x : List ℕ). Leads shares x rest) (sym (c ∙ counted_fits share totals below)) (leads_more l s below)
 
-  pub turn_past : fits ≡ false → (season_reply shares ≡ Refused (Nets 100001)) × (left ≡ season_report shares)
+  pub turn_past : fits ≡ false → (season_reply shares ≡ Err (Nets 100001)) × (left ≡ season_report shares)
   turn_past e =
       let full = ltb-false (get_or totals 0 0) most_nets (sym f ∙ e) in let p = leads_past l full in
       (p.1, c ∙ counted_past share totals full ∙ p.0)

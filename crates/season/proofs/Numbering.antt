@@ -18,8 +18,7 @@ use lib.ListN.{length}
 use Rattle.exact.specs.First.{first, some_below}
 use Rattle.reply.specs.declared.Refusal.{Refusal}
 use Rattle.reply.specs.declared.Refusal.TheVariants.{Malformed, Count, OutOfRange, Coefficient, Misclosure, WeakRow, Correlate, Remainder, Correction}
-use Rattle.reply.specs.declared.Reply.{Reply}
-use Rattle.reply.specs.declared.Reply.TheVariants.{Accepted, Refused}
+use Rattle.reply.specs.Reply.{Reply}
 use Rattle.reply.specs.Numbers.{number_of}
 use Rattle.reply.specs.Checks.{refuse_if, refuse_first, ◌and_then◌, figure_reply}
 use Rattle.reply.specs.Verdicts.{verdict_of}
@@ -38,15 +37,16 @@ use Rattle.network.specs.Records.{record_of}
 use Rattle.network.specs.Scan.{none, belongs, out_of_turn, one_too_many, direction_reply, angles_reply, sides_reply, term_reply, line_reply, counted, end_fault, end_reply, if_last, scanned, scan_reply}
 use Rattle.network.specs.Net.{Condition, Net, net_of, refused_as, lent_of, condition_reply, formed_reply, table_reply}
 use Rattle.network.specs.declared.record.Record.{Record}
-use Rattle.network.specs.declared.record.Record.TheVariants.{Direction, Angles, Sides, Term, Unreadable}
+use Rattle.network.specs.declared.record.Record.TheVariants.{Direction, Angles, Sides, Term}
 use Rattle.network.specs.declared.scan.Counts.{Counts}
 use Rattle.listing.specs.File.{net_reply, file_reply}
+use Rattle.std.specs.Prelude.{Ok, Err, Option, None, Some}
 
 pub record Few (r : Reply) : Type 0 where
   pub number : (verdict_of r).number ≤ 9
 
 -- ---- the checks and their order
-pub few_accepted : Few Accepted
+pub few_accepted : Few (Ok tt)
 few_accepted = record { number = omega arith }
 
 pub few_if : (fault : Bool) (why : Refusal) → number_of why ≤ 9 → Few (refuse_if fault why)
@@ -57,10 +57,10 @@ pub few_first : (n : ℕ) (fault : ℕ → Bool) (why : ℕ → Refusal) → ((i
 few_first n fault why l = few_if (some_below n fault) (why (first n fault)) (l (first n fault))
 
 pub few_then : {r s : Reply} → Few r → Few s → Few (r and_then s)
-few_then {r = Accepted} a b = b
-few_then {r = Refused why} a b = a
+few_then {r = Ok tt} a b = b
+few_then {r = Err why} a b = a
 
-pub few_refused : {r : Reply} {why : Refusal} → Few r → r ≡ Refused why → number_of why ≤ 9
+pub few_refused : {r : Reply} {why : Refusal} → Few r → r ≡ Err why → number_of why ≤ 9
 few_refused f e = subst (λ (x : Reply). (verdict_of x).number ≤ 9) e f.number
 
 -- ---- 1 to 3, by line
@@ -73,16 +73,16 @@ miscounted fault place = few_if fault (Count place) (omega arith)
 ranging : (fault : Bool) (place : ℕ) → Few (refuse_if fault (OutOfRange place))
 ranging fault place = few_if fault (OutOfRange place) (omega arith)
 
-few_line : (place : ℕ) (c : Counts) (said : Record) → Few (line_reply place c said)
+few_line : (place : ℕ) (c : Counts) (said : Option Record) → Few (line_reply place c said)
 unfolding line_reply direction_reply angles_reply sides_reply term_reply
-few_line place c (Direction number direction q) =
+few_line place c (Some (Direction number direction q)) =
     few_then (malformed (ltb 0 c.n) place) (few_then (miscounted (out_of_turn c.m number) place) (ranging (out_of_range direction q) place))
-few_line place c (Angles target) = few_then (miscounted (one_too_many c.n c.terms) place) (ranging (target_fault target) place)
-few_line place c Sides = miscounted (one_too_many c.n c.terms) place
-few_line place c (Term letter value d i k) =
+few_line place c (Some (Angles target)) = few_then (miscounted (one_too_many c.n c.terms) place) (ranging (target_fault target) place)
+few_line place c (Some Sides) = miscounted (one_too_many c.n c.terms) place
+few_line place c (Some (Term letter value d i k)) =
     few_then (malformed (not (belongs c.heading letter)) place)
     (few_then (miscounted (leb 12 c.terms) place) (ranging (term_fault (pos c.m) letter value d i k) place))
-few_line place c Unreadable = record { number = omega arith }
+few_line place c None = record { number = omega arith }
 
 few_last : (parts : List (List ℕ)) {end more : Reply} → Few end → Few more → Few (if_last parts end more)
 few_last [] e m = e
@@ -102,8 +102,8 @@ few_scan file = few_then (miscounted (ltb 65535 (length file)) 0) (few_scanned 1
 -- ---- 4 and 5, by condition
 few_as : (why : Refusal) (r : Reply) → number_of why ≤ 9 → Few (refused_as why r)
 unfolding refused_as
-few_as why Accepted l = few_accepted
-few_as why (Refused other) l = record { number = l }
+few_as why (Ok _) l = few_accepted
+few_as why (Err other) l = record { number = l }
 
 few_formed : (directions q : List ℤ) (j : ℕ) (cs : List Condition) → Few (formed_reply directions q j cs)
 unfolding formed_reply condition_reply
@@ -157,5 +157,5 @@ pub few_file : (file : List ℕ) → Few (file_reply file)
 unfolding file_reply
 few_file file = few_then (few_scan file) (few_net (net_of (lines_of file)))
 
-pub few_numbers : (file : List ℕ) (why : Refusal) → file_reply file ≡ Refused why → (1 ≤ number_of why) × (number_of why ≤ 9)
+pub few_numbers : (file : List ℕ) (why : Refusal) → file_reply file ≡ Err why → (1 ≤ number_of why) × (number_of why ≤ 9)
 few_numbers file why e = (omega (arith, no_refusal_is_0 why), few_refused (few_file file) e)

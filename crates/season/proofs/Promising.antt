@@ -1,5 +1,4 @@
 -- The promises of the operations on an archive, from what their steps have said. Assumes nothing.
---   three                                 three numbers, one after another, into a list of three
 --   long_reports, short_reports           `report` keeps its promise: with sixteen totals, and with another number of them
 --   by_lengths, by_totals, by_place       the reply to a state, where the checks before have accepted
 --   amiss, lengths_known                  whether the lengths of a state are amiss, and what they are where not
@@ -7,17 +6,16 @@
 --   refused_begins, begun                 `begin` keeps its promise, and so do `next` (refused_feeds, feeds) and `end` (refused_ends, ends)
 use mathlib.Core.Path.{◌≡◌, refl, sym, ◌∙◌, ap}
 use mathlib.Core.Bool.{Bool, true, false, cond, not}
-use mathlib.Core.List.{List, [], ◌∷◌}
+use mathlib.Core.List.{List, []}
 use Prim.Native.Nat.{ℕ, zero, suc, ◌+◌, ◌≤◌, ◌<◌}
 use native.Mathlib.Omega.{arith}
 use borrow.Author.Tests.{eq-eqb, ne_eqb, eqb-true, ltb-false, not-false}
 use lib.Dec.{eqb, ltb}
-use lib.ListN.{length, get_or, set}
+use lib.ListN.{length, get_or}
 use Rattle.exact.proofs.Searching.{neither, not_both}
 use Rattle.reply.specs.declared.Refusal.{Refusal}
 use Rattle.reply.specs.declared.Refusal.TheVariants.{Count, OutOfRange}
-use Rattle.reply.specs.declared.Reply.{Reply}
-use Rattle.reply.specs.declared.Reply.TheVariants.{Accepted, Refused}
+use Rattle.reply.specs.Reply.{Reply}
 use Rattle.reply.specs.Checks.{◌and_then◌}
 use Rattle.reply.specs.Verdicts.{verdict_of}
 use Rattle.reply.proofs.Checking.{both_accepted, if_accepted, none_refused}
@@ -28,17 +26,11 @@ use Rattle.season.specs.Stream.{Stream, stream, place_at, place_of, place_list, 
 use Rattle.season.specs.Inner.{Roomy, Stands}
 use Rattle.season.specs.Promise.{report_reply, Reports, begin_reply, Begins, Feeds, past_reply, end_reply, Ends}
 use Rattle.season.specs.declared.stream.Place.{Place}
-
-pub three : (xs : List ℕ) (a b c : ℕ) → length xs ≡ 3 → set (set (set xs 0 a) 1 b) 2 c ≡ a ∷ b ∷ c ∷ []
-three [] a b c e = absurd (omega (arith, e))
-three (x ∷ []) a b c e = absurd (omega (arith, e))
-three (x ∷ (y ∷ [])) a b c e = absurd (omega (arith, e))
-three (x ∷ (y ∷ (z ∷ []))) a b c e = refl
-three (x ∷ (y ∷ (z ∷ (u ∷ xs)))) a b c e = absurd (omega (arith, e))
+use Rattle.std.specs.Prelude.{Ok, Err}
 
 -- ---- `report`
 module _ (archive lent : List ℕ) where
-  pub short_reports : (length lent ≡ 16 → ⊥) → Reports archive lent (Refused (Count 0)) lent
+  pub short_reports : (length lent ≡ 16 → ⊥) → Reports archive lent (Err (Count 0)) lent
   unfolding report_reply
   short_reports e =
       let f = ne_eqb (length lent) 16 e in
@@ -66,7 +58,7 @@ most_le i = by_place (eqb i 0)
     by_place true = omega arith
     by_place false = omega arith
 
-roomy_totals : (totals : List ℕ) → length totals ≡ 16 → totals_reply totals ≡ Accepted → Roomy totals
+roomy_totals : (totals : List ℕ) → length totals ≡ 16 → totals_reply totals ≡ Ok tt → Roomy totals
 unfolding most_at
 roomy_totals totals e a =
     let within : (i : ℕ) → i < 16 → get_or totals i 0 ≤ most_at i = λ i l. ltb-false (most_at i) (get_or totals i 0) (none_refused 16 (total_amiss totals) (λ i. OutOfRange (i + 1)) a i l) in
@@ -87,7 +79,7 @@ module _ (held totals place : List ℕ) where
   abbrev pub amiss : Bool
   amiss = lengths_amiss (length held) (length totals) (length place)
 
-  pub by_lengths : amiss ≡ true → state_reply held totals place ≡ Refused (Count 0)
+  pub by_lengths : amiss ≡ true → state_reply held totals place ≡ Err (Count 0)
   unfolding state_reply
   by_lengths e = rw e
 
@@ -98,15 +90,15 @@ module _ (held totals place : List ℕ) where
         let a = neither (not (eqb (length held) 65536)) _ e in let b = neither (not (eqb (length totals) 16)) _ a.1 in
         (eqb-true (length held) 65536 (not-false _ a.0), eqb-true (length totals) 16 (not-false _ b.0), eqb-true (length place) 3 (not-false _ b.1))
 
-    pub by_totals : (why : Refusal) → totals_reply totals ≡ Refused why → state_reply held totals place ≡ Refused why
+    pub by_totals : (why : Refusal) → totals_reply totals ≡ Err why → state_reply held totals place ≡ Err why
     unfolding state_reply
     by_totals why f = rw (e, f)
 
-    pub by_place : totals_reply totals ≡ Accepted → state_reply held totals place ≡ place_reply (place_of place)
+    pub by_place : totals_reply totals ≡ Ok tt → state_reply held totals place ≡ place_reply (place_of place)
     unfolding state_reply
     by_place f = rw (e, f)
 
-  pub passed_state : state_reply held totals place ≡ Accepted → Passed held totals place
+  pub passed_state : state_reply held totals place ≡ Ok tt → Passed held totals place
   unfolding state_reply place_reply
   passed_state e =
       let p = place_of place in
@@ -129,21 +121,21 @@ module _ (held totals place : List ℕ) where
       }
 
   -- ---- `begin`
-  pub refused_begins : amiss ≡ true → Begins held totals place (Refused (Count 0)) totals place
+  pub refused_begins : amiss ≡ true → Begins held totals place (Err (Count 0)) totals place
   unfolding begin_reply
   refused_begins e = record { answer = rw e; verdict = rw e; totals_are = refl; place_is = refl }
 
-  pub begun : amiss ≡ false → {totals' place' : List ℕ} → totals' ≡ report_of [] → place' ≡ place_list (place_at 0 0 0) → Begins held totals place Accepted totals' place'
+  pub begun : amiss ≡ false → {totals' place' : List ℕ} → totals' ≡ report_of [] → place' ≡ place_list (place_at 0 0 0) → Begins held totals place (Ok tt) totals' place'
   unfolding begin_reply
   begun e t p = record { answer = rw e; verdict = rw e; totals_are = t; place_is = p }
 
   -- ---- `next`
   module _ (bytes : List ℕ) where
-    pub refused_feeds : (why : Refusal) → state_reply held totals place ≡ Refused why → Feeds bytes held totals place (Refused why) held totals place
+    pub refused_feeds : (why : Refusal) → state_reply held totals place ≡ Err why → Feeds bytes held totals place (Err why) held totals place
     refused_feeds why e = record { answer = sym e; verdict = ap verdict_of (sym e); held_is = refl; totals_are = refl; place_is = refl }
 
-    pub feeds : state_reply held totals place ≡ Accepted → {held' totals' place' : List ℕ} {p : Place}
-        → stream held' totals' p ≡ fed bytes (stream_of held totals place) → place' ≡ place_list p → Feeds bytes held totals place Accepted held' totals' place'
+    pub feeds : state_reply held totals place ≡ Ok tt → {held' totals' place' : List ℕ} {p : Place}
+        → stream held' totals' p ≡ fed bytes (stream_of held totals place) → place' ≡ place_list p → Feeds bytes held totals place (Ok tt) held' totals' place'
     feeds e {p = p} f q = record {
       answer = sym e;
       verdict = ap verdict_of (sym e);
@@ -153,11 +145,11 @@ module _ (held totals place : List ℕ) where
     }
 
   -- ---- `end`
-  pub refused_ends : (why : Refusal) → state_reply held totals place ≡ Refused why → Ends held totals place (Refused why) totals place
+  pub refused_ends : (why : Refusal) → state_reply held totals place ≡ Err why → Ends held totals place (Err why) totals place
   unfolding end_reply
   refused_ends why e = record { answer = rw e; verdict = rw e; totals_are = rw e; place_is = rw e }
 
-  pub ends : state_reply held totals place ≡ Accepted → {reply : Reply} {totals' place' : List ℕ} → reply ≡ past_reply (ended_place totals (place_of place))
+  pub ends : state_reply held totals place ≡ Ok tt → {reply : Reply} {totals' place' : List ℕ} → reply ≡ past_reply (ended_place totals (place_of place))
       → totals' ≡ ended_totals totals (place_of place) → place' ≡ place_list (ended_place totals (place_of place)) → Ends held totals place reply totals' place'
   unfolding end_reply
   ends e r t p = record { answer = rw e r; verdict = rw e (ap verdict_of r); totals_are = rw e t; place_is = rw e p }

@@ -1,10 +1,10 @@
 -- The share of one net: what `net` needs to make it, and what is known of it. Assumes nothing.
 --   under_is                         one net under its number
 --   sum_none, sum_more, sum_most     the sum of the sizes, for a loop; at most 1,000,000 for each
---   most_none, most_larger, most_not, most_most    the largest size, for a loop; at most what each is
---   size_not, size_is, size_most     the size of one condition's misclosure
+--   most_none, most_more, most_most  the largest size, for a loop; at most what each is
+--   size_most                        the size of one condition's misclosure
 --   refused_share, accepted_share    the share, by the reply
---   figures_shared, figures_apart    the figures put into a share
+--   figures_put                      the figures put into a share
 --   share_refused, share_tabled      the share of a file whose table is refused, and of one whose is not
 --   long_net                         the share of a net over 65,535 bytes
 --   share_is, left_is, long_is       each share is of one net, under one number, and has no figure above 24,000,000
@@ -13,19 +13,19 @@ use mathlib.Core.Bool.{Bool, true, false, cond}
 use mathlib.Core.List.{List, [], ◌∷◌, ◌++◌}
 use Prim.Native.Nat.{ℕ, zero, suc, ◌+◌, ◌*◌, ◌≤◌, ◌<◌, max}
 use native.Mathlib.Decide.{dec_lt, ℕ_discrete}
-use native.Mathlib.Nat.{max-eq_left, max-eq_right, max-le}
+use native.Mathlib.Nat.{max-le}
 use native.Mathlib.Numerals.{add-one}
 use native.Mathlib.Omega.{arith}
 use borrow.Author.Tests.{eq-eqb, ne_eqb, lt-ltb}
 use lib.Dec.{eqb}
 use lib.IntN.{ℤ, pos, nat_abs}
-use lib.ListN.{length, get_or, set, replicate, take, length-append, length-set, length-replicate, get_or-replicate, get_or-append}
+use lib.ListN.{length, get_or, set, replicate, length-append, length-set, length-replicate, get_or-replicate, get_or-append}
 use lib.Seq.{set-append_left, get_or-set_same, get_or-set_other}
 use Rattle.exact.specs.Tabulate.{tabulate}
 use Rattle.exact.proofs.Filling.{tabulate_length, tabulate_at, tabulate_is}
 use Rattle.reply.specs.declared.Refusal.{Refusal}
-use Rattle.reply.specs.declared.Reply.{Reply}
-use Rattle.reply.specs.declared.Reply.TheVariants.{Accepted, Refused}
+use Rattle.reply.specs.Reply.{Reply}
+use Rattle.reply.specs.Checks.{figure_reply}
 use Rattle.reply.specs.Numbers.{number_of}
 use Rattle.doolittle.specs.Inner.{Small}
 use Rattle.adjustment.specs.Promise.{adjust_reply}
@@ -35,13 +35,14 @@ use Rattle.text.specs.Lines.{lines_of}
 use Rattle.network.specs.Records.{letter_A, letter_S}
 use Rattle.network.specs.Scan.{scan_reply}
 use Rattle.network.specs.Net.{Net, net_of, rows_of, misclosures_of, letters_of, table_reply, Tables}
-use Rattle.network.specs.declared.Tabled.{Tabled}
+use Rattle.network.specs.declared.lists.NetTable.{NetTable}
 use Rattle.listing.specs.File.{room, file_reply}
 use Rattle.listing.proofs.Tabling.{file_refused, file_reply_lem}
 use Rattle.listing.proofs.Filing.{solved}
 use Rattle.season.specs.Share.{counted_under, sum_to, most_to, size_at, figures, no_figures, net_figures, share_with, share_of, left_share, long_share}
 use Rattle.season.specs.Inner.{IsShare}
 use Rattle.season.proofs.Numbering.{Few, few_file}
+use Rattle.std.specs.Prelude.{Result, Ok, Err}
 
 -- ---- one net under its number
 ones : (n k : ℕ) → k < n → set (replicate n 0) k 1 ≡ tabulate n (λ i. one_if (eqb i k))
@@ -76,15 +77,9 @@ pub most_none : (f : ℕ → ℕ) → most_to 0 f ≡ 0
 unfolding most_to
 most_none f = refl
 
-most_more : (n : ℕ) (f : ℕ → ℕ) → most_to (n + 1) f ≡ max (most_to n f) (f n)
+pub most_more : (n : ℕ) (f : ℕ → ℕ) → most_to (n + 1) f ≡ max (most_to n f) (f n)
 unfolding most_to
 most_more n f = rw add-one
-
-pub most_larger : (n : ℕ) (f : ℕ → ℕ) → most_to n f < f n → most_to (n + 1) f ≡ f n
-most_larger n f l = most_more n f ∙ max-eq_right {n = most_to n f} {m = f n} (omega arith)
-
-pub most_not : (n : ℕ) (f : ℕ → ℕ) → f n ≤ most_to n f → most_to (n + 1) f ≡ most_to n f
-most_not n f l = most_more n f ∙ max-eq_left {n = most_to n f} {m = f n} l
 
 most_most : (n b : ℕ) (f : ℕ → ℕ) → ((i : ℕ) → i < n → f i ≤ b) → most_to n f ≤ b
 unfolding most_to
@@ -93,14 +88,6 @@ most_most (suc n) b f h = max-le (most_most n b f (λ i l. h i (omega arith))) (
 
 -- ---- the size of one condition's misclosure
 module _ (letter : ℕ) (letters : List ℕ) (w : List ℤ) (j : ℕ) where
-  pub size_not : (get_or letters j 0 ≡ letter → ⊥) → size_at letter letters w j ≡ 0
-  unfolding size_at
-  size_not e = rw (ne_eqb (get_or letters j 0) letter e)
-
-  pub size_is : get_or letters j 0 ≡ letter → size_at letter letters w j ≡ nat_abs (get_or w j (pos 0))
-  unfolding size_at
-  size_is e = rw (eq-eqb (get_or letters j 0) letter e)
-
   pub size_most : nat_abs (get_or w j (pos 0)) ≤ 1000000 → size_at letter letters w j ≤ 1000000
   unfolding size_at
   size_most l = by_kind (eqb (get_or letters j 0) letter)
@@ -111,11 +98,11 @@ module _ (letter : ℕ) (letters : List ℕ) (w : List ℤ) (j : ℕ) where
 
 -- ---- the share, by the reply
 module _ {reply : Reply} (five : List ℕ) {one : List ℕ} where
-  pub refused_share : {why : Refusal} {number : ℕ} → reply ≡ Refused why → number ≡ number_of why → one ≡ counted_under number ++ no_figures → one ≡ share_with reply five
+  pub refused_share : {why : Refusal} {number : ℕ} → reply ≡ Err why → number ≡ number_of why → one ≡ counted_under number ++ no_figures → one ≡ share_with reply five
   unfolding share_with
   refused_share e n o = o ∙ ap (λ (x : ℕ). counted_under x ++ no_figures) n ∙ sym (ap (λ (r : Reply). share_with r five) e)
 
-  pub accepted_share : reply ≡ Accepted → one ≡ counted_under 0 ++ five → one ≡ share_with reply five
+  pub accepted_share : reply ≡ Ok tt → one ≡ counted_under 0 ++ five → one ≡ share_with reply five
   unfolding share_with
   accepted_share e o = o ∙ sym (ap (λ (r : Reply). share_with r five) e)
 
@@ -123,34 +110,29 @@ module _ {reply : Reply} (five : List ℕ) {one : List ℕ} where
 module _ (letters : List ℕ) (w a : List ℤ) (m : ℕ) {one : List ℕ} (bare : one ≡ counted_under 0 ++ no_figures) {s b s' b' : ℕ}
     (angles : s ≡ sum_to (length w) (size_at letter_A letters w)) (angle : b ≡ most_to (length w) (size_at letter_A letters w))
     (sides : s' ≡ sum_to (length w) (size_at letter_S letters w)) (side : b' ≡ most_to (length w) (size_at letter_S letters w)) where
-  abbrev four : List ℕ
-  four = set (set (set (set one 11 s) 12 b) 13 s') 14 b'
-
-  pub figures_shared : true ≡ shares_three a m (length w) → set four 15 1 ≡ counted_under 0 ++ figures letters w a m
+  pub figures_put : {shared : ℕ} → shared ≡ one_if (shares_three a m (length w))
+      → set (set (set (set (set one 11 s) 12 b) 13 s') 14 b') 15 shared ≡ counted_under 0 ++ figures letters w a m
   unfolding counted_under tabulate figures
-  figures_shared e = rw (bare, angles, angle, sides, side, ← e)
-
-  pub figures_apart : false ≡ shares_three a m (length w) → four ≡ counted_under 0 ++ figures letters w a m
-  unfolding counted_under tabulate figures
-  figures_apart e = rw (bare, angles, angle, sides, side, ← e)
+  figures_put e = rw (bare, angles, angle, sides, side, e)
 
 module _ (file : List ℕ) where
   abbrev net : Net
   net = net_of (lines_of file)
 
-  pub share_refused : (why : Refusal) {one : List ℕ} {number : ℕ} → table_reply file ≡ Refused why → number ≡ number_of why → one ≡ counted_under number ++ no_figures → one ≡ share_of file
+  pub share_refused : (why : Refusal) {one : List ℕ} {number : ℕ} → table_reply file ≡ Err why → number ≡ number_of why → one ≡ counted_under number ++ no_figures → one ≡ share_of file
   unfolding share_of
   share_refused why e n o = refused_share (net_figures net) (file_refused file why e) n o
 
-  -- the table that stands in the first places of lent lists
-  module _ {t : Tabled} {directions q a w : List ℤ} {letters : List ℕ} (is : Tables (table_reply file) net t directions q a w letters) (e : t.reply ≡ Accepted) where
+  -- its table
+  module _ {answer : Result NetTable Refusal} (is : Tables (table_reply file) net answer) {t : NetTable} (e : answer ≡ Ok t) where
     pub share_tabled :
-        share_with
-        (adjust_reply (take t.m directions) (take t.m q) (take (t.n * t.m) a) (take t.n w) (room (length (take t.m directions)) (length (take t.n w))))
-        (figures (take t.n letters) (take t.n w) (take (t.n * t.m) a) (length (take t.m directions)))
+        share_with (adjust_reply t.directions.now t.q.now t.a.now t.w.now (room (length t.directions.now) (length t.w.now)))
+        (figures t.letters.now t.w.now t.a.now (length t.directions.now))
         ≡ share_of file
     unfolding share_of net_figures
-    share_tabled = ap₂ share_with (file_reply_lem file is e) (rw (is.letters_are e, is.misclosures_are e, is.rows_are e, is.directions_are e))
+    share_tabled =
+        let of = is.table t e in
+        ap₂ share_with (file_reply_lem file of (sym is.reply ∙ ap figure_reply e)) (rw (of.letters_are, of.misclosures_are, of.rows_are, of.directions_are))
 
   pub long_net : 65535 < length file → share_of file ≡ long_share
   unfolding share_of file_reply scan_reply share_with long_share
@@ -236,10 +218,10 @@ counted_is number five l e m =
       small = (modest_joined (1 ∷ counts) five (modest_first (omega arith) (modest_ones 10 (λ k. eqb k number))) m).at;
     }
 
-with_is : (reply : Reply) (five : List ℕ) → Few reply → length five ≡ 5 → (reply ≡ Accepted → Modest five) → IsShare (share_with reply five)
+with_is : (reply : Reply) (five : List ℕ) → Few reply → length five ≡ 5 → (reply ≡ Ok tt → Modest five) → IsShare (share_with reply five)
 unfolding share_with
-with_is Accepted five f e m = counted_is 0 five f.number e (m refl)
-with_is (Refused why) five f e m = counted_is (number_of why) no_figures f.number refl modest_zeros
+with_is (Ok _) five f e m = counted_is 0 five f.number e (m refl)
+with_is (Err why) five f e m = counted_is (number_of why) no_figures f.number refl modest_zeros
 
 pub share_is : (file : List ℕ) → IsShare (share_of file)
 unfolding share_of net_figures figures

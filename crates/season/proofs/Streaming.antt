@@ -1,11 +1,14 @@
 -- Laws of a stream's state, byte by byte. Assumes nothing.
 --   open_is                            the open net's share is one net's
+--   closed_is                          the open net is closed, as `close` leaves the lists
 --   closes_by, taken_close, taken_kept a byte closes the open net, or belongs to it
---   Sound, taken_sound, byte_sound     a state that bytes can be fed to, and so is the next
+--   closed_sound, kept_sound           a state that bytes can be fed to, and so is the next: after a net is closed, or a byte kept;
+--   taken_sound, byte_sound            after any byte
 --   fed_past, fed_more, fed_end        the bytes from a place on: none count any more, one more is taken, none is left
 --   fed_sound, fed_joined              a state that has been fed; bytes and others after them
 use mathlib.Core.Path.{◌≡◌, refl, sym, ◌∙◌, ap}
-use mathlib.Core.Bool.{Bool, true, false, cond, ◌&&◌}
+use mathlib.Core.Bool.{Bool, true, false, cond, ◌&&◌, not}
+use mir.Val.{bool_byte}
 use mathlib.Core.List.{List, [], ◌∷◌, ◌++◌}
 use Prim.Native.Nat.{ℕ, suc, ◌+◌, ◌-◌, ◌≤◌, ◌<◌}
 use native.Mathlib.Numerals.{add-one}
@@ -19,8 +22,8 @@ use Rattle.text.specs.Lines.{LF}
 use Rattle.totals.specs.Promise.{most_nets}
 use Rattle.season.specs.Archive.{STOP}
 use Rattle.season.specs.Share.{share_of, long_share}
-use Rattle.season.specs.Stream.{Stream, stream, place_at, counted_in, past_after, kept_in, kept_bytes, line_after, open_share, closes, taken, fed_byte, fed}
-use Rattle.season.specs.Inner.{IsShare, Within, Stands}
+use Rattle.season.specs.Stream.{Stream, stream, place_at, counted_in, past_after, kept_in, kept_bytes, line_after, open_share, closes, closed, taken, fed_byte, fed}
+use Rattle.season.specs.Inner.{IsShare, Sound}
 use Rattle.season.proofs.Sharing.{share_is, long_is}
 use Rattle.season.proofs.Leading.{counted_within}
 
@@ -41,8 +44,19 @@ pub closes_by : (byte line : ℕ) → closes byte line ≡ true → (byte ≡ LF
 unfolding closes
 closes_by byte line e = let b = both_true (eqb byte LF) (eqb line 1) e in (eqb-true byte LF b.0, eqb-true line 1 b.1)
 
+-- the open net is closed
+module _ (s : Stream) {share totals : List ℕ} {fits : Bool} {past : ℕ} where
+  pub closed_is : share ≡ open_share s.held s.place.bytes → fits ≡ ltb (get_or s.totals 0 0) most_nets → totals ≡ counted_in share s.totals → past ≡ bool_byte (not fits)
+      → stream s.held totals (place_at 0 0 past) ≡ closed s
+  unfolding past_after
+  closed_is n f t p = rw (p, f, t, n) (ap (λ (x : ℕ). stream s.held (counted_in (open_share s.held s.place.bytes) s.totals) (place_at 0 0 x)) (by_nets (ltb (get_or s.totals 0 0) most_nets)))
+    where
+      by_nets : (b : Bool) → bool_byte (not b) ≡ cond b 0 1
+      by_nets true = refl
+      by_nets false = refl
+
 module _ (byte : ℕ) (s : Stream) where
-  pub taken_close : closes byte s.place.line ≡ true → taken byte s ≡ stream s.held (counted_in (open_share s.held s.place.bytes) s.totals) (place_at 0 0 (past_after s.totals))
+  pub taken_close : closes byte s.place.line ≡ true → taken byte s ≡ closed s
   unfolding taken
   taken_close e = rw e
 
@@ -52,11 +66,6 @@ module _ (byte : ℕ) (s : Stream) where
   taken_kept e = rw e
 
 -- ---- a state that bytes can be fed to
-pub record Sound (before : ℕ) (s : Stream) : Type 0 where
-  pub long : length s.held ≡ 65536
-  pub within : Within before s.totals
-  pub stands : Stands s.place
-
 kept_long : (held : List ℕ) (bytes byte : ℕ) → length (kept_in held bytes byte) ≡ length held
 unfolding kept_in
 kept_long held bytes byte = by_room (ltb bytes 65536)
@@ -90,23 +99,31 @@ past_most totals = by_nets (ltb (get_or totals 0 0) most_nets)
     by_nets true = omega arith
     by_nets false = omega arith
 
-pub taken_sound : (before byte : ℕ) (s : Stream) → Sound before s → Sound before (taken byte s)
-unfolding taken
-taken_sound before byte s p = by_close (closes byte s.place.line)
-  where
-    by_close : (b : Bool) → Sound before
-        (cond b (stream s.held (counted_in (open_share s.held s.place.bytes) s.totals) (place_at 0 0 (past_after s.totals)))
-        (stream (kept_in s.held s.place.bytes byte) s.totals (place_at (kept_bytes s.place.bytes) (line_after s.place.line byte) 0)))
-    by_close true = record {
-      long = p.long;
-      within = counted_within before (open_share s.held s.place.bytes) s.totals (open_is s.held s.place.bytes) p.within;
-      stands = record { bytes = omega arith; line = omega arith; past = past_most s.totals; stop = λ e. absurd (omega (arith, e)) };
-    }
-    by_close false = record {
-      long = kept_long s.held s.place.bytes byte ∙ p.long;
-      within = p.within;
-      stands = record { bytes = (kept_bytes_lem s.place.bytes p.stands.bytes).0; line = line_most s.place.line byte; past = omega arith; stop = λ e. (kept_bytes_lem s.place.bytes p.stands.bytes).1 };
-    }
+module _ (before byte : ℕ) (s : Stream) (p : Sound before s) where
+  pub closed_sound : Sound before (closed s)
+  closed_sound = record {
+    long = p.long;
+    within = counted_within before (open_share s.held s.place.bytes) s.totals (open_is s.held s.place.bytes) p.within;
+    stands = record { bytes = omega arith; line = omega arith; past = past_most s.totals; stop = λ e. absurd (omega (arith, e)) };
+  }
+
+  pub kept_sound : {held : List ℕ} {bytes line : ℕ} → held ≡ kept_in s.held s.place.bytes byte → bytes ≡ kept_bytes s.place.bytes → line ≡ line_after s.place.line byte
+      → Sound before (stream held s.totals (place_at bytes line 0))
+  kept_sound h b l = rw (h, b, l) (record {
+    long = kept_long s.held s.place.bytes byte ∙ p.long;
+    within = p.within;
+    stands = record { bytes = (kept_bytes_lem s.place.bytes p.stands.bytes).0; line = line_most s.place.line byte; past = omega arith; stop = λ e. (kept_bytes_lem s.place.bytes p.stands.bytes).1 };
+  })
+
+  pub taken_sound : Sound before (taken byte s)
+  unfolding taken
+  taken_sound = by_close (closes byte s.place.line)
+    where
+      by_close : (b : Bool) → Sound before
+          (cond b (closed s)
+          (stream (kept_in s.held s.place.bytes byte) s.totals (place_at (kept_bytes s.place.bytes) (line_after s.place.line byte) 0)))
+      by_close true = closed_sound
+      by_close false = kept_sound refl refl refl
 
 pub byte_sound : (before byte : ℕ) (s : Stream) → Sound before s → Sound before (fed_byte byte s)
 unfolding fed_byte

@@ -5,7 +5,7 @@ use mathlib.Core.Path.{◌≡◌, sym, subst}
 use mathlib.Core.List.{List}
 use Prim.Native.Nat.{ℕ}
 use Rattle.exact.proofs.Unique.{only}
-use Rattle.reply.specs.declared.Reply.{Reply}
+use Rattle.reply.specs.Reply.{Reply}
 use Rattle.season.specs.Promise.{Reports, Begins, Feeds, Ends}
 
 pub one_report : (archive lent : List ℕ) (r r' : Reply) (left left' : List ℕ) → Reports archive lent r left → Reports archive lent r' left' → (r ≡ r') × (left ≡ left')

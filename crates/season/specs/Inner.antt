@@ -3,6 +3,7 @@ use Rattle.std.specs.Prelude.{◌≡◌, List, [], ◌∷◌, ℕ, suc, ◌+◌,
 use Rattle.totals.specs.Promise.{most_nets, most_total}
 use Rattle.season.specs.Archive.{parts_of}
 use Rattle.season.specs.Share.{sum_to}
+use Rattle.season.specs.Stream.{Stream}
 use Rattle.season.specs.declared.stream.Place.{Place}
 
 -- sixteen numbers: one net, under one number, and no figure above that of 24 misclosures of 1,000,000
@@ -35,3 +36,9 @@ pub record Stands (p : Place) : Type 0 where
   pub line : p.line ≤ 2
   pub past : p.past ≤ 1
   pub stop : p.line ≡ 1 → 1 ≤ p.bytes
+
+-- a state that bytes can be fed to
+pub record Sound (before : ℕ) (s : Stream) : Type 0 where
+  pub long : length s.held ≡ 65536
+  pub within : Within before s.totals
+  pub stands : Stands s.place

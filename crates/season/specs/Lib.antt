@@ -4,3 +4,4 @@ pub mod Season
 pub mod Stream
 pub mod Inner
 pub mod Promise
+pub mod Open

@@ -2,7 +2,7 @@
 -- "the report ending with totals of those before it".
 use Rattle.std.specs.Prelude.{◌≡◌, cond, not, List, [], ℕ, ◌+◌, eqb, length}
 use Rattle.reply.specs.declared.Refusal.TheVariants.{Count, Nets}
-use Rattle.reply.specs.declared.Reply.{Reply}
+use Rattle.reply.specs.Reply.{Reply}
 use Rattle.reply.specs.Checks.{refuse_if, ◌and_then◌, leaves}
 use Rattle.reply.specs.Verdicts.{verdict_of}
 use Rattle.totals.specs.Totals.{report_of}

@@ -1,7 +1,7 @@
 -- The report of an archive: sums and largest over the list of its nets, up to 100,000 of them.
 use Rattle.std.specs.Prelude.{cond, List, [], ◌∷◌, ℕ, ◌+◌, eqb, ltb, length, take}
 use Rattle.reply.specs.declared.Refusal.TheVariants.{Nets}
-use Rattle.reply.specs.declared.Reply.{Reply}
+use Rattle.reply.specs.Reply.{Reply}
 use Rattle.reply.specs.Checks.{refuse_if}
 use Rattle.totals.specs.Totals.{report_of}
 use Rattle.totals.specs.Promise.{most_nets}

@@ -1,7 +1,7 @@
 -- What one net has in the report: its share in each of the sixteen totals.
 use Rattle.std.specs.Prelude.{cond, List, [], ◌∷◌, ◌++◌, ℕ, zero, suc, ◌+◌, max, eqb, ℤ, pos, nat_abs, length, get_or}
 use Rattle.exact.specs.Tabulate.{tabulate}
-use Rattle.reply.specs.declared.Reply.{Reply}
+use Rattle.reply.specs.Reply.{Reply}
 use Rattle.reply.specs.Checks.{leaves}
 use Rattle.reply.specs.Verdicts.{verdict_of}
 use Rattle.text.specs.Lines.{lines_of}

@@ -2,7 +2,7 @@
 -- archive, whatever the parts, is a theorem (proofs/Joining.antt).
 use Rattle.std.specs.Prelude.{Bool, cond, ◌||◌, ◌&&◌, not, List, [], ◌∷◌, ℕ, ◌+◌, ◌-◌, eqb, ltb, length, get_or, set, take}
 use Rattle.reply.specs.declared.Refusal.TheVariants.{Count, OutOfRange}
-use Rattle.reply.specs.declared.Reply.{Reply}
+use Rattle.reply.specs.Reply.{Reply}
 use Rattle.reply.specs.Checks.{refuse_if, refuse_first, ◌and_then◌}
 use Rattle.text.specs.Lines.{LF}
 use Rattle.totals.specs.Totals.{sum_of}
@@ -56,10 +56,14 @@ open_share held bytes = cond (ltb room bytes) long_share (share_of (take (bytes 
 unfoldable pub closes : (byte line : ℕ) → Bool
 closes byte line = eqb byte LF && eqb line 1
 
+-- its share is counted, and a new net begins
+abbrev pub closed : Stream → Stream
+closed s = stream s.held (counted_in (open_share s.held s.place.bytes) s.totals) (place_at 0 0 (past_after s.totals))
+
 unfoldable pub taken : (byte : ℕ) → Stream → Stream
 taken byte s =
     cond (closes byte s.place.line)
-    (stream s.held (counted_in (open_share s.held s.place.bytes) s.totals) (place_at 0 0 (past_after s.totals)))
+    (closed s)
     (stream (kept_in s.held s.place.bytes byte) s.totals (place_at (kept_bytes s.place.bytes) (line_after s.place.line byte) 0))
 
 -- once a net past 100,000 has come, nothing changes

@@ -8,7 +8,7 @@ ghost use Rattle.season.specs.Stream.{counted_in};
 ghost use Rattle.season.specs.Inner.{IsShare, Roomy, NextStop};
 
 use crate::net;
-use reply::{Refusal, Reply};
+use reply::Refusal;
 use text::{LF, find};
 use totals::MOST_NETS;
 
@@ -17,13 +17,12 @@ fn is_stop(archive: &[u8], at: usize, end: usize) -> bool
     requires { (at ≤ end) × (end ≤ length archive.now) }
     ensures { result ≡ stops (take (end - at) (drop at archive.now)) }
 {
-    if end - at != 1 {
-        return false;
-    }
-    archive[at] == b'.'
+    end - at == 1 && archive[at] == b'.'
 }
 
 // Where the first full stop line at or after `start` stands; the end of the archive, where there is none. A line starts at `start`.
+// No Option: `count_all` goes on while the place is before the end, and slices up to it.
+// A while loop: the line ends that it finds move it on, which no range says.
 fn next_stop(archive: &[u8], start: usize) -> usize
     requires { start ≤ length archive.now }
     ensures { NextStop archive.now start result }
@@ -40,21 +39,23 @@ fn next_stop(archive: &[u8], start: usize) -> usize
     archive.len()
 }
 
-// Counts a net: its share is added where 100,000 have not been. Answers whether it was.
+// Counts a net: its share is added where 100,000 have not been. Answers whether it was added.
+#[tactic(auto, unfolding(crate::specs::Stream::counted_in))]
 pub fn count(share: [u64; 16], totals: &mut [u64]) -> bool
     requires { IsShare share × Roomy totals.old }
     ensures fits { result ≡ ltb (get_or totals.old 0 0) most_nets }
     ensures list { totals.new ≡ counted_in share totals.old }
 {
-    if totals[0] < MOST_NETS {
+    let fits = totals[0] < MOST_NETS;
+    if fits {
         totals::add(totals, &share);
-        return true;
     }
-    false
+    fits
 }
 
 // Counts the nets of an archive, in totals that have none yet.
-pub fn count_all(archive: &[u8], totals: &mut [u64]) -> Reply
+// A while loop: the full stop lines that it finds move it on, which no range says.
+pub fn count_all(archive: &[u8], totals: &mut [u64]) -> Result<(), Refusal>
     requires { totals.old ≡ report_of [] }
     ensures reply { result ≡ season_reply (shares_of archive.now) }
     ensures list { totals.new ≡ season_report (shares_of archive.now) }
@@ -63,15 +64,13 @@ pub fn count_all(archive: &[u8], totals: &mut [u64]) -> Reply
     let mut stop = next_stop(archive, start);
     while stop < archive.len() {
         if !count(net::share(&archive[start..stop]), totals) {
-            return Reply::Refused(Refusal::Nets(MOST_NETS + 1));
+            return Err(Refusal::Nets(MOST_NETS + 1));
         }
         start = stop + 2;
         stop = next_stop(archive, start);
     }
-    if start < archive.len() {
-        if !count(net::left(), totals) {
-            return Reply::Refused(Refusal::Nets(MOST_NETS + 1));
-        }
+    if start < archive.len() && !count(net::left(), totals) {
+        return Err(Refusal::Nets(MOST_NETS + 1));
     }
-    Reply::Accepted
+    Ok(())
 }

@@ -5,9 +5,11 @@ ghost use Rattle.adjustment.specs.Promise.{adjust_reply};
 ghost use Rattle.listing.specs.File.{room};
 ghost use Rattle.season.specs.Share.{counted_under, sum_to, most_to, size_at, figures, no_figures, share_with, share_of, left_share, long_share};
 
-use reply::Reply;
+use network::{Lists, NetTable};
+use reply::Refusal;
 
 // One net under this number, 0 where it is accepted, with no figures.
+// A number and no Result: the totals have a place for each number of the rules, and one for 0.
 fn under(number: u64) -> [u64; 16]
     requires { number ≤ 9 }
     ensures { result ≡ counted_under number ++ no_figures }
@@ -19,6 +21,7 @@ fn under(number: u64) -> [u64; 16]
 }
 
 // The share of bytes left after the last full stop line.
+#[tactic(auto, unfolding(crate::specs::Share::left_share))]
 pub fn left() -> [u64; 16]
     ensures { result ≡ left_share }
 {
@@ -26,80 +29,74 @@ pub fn left() -> [u64; 16]
 }
 
 // The share of a net that is too long.
+// `left` and `long` stand apart as the rules name their shares.
+#[tactic(auto, unfolding(crate::specs::Share::long_share))]
 pub fn long() -> [u64; 16]
     ensures { result ≡ long_share }
 {
     under(2)
 }
 
+// The sizes of the misclosures of one kind: their sum, and the largest.
+#[derive(Clone, Copy, Debug, PartialEq, Eq)]
+struct Sizes {
+    sum: u64,
+    most: u64,
+}
+
 // The size of condition j's misclosure, where it is of the kind with this letter; else 0.
-fn size_at(letter: u8, letters: &[u8], w: &[i64], j: usize) -> u64
-    requires { (j < length letters.now) × (j < length w.now) }
-    ensures { result ≡ size_at letter letters.now w.now j }
+#[tactic(auto, unfolding(crate::specs::Share::size_at))]
+fn size_at(letter: u8, net: NetTable, j: usize) -> u64
+    requires { j < length net.w.now }
+    ensures { result ≡ size_at letter net.entry.letters.now net.entry.w.now j }
 {
-    if letters[j] != letter {
-        return 0;
+    if net.letters[j] == letter {
+        net.w[j].unsigned_abs()
+    } else {
+        0
     }
-    let x = w[j];
-    exact::magnitude(x)
 }
 
-// The sum of the sizes of one kind.
-fn sum_of(letter: u8, letters: &[u8], w: &[i64]) -> u64
-    requires { (length letters.now ≡ length w.now) × (length w.now ≤ 24) × Small 1000000 w.now (length w.now) }
-    ensures { result ≡ sum_to (length w.now) (size_at letter letters.now w.now) }
+// The sizes of the kind with this letter.
+fn sizes_of(letter: u8, net: NetTable) -> Sizes
+    requires { Small 1000000 net.w.now (length net.w.now) }
+    ensures sum { result.sum ≡ sum_to (length net.entry.w.now) (size_at letter net.entry.letters.now net.entry.w.now) }
+    ensures most { result.most ≡ most_to (length net.entry.w.now) (size_at letter net.entry.letters.now net.entry.w.now) }
 {
-    let mut sum: u64 = 0;
-    let mut j = 0;
-    while j < w.len() {
-        sum = sum + size_at(letter, letters, w, j);
-        j += 1;
-    }
-    sum
-}
-
-// The largest size of one kind.
-fn most_of(letter: u8, letters: &[u8], w: &[i64]) -> u64
-    requires { length letters.now ≡ length w.now }
-    ensures { result ≡ most_to (length w.now) (size_at letter letters.now w.now) }
-{
+    let mut sum = 0;
     let mut most: u64 = 0;
-    let mut j = 0;
-    while j < w.len() {
-        let size = size_at(letter, letters, w, j);
-        if most < size {
-            most = size;
-        }
-        j += 1;
+    for j in 0..net.w.len() {
+        let size = size_at(letter, net, j);
+        sum += size;
+        most = most.max(size);
     }
-    most
+    Sizes { sum, most }
 }
 
-// The share of an accepted net, by the letters of its conditions, their misclosures and their rows of m coefficients.
-fn accepted(letters: &[u8], w: &[i64], a: &[i64], m: usize) -> [u64; 16]
-    requires letters_len { (length letters.now ≡ length w.now) × (length w.now ≤ 24) × Small 1000000 w.now (length w.now) }
-    requires m_bound { (m ≤ 64) × (length w.now * m ≤ length a.now) }
-    ensures { result ≡ counted_under 0 ++ figures letters.now w.now a.now m }
+// The share of an accepted net.
+fn accepted(net: NetTable) -> [u64; 16]
+    requires w { Small 1000000 net.w.now (length net.w.now) }
+    requires a { length net.w.now * length net.directions.now ≤ length net.a.now }
+    ensures { result ≡ counted_under 0 ++ figures net.entry.letters.now net.entry.w.now net.entry.a.now (length net.entry.directions.now) }
 {
+    let angles = sizes_of(b'A', net);
+    let sides = sizes_of(b'S', net);
     let mut one = under(0);
-    one[11] = sum_of(b'A', letters, w);
-    one[12] = most_of(b'A', letters, w);
-    one[13] = sum_of(b'S', letters, w);
-    one[14] = most_of(b'S', letters, w);
-    if touched::shares_three(a, m, w.len()) {
-        one[15] = 1;
-    }
+    one[11] = angles.sum;
+    one[12] = angles.most;
+    one[13] = sides.sum;
+    one[14] = sides.most;
+    one[15] = u64::from(touched::shares_three(net.a, net.directions.len(), net.w.len()));
     one
 }
 
 // The reply to a net's condition table, through answer lists of its own.
-fn reply_to(directions: &[i64], q: &[i64], a: &[i64], w: &[i64]) -> Reply
-    requires { (length directions.now ≤ 64) × (length w.now ≤ 24) }
-    ensures { result ≡ adjust_reply directions.now q.now a.now w.now
-        (room (length directions.now) (length w.now)) }
+fn reply_to(net: NetTable) -> Result<(), Refusal>
+    ensures { result ≡ adjust_reply net.entry.directions.now net.entry.q.now net.entry.a.now net.entry.w.now
+        (room (length net.entry.directions.now) (length net.entry.w.now)) }
 {
-    let m = directions.len();
-    let n = w.len();
+    let m = net.directions.len();
+    let n = net.w.len();
     let mut v = [0i64; 64];
     let mut u = [0i64; 64];
     let mut adjusted = [0i64; 64];
@@ -107,10 +104,10 @@ fn reply_to(directions: &[i64], q: &[i64], a: &[i64], w: &[i64]) -> Reply
     let mut r = [0i64; 24];
     let mut misses = [0i64; 24];
     adjustment::adjust_own(
-        directions,
-        q,
-        a,
-        w,
+        net.directions,
+        net.q,
+        net.a,
+        net.w,
         &mut v[..m],
         &mut u[..m],
         &mut adjusted[..m],
@@ -121,40 +118,25 @@ fn reply_to(directions: &[i64], q: &[i64], a: &[i64], w: &[i64]) -> Reply
 }
 
 // The share of a net by its condition table.
-fn table_share(directions: &[i64], q: &[i64], a: &[i64], w: &[i64], letters: &[u8]) -> [u64; 16]
-    requires { (length directions.now ≤ 64) × (length w.now ≤ 24) × (length letters.now ≡ length w.now) }
+fn table_share(net: NetTable) -> [u64; 16]
     ensures { result ≡ share_with
-        (adjust_reply directions.now q.now a.now w.now (room (length directions.now) (length w.now)))
-        (figures letters.now w.now a.now (length directions.now)) }
+        (adjust_reply net.entry.directions.now net.entry.q.now net.entry.a.now net.entry.w.now
+        (room (length net.entry.directions.now) (length net.entry.w.now)))
+        (figures net.entry.letters.now net.entry.w.now net.entry.a.now (length net.entry.directions.now)) }
 {
-    let reply = reply_to(directions, q, a, w);
-    if let Reply::Refused(why) = reply {
-        return under(reply::number(why));
+    match reply_to(net) {
+        Ok(()) => accepted(net),
+        Err(why) => under(why.number()),
     }
-    accepted(letters, w, a, directions.len())
 }
 
 // The share of a net that is closed, from its bytes.
 pub fn share(net: &[u8]) -> [u64; 16]
     ensures { result ≡ share_of net.now }
 {
-    let mut directions = [0i64; 64];
-    let mut q = [0i64; 64];
-    let mut a = [0i64; 1536];
-    let mut w = [0i64; 24];
-    let mut letters = [0u8; 24];
-    let tabled = network::table(net, &mut directions, &mut q, &mut a, &mut w, &mut letters);
-    let reply = tabled.reply;
-    if let Reply::Refused(why) = reply {
-        return under(reply::number(why));
+    let mut lists = Lists::new();
+    match network::table(net, &mut lists) {
+        Ok(table) => table_share(table),
+        Err(why) => under(why.number()),
     }
-    let m = tabled.m;
-    let n = tabled.n;
-    table_share(
-        &directions[..m],
-        &q[..m],
-        &a[..n * m],
-        &w[..n],
-        &letters[..n],
-    )
 }

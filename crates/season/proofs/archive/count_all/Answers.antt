@@ -17,6 +17,7 @@ use Rattle.season.specs.Inner.{IsShare, Roomy, NextStop}
 use Rattle.season.proofs.Sharing.{share_is, left_is}
 use Rattle.season.proofs.Leading.{shares_closed, shares_left, Leads, leads_none, leads_end, turn_fits, turn_past, none_within, counted_within}
 use Rattle.season.proofs.archive.count_all.Goals as goal
+use Rattle.season.proofs.archive.count_all.Goals.{else-start-archive-via-then-start-archive+else-not-count-2, else-start-archive-via-else-start-archive}
 
 -- the totals are sixteen all the time
 sixteen : {totals lent : List ℕ} → Roomy totals → lent ≡ report_of [] → length totals ≡ length lent
@@ -53,10 +54,6 @@ module _ {archive totals : List ℕ} {start stop : ℕ} (so_far : Leads (shares_
   here =
       subst (λ (x : List (List ℕ)). Leads (shares_of archive) totals x)
       (ap shares_in (next.closed on).1 ∙ shares_closed net (drop (stop + 2) archive)) so_far
-
-pub shape_of-totals-then-not-count : goal.shape_of-totals-then-not-count
-shape_of-totals-then-not-count c =
-    sixteen_counted (counted c.loop-stop.totals c.count.ensures.list c.share.ensures) (share_is _) c.loop-stop.invariant.0 c.requires
 
 pub returns-then-not-count : goal.returns-then-not-count
 returns-then-not-count c =
@@ -103,10 +100,6 @@ module _ {all totals : List ℕ} {start stop : ℕ} (so_far : Leads (shares_of a
       let d = length-drop start all in
       subst (λ (b : Bool). Leads (shares_of all) totals (cond b [] (left_share ∷ []))) (eq-eqb (length (drop start all)) 0 (omega (arith, d))) last
 
-pub shape_of-totals-then-not-count-2 : goal.shape_of-totals-then-not-count-2
-shape_of-totals-then-not-count-2 c =
-    sixteen_counted (counted c.loop-stop.totals c.count-then-start-archive.ensures.list c.left.ensures) left_is c.loop-stop.invariant.0 c.requires
-
 pub returns-then-not-count-2 : goal.returns-then-not-count-2
 returns-then-not-count-2 c =
     let i = c.loop-stop.invariant in let n = c.count-then-start-archive.ensures in
@@ -115,25 +108,19 @@ returns-then-not-count-2 c =
       list = p.1;
     }
 
-pub shape_of-totals-else-not-count-2 : goal.shape_of-totals-else-not-count-2
-shape_of-totals-else-not-count-2 c =
-    sixteen_counted (counted c.loop-stop.totals c.count-then-start-archive.ensures.list c.left.ensures) left_is c.loop-stop.invariant.0 c.requires
-
-pub returns-else-not-count-2 : goal.returns-else-not-count-2
-returns-else-not-count-2 c =
-    let i = c.loop-stop.invariant in let n = c.count-then-start-archive.ensures in
-    let p = leads_end (turn_fits (some_left i.1 i.3 (omega arith) (omega arith)) n.fits (counted c.loop-stop.totals n.list c.left.ensures) left_is c.if-not-count-2.false) in
+pub returns : goal.returns
+returns c =
+    let i = c.loop-stop.invariant in let all = shares_of c.args.archive.now in let left = c.else-start-archive in
+    let counted_all : Leads all left.totals [] =
+    elim left.branch [
+      | else-start-archive-via-then-start-archive+else-not-count-2 w ↦
+          let n = w.count-then-start-archive.ensures in
+          rw w.totals-is
+          (turn_fits (some_left i.1 i.3 (omega arith) w.if-start-archive.true) n.fits (counted c.loop-stop.totals n.list w.left.ensures) left_is w.if-not-count-2.false)
+      | else-start-archive-via-else-start-archive w ↦ rw w.totals-is (none_left i.1 i.3 (omega arith) w.if-start-archive.false)
+    ] in
+    let p = leads_end counted_all in
     record {
-      reply = sym p.1;
-      list = p.0;
-    }
-
-pub shape_of-totals-else-start-archive : goal.shape_of-totals-else-start-archive
-shape_of-totals-else-start-archive c = sixteen c.loop-stop.invariant.0 c.requires
-
-pub returns-else-start-archive : goal.returns-else-start-archive
-returns-else-start-archive c =
-    let i = c.loop-stop.invariant in let p = leads_end (none_left i.1 i.3 (omega arith) (omega arith)) in record {
       reply = sym p.1;
       list = p.0;
     }

@@ -1,18 +1,16 @@
 -- `season::net::accepted` meets its contract. Assumes nothing.
-use mathlib.Core.Path.{sym, ◌∙◌}
-use Rattle.season.proofs.Sharing.{figures_shared, figures_apart}
+use Rattle.std.proofs.Common.{◌≡◌, ◌∙◌, ap, Bool, true, false, refl, length}
+use mir.Val.{bool_byte}
+use Rattle.touched.specs.Shared.{one_if}
+use Rattle.season.proofs.Sharing.{figures_put}
 use Rattle.season.proofs.net.accepted.Goals as goal
 
-pub returns-then-shares_three : goal.returns-then-shares_three
-returns-then-shares_three c =
-    let a = c.args in
-    figures_shared a.letters.now a.w.now a.a.now a.m c.under-one.ensures
-    c.sum_of.ensures c.most_of.ensures
-    c.sum_of-2.ensures c.most_of-2.ensures (sym c.if-shares_three.true ∙ c.shares_three.ensures)
+counted : (b : Bool) → bool_byte b ≡ one_if b
+counted true = refl
+counted false = refl
 
-pub returns-else-shares_three : goal.returns-else-shares_three
-returns-else-shares_three c =
-    let a = c.args in
-    figures_apart a.letters.now a.w.now a.a.now a.m c.under-one.ensures
-    c.sum_of.ensures c.most_of.ensures
-    c.sum_of-2.ensures c.most_of-2.ensures (sym c.if-shares_three.false ∙ c.shares_three.ensures)
+pub returns : goal.returns
+returns c =
+    let net = c.args.net in let angles = c.sizes_of-angles.ensures in let sides = c.sizes_of-sides.ensures in
+    figures_put net.letters.now net.w.now net.a.now (length net.directions.now) c.under-one.ensures angles.sum angles.most sides.sum sides.most
+    (c.from.ensures ∙ counted c.shares_three.result ∙ ap one_if c.shares_three.ensures)

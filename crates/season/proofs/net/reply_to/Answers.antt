@@ -6,27 +6,27 @@ use Rattle.listing.proofs.Tabling.{answered}
 use Rattle.season.proofs.net.reply_to.Goals as goal
 
 pub slice_bounds-adjust_own-end : goal.slice_bounds-adjust_own-end
-slice_bounds-adjust_own-end c = sym (length-take-le _ _ (omega arith))
+slice_bounds-adjust_own-end c = sym (length-take-le _ _ (omega (arith, c.args.net.few.0)))
 
 pub slice_bounds-adjust_own-end-2 : goal.slice_bounds-adjust_own-end-2
-slice_bounds-adjust_own-end-2 c = sym (length-take-le _ _ (omega arith))
+slice_bounds-adjust_own-end-2 c = sym (length-take-le _ _ (omega (arith, c.args.net.few.0)))
 
 pub slice_bounds-adjust_own-end-3 : goal.slice_bounds-adjust_own-end-3
-slice_bounds-adjust_own-end-3 c = sym (length-take-le _ _ (omega arith))
+slice_bounds-adjust_own-end-3 c = sym (length-take-le _ _ (omega (arith, c.args.net.few.0)))
 
 pub slice_bounds-adjust_own-end-4 : goal.slice_bounds-adjust_own-end-4
-slice_bounds-adjust_own-end-4 c = sym (length-take-le _ _ (omega arith))
+slice_bounds-adjust_own-end-4 c = sym (length-take-le _ _ (omega (arith, c.args.net.few.0)))
 
 pub slice_bounds-adjust_own-end-5 : goal.slice_bounds-adjust_own-end-5
-slice_bounds-adjust_own-end-5 c = sym (length-take-le _ _ (omega arith))
+slice_bounds-adjust_own-end-5 c = sym (length-take-le _ _ (omega (arith, c.args.net.few.0)))
 
 pub slice_bounds-adjust_own-end-6 : goal.slice_bounds-adjust_own-end-6
-slice_bounds-adjust_own-end-6 c = sym (length-take-le _ _ (omega arith))
+slice_bounds-adjust_own-end-6 c = sym (length-take-le _ _ (omega (arith, c.args.net.few.0)))
 
 pub returns : goal.returns
 returns c =
-    let p = c.requires in
-    sym (answered c.args.directions.now c.args.q.now c.args.a.now c.args.w.now
+    let net = c.args.net in let p = net.few in
+    sym (answered net.directions.now net.q.now net.a.now net.w.now
     (record {
       corrections = length-take-le _ _ (omega (arith, p.0));
       printed = length-take-le _ _ (omega (arith, p.0));

@@ -1,8 +1,5 @@
 -- `season::net::table_share` meets its contract. Assumes nothing.
-use mathlib.Core.Path.{sym, ◌∙◌, ap}
-use Prim.Native.Nat.{ℕ, ◌*◌}
-use native.Mathlib.Omega.{arith}
-use lib.ListN.{length}
+use Rattle.std.proofs.Common.{sym, ◌∙◌, ap, ℕ, ◌*◌, length, arith}
 use Rattle.adjustment.proofs.Promising.{accepted_passed}
 use Rattle.season.specs.Share.{figures}
 use Rattle.season.proofs.Numbering.{few_refused, few_adjust}
@@ -11,24 +8,22 @@ use Rattle.season.proofs.net.table_share.Goals as goal
 
 pub under-requires : goal.under-requires
 under-requires c =
-    let a = c.args in
-    omega (arith, few_refused (few_adjust a.directions.now a.q.now a.a.now a.w.now _) (sym c.reply_to-reply.ensures ∙ c.in-Refused.is), c.number.ensures)
+    let net = c.args.net in
+    omega (arith, few_refused (few_adjust net.directions.now net.q.now net.a.now net.w.now _) (sym c.reply_to.ensures ∙ c.in-Err.is), c.number.ensures)
 
-pub returns-in-Refused : goal.returns-in-Refused
-returns-in-Refused c =
-    let a = c.args in
-    refused_share (figures a.letters.now a.w.now a.a.now (length a.directions.now)) (sym c.reply_to-reply.ensures ∙ c.in-Refused.is) c.number.ensures
-    c.under.ensures
+pub returns-in-Err : goal.returns-in-Err
+returns-in-Err c =
+    let net = c.args.net in
+    refused_share (figures net.letters.now net.w.now net.a.now (length net.directions.now)) (sym c.reply_to.ensures ∙ c.in-Err.is)
+    c.number.ensures c.under.ensures
 
 pub accepted-requires : goal.accepted-requires
 accepted-requires c =
-    let a = c.args in
-    let p = accepted_passed a.directions.now a.q.now a.a.now a.w.now _ (sym c.reply_to-reply.ensures ∙ c.in_default.is) in record {
-      letters_len = (c.requires.2, c.requires.1, p.sound.w_most);
-      m_bound = (c.requires.0, omega (arith, p.sound.long, ap (λ (m : ℕ). length a.w.now * m) p.directions));
-    }
+    let net = c.args.net in
+    let p = accepted_passed net.directions.now net.q.now net.a.now net.w.now _ (sym c.reply_to.ensures ∙ c.in-Ok.is) in
+    record { w = p.sound.w_most; a = omega (arith, p.sound.long, ap (λ (m : ℕ). length net.w.now * m) p.directions) }
 
-pub returns : goal.returns
-returns c =
-    let a = c.args in
-    accepted_share (figures a.letters.now a.w.now a.a.now (length a.directions.now)) (sym c.reply_to-reply.ensures ∙ c.in_default.is) c.accepted.ensures
+pub returns-in-Ok : goal.returns-in-Ok
+returns-in-Ok c =
+    let net = c.args.net in
+    accepted_share (figures net.letters.now net.w.now net.a.now (length net.directions.now)) (sym c.reply_to.ensures ∙ c.in-Ok.is) c.accepted.ensures
