@@ -5,7 +5,7 @@
 use mathlib.Core.Path.{◌≡◌, refl, sym, ◌∙◌, ap}
 use mathlib.Core.Bool.{Bool, true, false, cond}
 use mathlib.Core.List.{List, [], ◌∷◌}
-use mathlib.Core.Option.{Option, none, some}
+use Rattle.std.specs.Prelude.{Option, None, Some, Ok, Err}
 use Prim.Native.Nat.{ℕ, zero, suc, ◌+◌, ◌*◌, ◌<◌, ◌≤◌}
 use native.Mathlib.Decide.{dec_lt}
 use native.Mathlib.Omega.{arith}
@@ -15,8 +15,7 @@ use lib.IntN.{ℤ, pos, nat_abs}
 use lib.ListN.{length, get_or, take, length-take}
 use Rattle.exact.proofs.Searching.{Failed, first_until}
 use Rattle.reply.specs.declared.Refusal.TheVariants.{Sheet}
-use Rattle.reply.specs.declared.Reply.{Reply}
-use Rattle.reply.specs.declared.Reply.TheVariants.{Accepted, Refused}
+use Rattle.reply.specs.Reply.{Reply}
 use Rattle.reply.specs.Checks.{refuse_if, refuse_first, ◌and_then◌}
 use Rattle.reply.proofs.Checking.{none_refused}
 use Rattle.text.specs.Parts.{place_from, begins}
@@ -41,7 +40,7 @@ within_cut listing size p l = by_end (dec_lt p (length listing))
 
 -- ---- how long the lines are
 module _ (listing : List ℕ) where
-  pub line_most : (i : ℕ) (zs : List ℤ) → row_no listing i ≡ some zs → bytes_of (take (i + 1 + 1) (lines_of listing)) ≤ bytes_of (take (i + 1) (lines_of listing)) + 82
+  pub line_most : (i : ℕ) (zs : List ℤ) → row_no listing i ≡ Some zs → bytes_of (take (i + 1 + 1) (lines_of listing)) ≤ bytes_of (take (i + 1) (lines_of listing)) + 82
   unfolding line_no
   line_most i zs e =
       omega (
@@ -51,7 +50,7 @@ module _ (listing : List ℕ) where
         fields_most (directions_in listing) i,
       )
 
-  module _ (zs : List ℤ) (e : heading_of listing ≡ some zs) where
+  module _ (zs : List ℤ) (e : heading_of listing ≡ Some zs) where
     pub start_most : (i : ℕ) → Failed (malformed listing) i → (i + 1 ≤ lines_in listing) × (bytes_of (take (i + 1) (lines_of listing)) ≤ 44 + 82 * i)
     start_most zero f =
         let b = heading_reached listing (heading_told listing zs e).0 (heading_within listing zs e) in
@@ -72,9 +71,9 @@ module _ (listing : List ℕ) (size : ℕ) (far : 7298 ≤ size) where
   unfolding row_within
   counts_cut l = by_place (dec_lt (place_from LF listing 4) size)
     where
-      too_long : size ≤ place_from LF listing 4 → (o : Option (List ℤ)) → row_within 18 listing 4 2 ≡ o → none ≡ o
-      too_long h none e = refl
-      too_long h (some zs) e =
+      too_long : size ≤ place_from LF listing 4 → (o : Option (List ℤ)) → row_within 18 listing 4 2 ≡ o → None ≡ o
+      too_long h None e = refl
+      too_long h (Some zs) e =
           absurd (omega (arith, h, (row_line 18 (omega arith) listing 4 2 zs e).short, line_next listing 4 (row_within_lem 18 (omega arith) listing 4 2 zs e)))
 
       by_place : Dec (place_from LF listing 4 < size) → row_within 18 part 4 2 ≡ row_within 18 listing 4 2
@@ -87,7 +86,7 @@ module _ (listing : List ℕ) (size : ℕ) (far : 7298 ≤ size) where
   unfolding heading_of
   heading_cut = rw (begins_cut adj_head listing size (omega arith)) (by_word (begins adj_head listing) refl)
     where
-      by_word : (b : Bool) → begins adj_head listing ≡ b → cond b (row_within 18 part 4 2) none ≡ cond b (row_within 18 listing 4 2) none
+      by_word : (b : Bool) → begins adj_head listing ≡ b → cond b (row_within 18 part 4 2) None ≡ cond b (row_within 18 listing 4 2) None
       by_word true t = counts_cut (begins_length adj_head listing t)
       by_word false t = refl
 
@@ -95,14 +94,14 @@ module _ (listing : List ℕ) (size : ℕ) (far : 7298 ≤ size) where
   unfolding count_no
   count_cut k = ap (λ (o : Option (List ℤ)). nat_abs (get_or (row_values o []) k (pos 0))) heading_cut
 
-  module _ (zs : List ℤ) (e : heading_of listing ≡ some zs) where
+  module _ (zs : List ℤ) (e : heading_of listing ≡ Some zs) where
     pub row_cut : (i : ℕ) → i < 88 → Failed (malformed listing) i → row_no part i ≡ row_no listing i
     unfolding row_no
     row_cut i l f = ap (λ (d : ℕ). due_at d i (line_no part (i + 1))) (count_cut 0) ∙ by_end (dec_lt size (bytes_of (take (i + 1 + 1) (lines_of listing))))
       where
-        too_long : size < bytes_of (take (i + 1 + 1) (lines_of listing)) → (o : Option (List ℤ)) → row_no listing i ≡ o → none ≡ o
-        too_long g none h = refl
-        too_long g (some zs) h = absurd (omega (arith, g, (start_most listing _ e i f).1, line_most listing i zs h))
+        too_long : size < bytes_of (take (i + 1 + 1) (lines_of listing)) → (o : Option (List ℤ)) → row_no listing i ≡ o → None ≡ o
+        too_long g None h = refl
+        too_long g (Some zs) h = absurd (omega (arith, g, (start_most listing _ e i f).1, line_most listing i zs h))
 
         by_end : Dec (size < bytes_of (take (i + 1 + 1) (lines_of listing))) → due_at (directions_in listing) i (line_no part (i + 1)) ≡ due_at (directions_in listing) i (line_no listing (i + 1))
         by_end (yes g) = ap (due_at (directions_in listing) i) (cut_lost listing size (i + 1) g) ∙ none_due (directions_in listing) i ∙ too_long g (row_no listing i) refl
@@ -119,11 +118,11 @@ module _ (listing : List ℕ) (size : ℕ) (far : 7298 ≤ size) where
   unfolding form_reply malformed
   form_cut = by_heading (heading_amiss (heading_of listing)) refl
     where
-      then_same : (r s s' : Reply) → (r ≡ Accepted → s ≡ s') → (r and_then s) ≡ (r and_then s')
-      then_same Accepted s s' h = h refl
-      then_same (Refused why) s s' h = refl
+      then_same : (r s s' : Reply) → (r ≡ Ok tt → s ≡ s') → (r and_then s) ≡ (r and_then s')
+      then_same (Ok _) s s' h = h refl
+      then_same (Err why) s s' h = refl
 
-      rows : (zs : List ℤ) → heading_of listing ≡ some zs → (lines : ℕ) → lines ≤ 88
+      rows : (zs : List ℤ) → heading_of listing ≡ Some zs → (lines : ℕ) → lines ≤ 88
           → (refuse_first lines (malformed part) (λ i. Sheet (i + 2)) and_then refuse_if (goes_on part (lines + 1)) (Sheet (lines + 2)))
           ≡ (refuse_first lines (malformed listing) (λ i. Sheet (i + 2)) and_then refuse_if (goes_on listing (lines + 1)) (Sheet (lines + 2)))
       rows zs e lines l =
@@ -139,7 +138,7 @@ module _ (listing : List ℕ) (size : ℕ) (far : 7298 ≤ size) where
           rw (heading_cut, t, count_cut 0, count_cut 1)
           (rows (pos (directions_in listing) ∷ pos (conditions_in listing) ∷ []) c.heading (directions_in listing + conditions_in listing) (omega (arith, c.m_most, c.n_most)))
 
-pub formed_short : (listing : List ℕ) → form_reply listing ≡ Accepted → length listing ≤ 7260
+pub formed_short : (listing : List ℕ) → form_reply listing ≡ Ok tt → length listing ≤ 7260
 formed_short listing e =
     let f = formed_as listing e in let c = f.counts in let lines = directions_in listing + conditions_in listing in
     omega (arith, f.whole, (start_most listing (pos (directions_in listing) ∷ pos (conditions_in listing) ∷ []) c.heading lines f.sound).1, c.m_most, c.n_most)

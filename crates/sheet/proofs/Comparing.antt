@@ -1,12 +1,14 @@
 -- The line of the first test that fails, by what the code has found. Assumes nothing.
 --   other_directions, other_conditions, size_line, v_line_lem, k_line_lem, no_line      the line, by the first of each kind of test
+--   no_at                                  and the opinion there
+--   correlate, large                       the K of a condition, and its size
 --   correlates_are, sizes_are              the correlates of the K lines, and the first that is too large
 --   pairs_differ, v_differs, k_differs     the first line of those with two numbers at which a test fails; of the V lines, and of the K lines
 --   corrected_by                           corrections by correlates that agree
-use mathlib.Core.Path.{◌≡◌, sym, ◌∙◌, ap, ap₂, subst}
+use mathlib.Core.Path.{◌≡◌, refl, sym, ◌∙◌, ap, ap₂, subst}
 use mathlib.Core.Bool.{Bool, false, not, ◌||◌}
 use mathlib.Core.List.{List, []}
-use Prim.Native.Nat.{ℕ, ◌+◌, ◌*◌, ◌<◌, ◌≤◌}
+use Prim.Native.Nat.{ℕ, zero, suc, ◌+◌, ◌*◌, ◌<◌, ◌≤◌}
 use native.Mathlib.Omega.{arith}
 use borrow.Author.Tests.{lt-ltb, le-ltb, eq-eqb, ne_eqb}
 use lib.Dec.{ltb, eqb}
@@ -18,7 +20,8 @@ use Rattle.doolittle.specs.Table.{Table, at}
 use Rattle.adjustment.specs.Corrections.{R_of, u_of, adjusted_of, Q_of}
 use Rattle.adjustment.proofs.Solving.{beyond, V_ext, u_ext}
 use Rattle.sheet.specs.Form.{directions_in, conditions_in, field_no, own_u, own_adjusted, own_k, own_r, own_q}
-use Rattle.sheet.specs.Check.{unlike, counts_differ, correlate_too_large, direction_differs, condition_differs, disagreement}
+use Rattle.sheet.specs.declared.Opinion.TheVariants.{No}
+use Rattle.sheet.specs.Check.{unlike, counts_differ, correlate_too_large, direction_differs, condition_differs, disagreement, opinion_at}
 use Rattle.sheet.specs.Inner.{number_at, pair_unlike, WellFormed, Corrected}
 use Rattle.sheet.proofs.Forming.{due_v, due_k}
 
@@ -61,6 +64,21 @@ module _ (t : Table) (direction : ℕ → ℤ) (listing : List ℕ) where
           pub no_line : n ≤ r → disagreement t direction listing ≡ 0
           unfolding disagreement
           no_line l = rw (same_counts, ← es, le-ltb sized n ls, ← ev, le-ltb v m lv, ← er, le-ltb r n l)
+
+-- a line that fails is the opinion there
+pub no_at : {line d : ℕ} → 0 < line → d ≡ line → No line ≡ opinion_at d
+no_at {line} l e = rw e (by_line line l)
+  where
+    by_line : (line : ℕ) → 0 < line → No line ≡ opinion_at line
+    by_line zero l = absurd (omega arith)
+    by_line (suc line) l = refl
+
+-- ---- the K of condition j behind m V lines, and whether it is too large
+abbrev pub correlate : List ℤ → (m j : ℕ) → ℤ
+correlate x m j = number_at x (m + j) 1
+
+abbrev pub large : List ℤ → (m j : ℕ) → Bool
+large x m j = ltb 100000000 (nat_abs (correlate x m j))
 
 -- ---- two numbers in each of `total` lines, up to the first that is past its limit: where one of them is not what it should be
 pub pairs_differ : (x : List ℤ) (from total : ℕ) (a b : List ℤ) (one other f g : ℕ → ℤ) (past : ℕ → Bool) (stop v : ℕ) → stop ≡ first total past

@@ -17,12 +17,10 @@ use Rattle.exact.specs.Same.{same}
 use Rattle.exact.specs.Sum.{sum}
 use Rattle.exact.specs.Tabulate.{tabulate}
 use Rattle.reply.specs.declared.Refusal.TheVariants.{Count, WeakRow, Sheet}
-use Rattle.reply.specs.declared.Reply.TheVariants.{Refused}
 use Rattle.reply.specs.Checks.{in_turn, figure_value}
 use Rattle.direction.specs.Ranges.{directions_reply}
 use Rattle.condition.specs.Terms.{letter_of as kind_of, term_fault, share, angle, part}
-use Rattle.condition.specs.Rules.{directions_miscounted, terms_miscounted, terms_check, checks}
-use Rattle.condition.specs.Rules.{coefficient, coefficients_reply, coefficients_list, misclosure, misclosure_figure}
+use Rattle.condition.specs.Rules.{directions_miscounted, terms_miscounted, terms_check, checks, coefficient, coefficients_reply, coefficients_list, misclosure, misclosure_figure}
 use Rattle.doolittle.specs.Solution.{N, reduced, D, L, M, weak_row, weak}
 use Rattle.adjustment.specs.Corrections.{V_of, R_of, u_of, adjusted_of, Q_of}
 use Rattle.adjustment.specs.Refusals.{counts_amiss, differs, lengths_amiss, coefficient_fault, misclosure_fault, conditions_reply, rows_reply, solution_reply, input_reply}
@@ -37,8 +35,10 @@ use Rattle.network.specs.Scan.{belongs, out_of_turn, one_too_many, direction_rep
 use Rattle.network.specs.Net.{line_before, net_of, refused_as, zeros, lent_of, condition_reply, formed_reply, row_of, misclosure_of, rows_of, misclosures_of, table_reply}
 use Rattle.listing.specs.File.{table_in, room, net_reply, file_reply}
 use Rattle.listing.proofs.Figure3.{file, listing}
+use Rattle.reply.specs.declared.Refusal.{Refusal}
+use Rattle.std.specs.Prelude.{Result, Ok, Err}
 use Rattle.sheet.specs.declared.Opinion.{Opinion}
-use Rattle.sheet.specs.declared.Opinion.TheVariants.{Yes, No, Refused as Unchecked}
+use Rattle.sheet.specs.declared.Opinion.TheVariants.{Yes, No}
 use Rattle.sheet.specs.Form.{heading_of, heading_amiss, count_no, letter_due, fields_due, number_due, numbered, due_at, row_no, malformed, goes_on, form_reply, field_no}
 use Rattle.sheet.specs.Check.{counts_differ, correlate_too_large, direction_differs, condition_differs, disagreement, check_reply, opinion_of}
 
@@ -128,59 +128,59 @@ sheet =
 
 -- ---- opinions, all by one computation
 opinions :
-    (opinion_of file listing ≡ Yes)
-    × (opinion_of file other ≡ Yes)
-    × (opinion_of file digit ≡ No 3)
-    × (opinion_of file remainder ≡ No 5)
-    × (opinion_of file large ≡ No 5)
-    × (opinion_of file idle ≡ No 5)
-    × (opinion_of file small ≡ No 1)
-    × (opinion_of file [] ≡ Unchecked (Sheet 1))
-    × (opinion_of file cut ≡ Unchecked (Sheet 6))
-    × (opinion_of file (listing ++ (10 ∷ [])) ≡ Unchecked (Sheet 7))
-    × (opinion_of [] [] ≡ Unchecked (Count 0))
-    × ((file_reply twice ≡ Refused (WeakRow 2)) × (opinion_of twice sheet ≡ Yes))
+    (opinion_of file listing ≡ Ok Yes)
+    × (opinion_of file other ≡ Ok Yes)
+    × (opinion_of file digit ≡ Ok (No 3))
+    × (opinion_of file remainder ≡ Ok (No 5))
+    × (opinion_of file large ≡ Ok (No 5))
+    × (opinion_of file idle ≡ Ok (No 5))
+    × (opinion_of file small ≡ Ok (No 1))
+    × (opinion_of file [] ≡ Err (Sheet 1))
+    × (opinion_of file cut ≡ Err (Sheet 6))
+    × (opinion_of file (listing ++ (10 ∷ [])) ≡ Err (Sheet 7))
+    × (opinion_of [] [] ≡ Err (Count 0))
+    × ((file_reply twice ≡ Err (WeakRow 2)) × (opinion_of twice sheet ≡ Ok Yes))
 unfolding floor modulo first nearest sum tabulate directions_reply kind_of share angle part directions_miscounted terms_miscounted in_turn terms_check checks coefficient coefficients_reply coefficients_list misclosure misclosure_figure on_first parted lines_of fields_of field_at letter_of read_digits unsigned_of plus minus numeral_within with direction_line angles_line sides_line condition_line angle_line fixed_line side_line line_of record_of term_fault same belongs out_of_turn one_too_many direction_reply angles_reply sides_reply term_reply line_reply counted end_fault end_reply scanned scan_reply line_before net_of refused_as figure_value zeros lent_of condition_reply formed_reply row_of misclosure_of rows_of misclosures_of N V_of R_of u_of adjusted_of Q_of table_reply table_in bytes_before place_from begins line_at line_no bytes_of before numbers_within behind_within row_values row_within heading_of heading_amiss count_no letter_due fields_due number_due numbered due_at row_no malformed goes_on form_reply field_no counts_differ correlate_too_large direction_differs condition_differs disagreement check_reply opinion_of reduced D L M weak_row weak counts_amiss differs lengths_amiss coefficient_fault misclosure_fault conditions_reply rows_reply solution_reply input_reply adjust_reply room net_reply file_reply
 opinions = (refl, refl, refl, refl, refl, refl, refl, refl, refl, refl, refl, (refl, refl))
 
-pub figure_3_yes : opinion_of file listing ≡ Yes
+pub figure_3_yes : opinion_of file listing ≡ Ok Yes
 figure_3_yes = opinions.0
 
-pub other_yes : opinion_of file other ≡ Yes
+pub other_yes : opinion_of file other ≡ Ok Yes
 other_yes = opinions.1
 
-pub digit_no : opinion_of file digit ≡ No 3
+pub digit_no : opinion_of file digit ≡ Ok (No 3)
 digit_no = opinions.2
 
-pub remainder_no : opinion_of file remainder ≡ No 5
+pub remainder_no : opinion_of file remainder ≡ Ok (No 5)
 remainder_no = opinions.3
 
-pub large_no : opinion_of file large ≡ No 5
+pub large_no : opinion_of file large ≡ Ok (No 5)
 large_no = opinions.4
 
-pub idle_no : opinion_of file idle ≡ No 5
+pub idle_no : opinion_of file idle ≡ Ok (No 5)
 idle_no = opinions.5
 
-pub counts_no : opinion_of file small ≡ No 1
+pub counts_no : opinion_of file small ≡ Ok (No 1)
 counts_no = opinions.6
 
-pub empty_refused : opinion_of file [] ≡ Unchecked (Sheet 1)
+pub empty_refused : opinion_of file [] ≡ Err (Sheet 1)
 empty_refused = opinions.7
 
-pub cut_refused : opinion_of file cut ≡ Unchecked (Sheet 6)
+pub cut_refused : opinion_of file cut ≡ Err (Sheet 6)
 cut_refused = opinions.8
 
-pub more_refused : opinion_of file (listing ++ (10 ∷ [])) ≡ Unchecked (Sheet 7)
+pub more_refused : opinion_of file (listing ++ (10 ∷ [])) ≡ Err (Sheet 7)
 more_refused = opinions.9
 
 -- the net comes first
-pub net_first : opinion_of [] [] ≡ Unchecked (Count 0)
+pub net_first : opinion_of [] [] ≡ Err (Count 0)
 net_first = opinions.10
 
 -- "the net's 1 to 5 first": 6 to 9 are not asked
-pub weak_yes : (file_reply twice ≡ Refused (WeakRow 2)) × (opinion_of twice sheet ≡ Yes)
+pub weak_yes : (file_reply twice ≡ Err (WeakRow 2)) × (opinion_of twice sheet ≡ Ok Yes)
 weak_yes = opinions.11
 
-pub opinion_shuts_out : (opinion : Opinion) → ((net listing : List ℕ) → opinion_of net listing ≡ opinion) → ⊥
+pub opinion_shuts_out : (opinion : Result Opinion Refusal) → ((net listing : List ℕ) → opinion_of net listing ≡ opinion) → ⊥
 opinion_shuts_out opinion same =
-    let e : Yes ≡ No 3 = sym figure_3_yes ∙ same file listing ∙ sym (same file digit) ∙ digit_no in let z : ◌≡◌ {A = ℕ} 0 1 = cc in omega arith
+    let e : ◌≡◌ {A = Result Opinion Refusal} (Ok Yes) (Ok (No 3)) = sym figure_3_yes ∙ same file listing ∙ sym (same file digit) ∙ digit_no in let z : ◌≡◌ {A = ℕ} 0 1 = cc in omega arith

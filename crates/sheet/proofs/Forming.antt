@@ -11,7 +11,7 @@
 use mathlib.Core.Path.{◌≡◌, refl, sym, ◌∙◌, ap, subst}
 use mathlib.Core.Bool.{Bool, true, false, cond}
 use mathlib.Core.List.{List, [], ◌++◌}
-use mathlib.Core.Option.{Option, none, some}
+use Rattle.std.specs.Prelude.{Option, None, Some, Err}
 use Prim.Native.Nat.{ℕ, ◌+◌, ◌*◌, ◌-◌, ◌<◌, ◌≤◌}
 use native.Mathlib.Nat.{zero-add}
 use native.Mathlib.Decide.{dec_lt}
@@ -28,14 +28,12 @@ use Rattle.exact.specs.Outside.{outside}
 use Rattle.exact.proofs.Order.{lt_false, lt_le, from_one}
 use Rattle.exact.proofs.Searching.{Failed, failed_none, failed_more, neither, either, not_both}
 use Rattle.reply.specs.declared.Refusal.TheVariants.{Sheet}
-use Rattle.reply.specs.declared.Reply.TheVariants.{Refused}
 use Rattle.reply.proofs.Checking.{refuse_at, refuse_none}
 use Rattle.condition.specs.Sound.{Number}
 use Rattle.text.specs.Parts.{bytes_before, place_from, parted, begins}
 use Rattle.text.specs.Lines.{LF, line_at, line_no, lines_of, bytes_of}
 use Rattle.text.specs.Fields.{fields_of, field_at, letter_of}
 use Rattle.text.specs.Rows.{behind_within, row_within, lettered_within, row_values, missing, end_of}
-use Rattle.text.specs.declared.row.RowEnd.TheVariants.{Next, NoRow}
 use Rattle.text.proofs.Parting.{begins_split}
 use Rattle.text.proofs.Sparing.{before_free}
 use Rattle.text.proofs.Stepping.{Reached, reached_none, line_here, reached_more, line_missing}
@@ -45,10 +43,10 @@ use Rattle.sheet.specs.Inner.{due_from, Headed, number_at, Entered, WellFormed}
 
 -- two answers of which one has numbers
 abbrev count : Option (List ℤ) → ℕ
-count (some zs) = 1
-count none = 0
+count (Some zs) = 1
+count None = 0
 
-nothing : {A : Type 0} (zs : List ℤ) → none ≡ some zs → A
+nothing : {A : Type 0} (zs : List ℤ) → None ≡ Some zs → A
 nothing zs e = absurd (omega (arith, ap count e))
 
 -- ---- the ADJ line
@@ -57,16 +55,16 @@ module _ (listing : List ℕ) where
   unfolding heading_of
   heading_row e = rw e
 
-  pub no_heading : begins adj_head listing ≡ false → heading_of listing ≡ none
+  pub no_heading : begins adj_head listing ≡ false → heading_of listing ≡ None
   unfolding heading_of
   no_heading e = rw e
 
-  module _ (zs : List ℤ) (e : heading_of listing ≡ some zs) where
-    by_word : (b : Bool) → cond b (row_within 18 listing 4 2) none ≡ some zs → (b ≡ true) × (row_within 18 listing 4 2 ≡ some zs)
+  module _ (zs : List ℤ) (e : heading_of listing ≡ Some zs) where
+    by_word : (b : Bool) → cond b (row_within 18 listing 4 2) None ≡ Some zs → (b ≡ true) × (row_within 18 listing 4 2 ≡ Some zs)
     by_word true f = (refl, f)
     by_word false f = nothing zs f
 
-    pub heading_told : (begins adj_head listing ≡ true) × (row_within 18 listing 4 2 ≡ some zs)
+    pub heading_told : (begins adj_head listing ≡ true) × (row_within 18 listing 4 2 ≡ Some zs)
     unfolding heading_of
     heading_told = by_word (begins adj_head listing) e
 
@@ -92,26 +90,26 @@ counted : (most : ℕ) (z : ℤ) → outside (pos 1) (pos most) z ≡ false → 
 counted most z e = record { low = lt_le (from_one z (lt_false (neither (lt_z z (pos 1)) (lt_z (pos most) z) e).0 refl refl)); high = (in_range most z e).2 }
 
 module _ (listing : List ℕ) where
-  pub heading_refused : heading_amiss (heading_of listing) ≡ true → form_reply listing ≡ Refused (Sheet 1)
+  pub heading_refused : heading_amiss (heading_of listing) ≡ true → form_reply listing ≡ Err (Sheet 1)
   unfolding form_reply
   heading_refused e = rw e
 
-  pub none_refused : heading_of listing ≡ none → form_reply listing ≡ Refused (Sheet 1)
+  pub none_refused : heading_of listing ≡ None → form_reply listing ≡ Err (Sheet 1)
   unfolding heading_amiss
   none_refused e = heading_refused (ap heading_amiss e)
 
-  module _ (zs : List ℤ) (e : heading_of listing ≡ some zs) where
+  module _ (zs : List ℤ) (e : heading_of listing ≡ Some zs) where
     abbrev m : ℤ
     m = get_or zs 0 (pos 0)
 
     abbrev n : ℤ
     n = get_or zs 1 (pos 0)
 
-    pub first_refused : outside (pos 1) (pos 64) m ≡ true → form_reply listing ≡ Refused (Sheet 1)
+    pub first_refused : outside (pos 1) (pos 64) m ≡ true → form_reply listing ≡ Err (Sheet 1)
     unfolding heading_amiss
     first_refused f = heading_refused (ap heading_amiss e ∙ rw f)
 
-    pub second_refused : outside (pos 1) (pos 24) n ≡ true → form_reply listing ≡ Refused (Sheet 1)
+    pub second_refused : outside (pos 1) (pos 24) n ≡ true → form_reply listing ≡ Err (Sheet 1)
     unfolding heading_amiss
     second_refused f = heading_refused (ap heading_amiss e ∙ either (outside (pos 1) (pos 64) m) (outside (pos 1) (pos 24) n) f)
 
@@ -137,16 +135,16 @@ module _ (listing : List ℕ) where
 
 -- ---- a line, by its letter, its numbers and the first of them
 module _ (number next : ℕ) (o : Option (List ℤ)) (xs : List ℤ) where
-  pub line_none : o ≡ none → (NoRow ≡ end_of (numbered number o) next) × (xs ≡ row_values (numbered number o) xs)
+  pub line_none : o ≡ None → (None ≡ end_of (numbered number o) next) × (xs ≡ row_values (numbered number o) xs)
   unfolding numbered end_of row_values
   line_none e = rw e (refl, refl)
 
-  pub line_other : o ≡ some xs → same (get_or xs 0 (pos 0)) (pos number) ≡ false → (NoRow ≡ end_of (numbered number o) next) × (xs ≡ row_values (numbered number o) xs)
+  pub line_other : o ≡ Some xs → same (get_or xs 0 (pos 0)) (pos number) ≡ false → (None ≡ end_of (numbered number o) next) × (xs ≡ row_values (numbered number o) xs)
   unfolding numbered end_of row_values
   line_other e f = rw (e, f) (refl, refl)
 
-  pub line_same : (after : ℕ) → o ≡ some xs → same (get_or xs 0 (pos 0)) (pos number) ≡ true → after ≡ next
-      → (Next after ≡ end_of (numbered number o) next) × (xs ≡ row_values (numbered number o) xs)
+  pub line_same : (after : ℕ) → o ≡ Some xs → same (get_or xs 0 (pos 0)) (pos number) ≡ true → after ≡ next
+      → (Some after ≡ end_of (numbered number o) next) × (xs ≡ row_values (numbered number o) xs)
   unfolding numbered end_of row_values
   line_same after e f n = rw (e, f, n) (refl, refl)
 
@@ -178,23 +176,23 @@ fields_most m i = by_place (ltb i m)
     by_place false = omega arith
 
 -- an empty line is none that can be due
-pub none_due : (m i : ℕ) → due_at m i [] ≡ none
+pub none_due : (m i : ℕ) → due_at m i [] ≡ None
 unfolding due_at numbered behind_within field_at fields_of parted letter_of
 none_due m i = rw (ne_eqb 0 (letter_due m i) (λ e. omega (arith, e, letter_some m i)))
 
-pub numbered_some : (number : ℕ) (o : Option (List ℤ)) (zs : List ℤ) → numbered number o ≡ some zs → o ≡ some zs
+pub numbered_some : (number : ℕ) (o : Option (List ℤ)) (zs : List ℤ) → numbered number o ≡ Some zs → o ≡ Some zs
 unfolding numbered
-numbered_some number none zs e = nothing zs e
-numbered_some number (some ys) zs e = by_number (same (get_or ys 0 (pos 0)) (pos number)) e
+numbered_some number None zs e = nothing zs e
+numbered_some number (Some ys) zs e = by_number (same (get_or ys 0 (pos 0)) (pos number)) e
   where
-    by_number : (t : Bool) → cond t (some ys) none ≡ some zs → some ys ≡ some zs
+    by_number : (t : Bool) → cond t (Some ys) None ≡ Some zs → Some ys ≡ Some zs
     by_number true f = f
     by_number false f = nothing zs f
 
 module _ {listing : List ℕ} (m i : ℕ) {start : ℕ} (b : Reached listing start (i + 1)) where
   -- the line has its LF, or there is none
   here_by : (found : Bool) → ltb (place_from LF listing start) (length listing) ≡ found
-      → numbered (number_due m i) (cond found (behind_within 18 (letter_due m i) (fields_due m i) (line_at listing start)) none) ≡ due_at m i (line_no listing (i + 1))
+      → numbered (number_due m i) (cond found (behind_within 18 (letter_due m i) (fields_due m i) (line_at listing start)) None) ≡ due_at m i (line_no listing (i + 1))
   unfolding due_at numbered
   here_by true t = rw (line_here listing b (ltb-true (place_from LF listing start) (length listing) t))
   here_by false t = sym (ap (due_at m i) (line_missing listing b (ltb-false (place_from LF listing start) (length listing) t)) ∙ none_due m i)
@@ -203,7 +201,7 @@ module _ {listing : List ℕ} (m i : ℕ) {start : ℕ} (b : Reached listing sta
   unfolding due_from lettered_within
   due_here = here_by (ltb (place_from LF listing start) (length listing)) refl
 
-  pub due_within : (zs : List ℤ) → due_from listing start m i ≡ some zs → place_from LF listing start < length listing
+  pub due_within : (zs : List ℤ) → due_from listing start m i ≡ Some zs → place_from LF listing start < length listing
   unfolding due_from
   due_within zs e = behind_within_lem 18 (omega arith) listing start (fields_due m i) zs (letter_due m i) (letter_some m i) (numbered_some (number_due m i) (lettered_within 18 listing start (letter_due m i) (fields_due m i)) zs e)
 
@@ -229,12 +227,12 @@ module _ {listing : List ℕ} {first m n : ℕ} (h : Headed listing first m n) w
     unfolding row_no
     row_is = due_here m i b.reached ∙ ap (λ (d : ℕ). due_at d i (line_no listing (i + 1))) h.m_is
 
-    pub broken : i < m + n → due_from listing next m i ≡ none → form_reply listing ≡ Refused (Sheet (i + 2))
+    pub broken : i < m + n → due_from listing next m i ≡ None → form_reply listing ≡ Err (Sheet (i + 2))
     unfolding form_reply malformed
     broken l e =
         rw (h.sound, ← h.m_is, ← h.n_is, refuse_at (m + n) (malformed listing) (λ i. Sheet (i + 2)) i l b.sound (ap missing (sym row_is ∙ e)))
 
-    module _ (zs : List ℤ) (e : due_from listing next m i ≡ some zs) (y : List ℤ) (long : length y ≡ 352)
+    module _ (zs : List ℤ) (e : due_from listing next m i ≡ Some zs) (y : List ℤ) (long : length y ≡ 352)
         (before : (j : ℕ) → j < 4 * i → get_or y j (pos 0) ≡ get_or x j (pos 0)) (here : take (fields_due m i) (drop (4 * i) y) ≡ zs) where
       field_here : (k : ℕ) → k < fields_due m i → number_at y i k ≡ field_no k listing i
       unfolding field_no row_values
@@ -262,7 +260,7 @@ module _ {listing : List ℕ} {first m n : ℕ} (h : Headed listing first m n) w
       }
 
     -- the same, where the numbers have been read into a part of the list
-    pub begun_put : (zs ys : List ℤ) (at k : ℕ) → at ≡ 4 * i → at ≤ length x → length ys ≡ length (mid_of at k x) → due_from listing next m i ≡ some zs
+    pub begun_put : (zs ys : List ℤ) (at k : ℕ) → at ≡ 4 * i → at ≤ length x → length ys ≡ length (mid_of at k x) → due_from listing next m i ≡ Some zs
         → take (fields_due m i) ys ≡ zs → fields_due m i ≤ length ys → Begun (place_from LF listing next + 1) (i + 1) (put_mid at k x ys)
     begun_put zs ys at k a l same e here f =
         begun_more zs e (put_mid at k x ys) (same_len_mid at k x ys same ∙ b.long)
@@ -279,7 +277,7 @@ module _ {listing : List ℕ} {first m n : ℕ} (h : Headed listing first m n) w
       bytes_all : next ≡ bytes_of (take (m + n + 1) (lines_of listing))
       bytes_all = b.reached.bytes ∙ ap (λ (l : ℕ). bytes_of (take (l + 1) (lines_of listing))) all
 
-      pub goes_on_lem : next < length listing → form_reply listing ≡ Refused (Sheet (m + n + 2))
+      pub goes_on_lem : next < length listing → form_reply listing ≡ Err (Sheet (m + n + 2))
       unfolding form_reply goes_on
       goes_on_lem l =
           rw (h.sound, ← h.m_is, ← h.n_is, refuse_none (m + n) (malformed listing) (λ i. Sheet (i + 2)) sound_all, ← bytes_all, lt-ltb next (length listing) l)

@@ -15,9 +15,7 @@ use Rattle.exact.specs.First.{some_below}
 use Rattle.exact.specs.Same.{same}
 use Rattle.exact.proofs.Searching.{Failed, all_failed, some_none, neither}
 use Rattle.exact.proofs.Sameness.{same_true, same_yes}
-use Rattle.reply.specs.declared.Reply.{Reply}
-use Rattle.reply.specs.declared.Reply.TheVariants.{Accepted, Refused}
-use Rattle.reply.proofs.Checking.{both_accepted}
+use Rattle.reply.proofs.Checking.{both_accepted, figure_given}
 use Rattle.doolittle.specs.Table.{Table, at}
 use Rattle.adjustment.specs.Corrections.{V_of, R_of, u_of, adjusted_of, Q_of}
 use Rattle.adjustment.specs.Refusals.{past_minute}
@@ -30,14 +28,14 @@ use Rattle.network.proofs.Bounding.{scan_bounds}
 use Rattle.network.proofs.Passing.{file_passed, scan_checks}
 use Rattle.listing.specs.File.{table_in, room}
 use Rattle.listing.proofs.Following.{table_passes}
-use Rattle.sheet.specs.declared.Opinion.{Opinion}
+use Rattle.std.specs.Prelude.{Ok}
 use Rattle.sheet.specs.declared.Opinion.TheVariants.{Yes}
 use Rattle.sheet.specs.Form.{directions_in, conditions_in, form_reply, own_u, own_adjusted, own_k, own_r, own_q}
-use Rattle.sheet.specs.Check.{unlike, first_line, counts_differ, correlate_too_large, direction_differs, condition_differs, disagreement, opinion_at, check_reply, opinion_if, opinion_of}
+use Rattle.sheet.specs.Check.{unlike, first_line, counts_differ, correlate_too_large, direction_differs, condition_differs, disagreement, opinion_at, check_reply, opinion_of}
 use Rattle.sheet.specs.Promise.{SheetDemand3, SheetWithinMinute}
 
 -- ---- a net that passes 1 to 5
-pub net_passed : (net : List ℕ) → table_reply net ≡ Accepted
+pub net_passed : (net : List ℕ) → table_reply net ≡ Ok tt
     → let given = net_of (lines_of net) in
     Passed given.directions given.q (rows_of given.directions given.q given.conditions) (misclosures_of given.directions given.q given.conditions)
     (room (length given.directions) (length given.conditions))
@@ -67,13 +65,9 @@ none_failed n fails from after l e = let b = by_first (some_below n fails) _ aft
 goes_on_lem : (n : ℕ) (fails : ℕ → Bool) (from after : ℕ) → Failed fails n → first_line n fails from after ≡ after
 goes_on_lem n fails from after f = rw (some_none n fails f)
 
-at_none : (line : ℕ) → opinion_at line ≡ Yes → line ≡ 0
+at_none : (line : ℕ) → Yes ≡ opinion_at line → line ≡ 0
 at_none zero e = refl
 at_none (suc line) e = cc
-
-if_yes : (r : Reply) (o : Opinion) → opinion_if r o ≡ Yes → (r ≡ Accepted) × (o ≡ Yes)
-if_yes Accepted o e = (refl, e)
-if_yes (Refused why) o e = (cc, cc)
 
 -- ---- all that a yes says
 module _ (net listing : List ℕ) where
@@ -87,8 +81,8 @@ module _ (net listing : List ℕ) where
   k = own_k listing
 
   pub record Says : Type 0 where
-    pub table : table_reply net ≡ Accepted
-    pub form : form_reply listing ≡ Accepted
+    pub table : table_reply net ≡ Ok tt
+    pub form : form_reply listing ≡ Ok tt
     pub directions : directions_in listing ≡ t.m
     pub conditions : conditions_in listing ≡ t.n
     pub k_most : (j : ℕ) → j < t.n → nat_abs (k j) ≤ 100000000
@@ -115,11 +109,11 @@ module _ (net listing : List ℕ) where
       let last = neither (a || b) (ltb 50000000 (nat_abs (R_of t k j))) e in let two = neither a b last.0 in
       (alike (own_r listing j) (R_of t k j) two.0, alike (own_q listing j) (Q_of t k j) two.1, ltb-false 50000000 (nat_abs (R_of t k j)) last.1)
 
-  pub yes_says : opinion_of net listing ≡ Yes → Says
+  pub yes_says : opinion_of net listing ≡ Ok Yes → Says
   unfolding opinion_of check_reply disagreement counts_differ correlate_too_large
   yes_says e =
       let d = at given.directions in
-      let passed = if_yes (check_reply net listing) (opinion_at (disagreement t d listing)) e in
+      let passed = figure_given (check_reply net listing) (opinion_at (disagreement t d listing)) e in
       let replies = both_accepted (table_reply net) (form_reply listing) passed.0 in
       let conditions = first_line t.n (condition_differs t listing) (t.m + 2) 0 in
       let directions = first_line t.m (direction_differs t d listing) 2 conditions in
@@ -180,12 +174,12 @@ module _ (net listing : List ℕ) where
         ∙ goes_on_lem t.m (direction_differs t d listing) 2 _ directions_agree
         ∙ goes_on_lem t.n (condition_differs t listing) (t.m + 2) 0 conditions_agree)
 
-    pub says_yes : opinion_of net listing ≡ Yes
+    pub says_yes : opinion_of net listing ≡ Ok Yes
     unfolding opinion_of check_reply
     says_yes = rw (s.table, s.form, no_disagreement)
 
   -- ---- "A yes carries demand 3 with it, whoever made the sheet"
-  pub yes_demand3 : opinion_of net listing ≡ Yes → SheetDemand3 net listing
+  pub yes_demand3 : opinion_of net listing ≡ Ok Yes → SheetDemand3 net listing
   unfolding table_in
   yes_demand3 e =
       let s = yes_says e in let sound = (net_passed net s.table).sound in
@@ -195,5 +189,5 @@ module _ (net listing : List ℕ) where
       (λ j l. sym (s.q j l))
       (demand_3 t k sound.q_least sound.q_most s.r_most)
 
-  pub yes_within_minute : opinion_of net listing ≡ Yes → SheetWithinMinute net listing
+  pub yes_within_minute : opinion_of net listing ≡ Ok Yes → SheetWithinMinute net listing
   yes_within_minute e i l = let s = yes_says e in rw (s.u i l) (s.u_most i l)

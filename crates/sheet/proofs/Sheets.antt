@@ -26,9 +26,8 @@ use Rattle.exact.proofs.Circles.{modulo_size}
 use Rattle.exact.proofs.Filling.{tabulate_length, tabulate_at, tabulate_ext}
 use Rattle.reply.specs.declared.Refusal.{Refusal}
 use Rattle.reply.specs.declared.Refusal.TheVariants.{Correlate}
-use Rattle.reply.specs.declared.Reply.{Reply}
-use Rattle.reply.specs.declared.Reply.TheVariants.{Accepted, Refused}
-use Rattle.reply.specs.Checks.{◌and_then◌}
+use Rattle.reply.specs.Reply.{Reply}
+use Rattle.reply.specs.Checks.{◌and_then◌, figure_of}
 use Rattle.reply.proofs.Checking.{both_accepted, none_refused}
 use Rattle.doolittle.specs.Table.{Table, at}
 use Rattle.doolittle.specs.Solution.{K}
@@ -47,10 +46,11 @@ use Rattle.listing.specs.File.{table_in, net_reply, net_answers, file_reply, ans
 use Rattle.listing.proofs.Filing.{file_demand3, file_within_minute}
 use Rattle.listing.proofs.Following.{file_replies}
 use Rattle.listing.proofs.Tabling.{misclosures_length}
+use Rattle.std.specs.Prelude.{Result, Ok, Err}
 use Rattle.sheet.specs.declared.Opinion.{Opinion}
 use Rattle.sheet.specs.declared.Opinion.TheVariants.{Yes}
 use Rattle.sheet.specs.Form.{conditions_in, form_reply, own_u, own_adjusted, own_k, own_r, own_q}
-use Rattle.sheet.specs.Check.{check_reply, opinion_if, opinion_of}
+use Rattle.sheet.specs.Check.{check_reply, opinion_of}
 use Rattle.sheet.specs.Promise.{Checks}
 use Rattle.sheet.proofs.Judging.{net_passed, Says, yes_says, says_yes}
 use Rattle.sheet.proofs.Wording.{own_text, Worded, text_worded}
@@ -91,7 +91,7 @@ module _ (net : List ℕ) where
   abbrev direction : ℕ → ℤ
   direction = at given.directions
 
-  module _ (e : table_reply net ≡ Accepted) where
+  module _ (e : table_reply net ≡ Ok tt) where
     pub net_counts : (1 ≤ t.m) × (t.m ≤ 64) × (1 ≤ t.n) × (t.n ≤ 24)
     unfolding table_in table_reply net_from
     net_counts =
@@ -133,7 +133,7 @@ module _ (net : List ℕ) where
           (λ j l. rw (tabulate_at t.n (R_of t k) j (pos 0) l) (omega (arith, f.r_most j l)))
           (λ j l. rw (tabulate_at t.n (Q_of t k) j (pos 0) l) (omega (arith, Q_size k f j l))))
 
-      pub any_correlates : opinion_of net (answers_listing (answers_of t k direction)) ≡ Yes
+      pub any_correlates : opinion_of net (answers_listing (answers_of t k direction)) ≡ Ok Yes
       any_correlates =
           let w = worded in let listing = answers_listing (answers_of t k direction) in
           let same : (j : ℕ) → j < t.n → k j ≡ own_k listing j = λ j l. sym (w.own_k_lem j l ∙ tabulate_at t.n k j (pos 0) l) in
@@ -154,7 +154,7 @@ module _ (net : List ℕ) where
           })
 
   -- ---- no other sheet gets yes
-  module _ (listing : List ℕ) (e : opinion_of net listing ≡ Yes) where
+  module _ (listing : List ℕ) (e : opinion_of net listing ≡ Ok Yes) where
     pub yes_fair : Fair t (own_k listing)
     yes_fair = let s = yes_says net listing e in record { k_most = s.k_most; r_most = s.r_most; u_most = s.u_most }
 
@@ -179,8 +179,8 @@ module _ (net : List ℕ) where
             )
 
   -- ---- "The adjusting program's listings of accepted nets get yes."
-  module _ (e : file_reply net ≡ Accepted) where
-    accepted : (table_reply net ≡ Accepted) × (solution_reply t ≡ Accepted)
+  module _ (e : file_reply net ≡ Ok tt) where
+    accepted : (table_reply net ≡ Ok tt) × (solution_reply t ≡ Ok tt)
     unfolding table_reply file_reply
     accepted =
         let formed = formed_reply given.directions given.q 1 given.conditions in
@@ -201,12 +201,12 @@ module _ (net : List ℕ) where
     pub fair_own : Fair t (K t)
     fair_own = record { k_most = correlates_small; r_most = (file_demand3 net e).close; u_most = file_within_minute net e }
 
-    pub own_listing : opinion_of net (file_listing Plain net) ≡ Yes
+    pub own_listing : opinion_of net (file_listing Plain net) ≡ Ok Yes
     unfolding net_listing answers_on on_sheet net_answers
     own_listing = any_correlates accepted.0 (K t) fair_own
 
   -- ---- the K of a sheet that gets yes are all that it tells
-  pub same_bytes : (listing other : List ℕ) → opinion_of net listing ≡ Yes → opinion_of net other ≡ Yes
+  pub same_bytes : (listing other : List ℕ) → opinion_of net listing ≡ Ok Yes → opinion_of net other ≡ Ok Yes
       → ((j : ℕ) → j < conditions_in listing → own_k listing j ≡ own_k other j) → listing ≡ other
   same_bytes listing other e e' same =
       let n = (yes_says net listing e).conditions in
@@ -219,14 +219,14 @@ module _ (net : List ℕ) where
   unfolding opinion_of check_reply
   first_bytes listing size far = by_form (form_reply listing) refl
     where
-      refused : (r : Reply) (why : Refusal) (o o' : Opinion) → opinion_if (r and_then Refused why) o ≡ opinion_if (r and_then Refused why) o'
-      refused Accepted why o o' = refl
-      refused (Refused other) why o o' = refl
+      refused : (r : Reply) (why : Refusal) (o o' : Opinion) → figure_of (r and_then Err why) o ≡ figure_of (r and_then Err why) o'
+      refused (Ok _) why o o' = refl
+      refused (Err other) why o o' = refl
 
       by_form : (r : Reply) → form_reply listing ≡ r → opinion_of net (take size listing) ≡ opinion_of net listing
-      by_form Accepted e = ap (opinion_of net) (take_all size listing (omega (arith, formed_short listing e)))
-      by_form (Refused why) e = rw (form_cut listing size far, e) (refused (table_reply net) why _ _)
+      by_form (Ok _) e = ap (opinion_of net) (take_all size listing (omega (arith, formed_short listing e)))
+      by_form (Err why) e = rw (form_cut listing size far, e) (refused (table_reply net) why _ _)
 
   -- ---- and there is only one
-  pub one_opinion : (listing : List ℕ) (opinion opinion' : Opinion) → Checks net listing opinion → Checks net listing opinion' → opinion ≡ opinion'
+  pub one_opinion : (listing : List ℕ) (opinion opinion' : Result Opinion Refusal) → Checks net listing opinion → Checks net listing opinion' → opinion ≡ opinion'
   one_opinion listing opinion opinion' a b = a.answer ∙ sym b.answer

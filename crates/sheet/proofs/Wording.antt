@@ -10,7 +10,7 @@
 use mathlib.Core.Path.{◌≡◌, refl, sym, ◌∙◌, ap, ap₂, subst}
 use mathlib.Core.Bool.{Bool, true, false, cond}
 use mathlib.Core.List.{List, [], ◌∷◌, ◌++◌, append_assoc, append-nil}
-use mathlib.Core.Option.{Option, none, some}
+use Rattle.std.specs.Prelude.{Option, None, Some, Ok}
 use Prim.Native.Nat.{ℕ, zero, suc, ◌+◌, ◌-◌, ◌<◌, ◌≤◌, ◌^◌}
 use native.Mathlib.Numerals.{add-one}
 use native.Mathlib.Decide.{dec_lt}
@@ -27,7 +27,6 @@ use Rattle.exact.proofs.Filling.{tabulate_at}
 use Rattle.exact.proofs.Sameness.{same_true, same_yes}
 use Rattle.exact.proofs.Searching.{Failed, neither, not_both}
 use Rattle.reply.specs.declared.Refusal.TheVariants.{Sheet}
-use Rattle.reply.specs.declared.Reply.TheVariants.{Accepted}
 use Rattle.reply.specs.Checks.{refuse_if, refuse_first, ◌and_then◌}
 use Rattle.reply.proofs.Checking.{both_accepted, if_accepted, none_refused, refuse_none}
 use Rattle.doolittle.specs.Table.{at}
@@ -110,17 +109,17 @@ module _ (m n : ℕ) (u adjusted k r q : ℕ → ℤ) where
         (order_ext n (λ j. line (1 + (m + j))) (k_line_of ks rs qs) (λ j l. rw (← k_is j l, ← r-is j l, ← q_is j l) (ap line (omega arith) ∙ k_line_lem j)))
 
 -- ---- a line that is read as its numbers
-numbered_as : (number : ℕ) (o : Option (List ℤ)) (zs : List ℤ) → numbered number o ≡ some zs → get_or zs 0 (pos 0) ≡ pos number
+numbered_as : (number : ℕ) (o : Option (List ℤ)) (zs : List ℤ) → numbered number o ≡ Some zs → get_or zs 0 (pos 0) ≡ pos number
 unfolding numbered
-numbered_as number none zs e = let z : ◌≡◌ {A = ℕ} 0 1 = cc in absurd (omega arith)
-numbered_as number (some ys) zs e = by_number (same (get_or ys 0 (pos 0)) (pos number)) refl e
+numbered_as number None zs e = let z : ◌≡◌ {A = ℕ} 0 1 = cc in absurd (omega arith)
+numbered_as number (Some ys) zs e = by_number (same (get_or ys 0 (pos 0)) (pos number)) refl e
   where
-    by_number : (t : Bool) → same (get_or ys 0 (pos 0)) (pos number) ≡ t → cond t (some ys) none ≡ some zs → get_or zs 0 (pos 0) ≡ pos number
+    by_number : (t : Bool) → same (get_or ys 0 (pos 0)) (pos number) ≡ t → cond t (Some ys) None ≡ Some zs → get_or zs 0 (pos 0) ≡ pos number
     by_number true t f = let is : ys ≡ zs = cc in rw (← is) (same_true (get_or ys 0 (pos 0)) (pos number) t)
     by_number false t f = let z : ◌≡◌ {A = ℕ} 0 1 = cc in absurd (omega arith)
 
 module _ (listing : List ℕ) where
-  module _ (zs : List ℤ) (e : heading_of listing ≡ some zs) where
+  module _ (zs : List ℤ) (e : heading_of listing ≡ Some zs) where
     pub counts_row : Row 18 2 (line_at listing 4) zs
     counts_row = row_line 18 (omega arith) listing 4 2 zs (heading_told listing zs e).1
 
@@ -137,7 +136,7 @@ module _ (listing : List ℕ) where
         ∙ ap (λ (lines : List (List ℕ)). get_or lines 0 []) (lines_first (adj_head ++ line_at listing 4) (drop (place_from LF listing 4 + 1) listing) (free_both LF adj_head (line_at listing 4) refl (line_free listing 4)))
         ∙ ap (λ (s : List ℕ). adj_head ++ s) counts_row.text
 
-  module _ (i : ℕ) (zs : List ℤ) (e : row_no listing i ≡ some zs) where
+  module _ (i : ℕ) (zs : List ℤ) (e : row_no listing i ≡ Some zs) where
     pub lettered : Lettered 18 (letter_due (directions_in listing) i) (fields_due (directions_in listing) i) (line_no listing (i + 1)) zs
     unfolding row_no due_at
     lettered =
@@ -156,7 +155,7 @@ module _ (listing : List ℕ) where
     unfolding row_no
     row_there = by_count (dec_lt (i + 1) (lines_in listing))
       where
-        no_row : lines_in listing ≤ i + 1 → none ≡ some zs
+        no_row : lines_in listing ≤ i + 1 → None ≡ Some zs
         no_row l = sym (ap (due_at (directions_in listing) i) (no_line listing (i + 1) l) ∙ none_due (directions_in listing) i) ∙ e
 
         by_count : Dec (i + 1 < lines_in listing) → i + 1 < lines_in listing
@@ -165,13 +164,13 @@ module _ (listing : List ℕ) where
 
 -- ---- a listing whose ADJ line is well formed
 pub record Counted (listing : List ℕ) : Type 0 where
-  pub heading : heading_of listing ≡ some (pos (directions_in listing) ∷ pos (conditions_in listing) ∷ [])
+  pub heading : heading_of listing ≡ Some (pos (directions_in listing) ∷ pos (conditions_in listing) ∷ [])
   pub m_least : 1 ≤ directions_in listing
   pub m_most : directions_in listing ≤ 64
   pub n_least : 1 ≤ conditions_in listing
   pub n_most : conditions_in listing ≤ 24
 
-count_is : (listing : List ℕ) (zs : List ℤ) → heading_of listing ≡ some zs → (k : ℕ) → count_no k listing ≡ nat_abs (get_or zs k (pos 0))
+count_is : (listing : List ℕ) (zs : List ℤ) → heading_of listing ≡ Some zs → (k : ℕ) → count_no k listing ≡ nat_abs (get_or zs k (pos 0))
 unfolding count_no row_values
 count_is listing zs h k = rw h
 
@@ -180,13 +179,13 @@ unfolding heading_amiss
 counted listing e = by_heading (heading_of listing) refl e
   where
     by_heading : (o : Option (List ℤ)) → heading_of listing ≡ o → heading_amiss o ≡ false → Counted listing
-    by_heading none h f = not_both f
-    by_heading (some zs) h f =
+    by_heading None h f = not_both f
+    by_heading (Some zs) h f =
         let b = neither (outside (pos 1) (pos 64) (get_or zs 0 (pos 0))) (outside (pos 1) (pos 24) (get_or zs 1 (pos 0))) f in
         let m-in = in_range 64 (get_or zs 0 (pos 0)) b.0 in let n-in = in_range 24 (get_or zs 1 (pos 0)) b.1 in
         let m_is = count_is listing zs h 0 in let n_is = count_is listing zs h 1 in
         record {
-          heading = h ∙ ap some (two_of zs (counts_row listing zs h).many ∙ ap₂ (λ (x y : ℤ). x ∷ y ∷ []) (m-in.0 ∙ ap pos (sym m_is)) (n-in.0 ∙ ap pos (sym n_is)));
+          heading = h ∙ ap Some (two_of zs (counts_row listing zs h).many ∙ ap₂ (λ (x y : ℤ). x ∷ y ∷ []) (m-in.0 ∙ ap pos (sym m_is)) (n-in.0 ∙ ap pos (sym n_is)));
           m_least = omega (arith, m_is, m-in.1);
           m_most = omega (arith, m_is, m-in.2);
           n_least = omega (arith, n_is, n-in.1);
@@ -200,11 +199,11 @@ pub record Formed (listing : List ℕ) : Type 0 where
   pub whole : length listing ≤ bytes_of (take (directions_in listing + conditions_in listing + 1) (lines_of listing))
 
 -- a line that is not malformed has its numbers
-pub row_found : (listing : List ℕ) (i : ℕ) → malformed listing i ≡ false → row_no listing i ≡ some (row_values (row_no listing i) [])
+pub row_found : (listing : List ℕ) (i : ℕ) → malformed listing i ≡ false → row_no listing i ≡ Some (row_values (row_no listing i) [])
 unfolding malformed
 row_found listing i e = not_missing (row_no listing i) e
 
-module _ (listing : List ℕ) (e : form_reply listing ≡ Accepted) where
+module _ (listing : List ℕ) (e : form_reply listing ≡ Ok tt) where
   abbrev m : ℕ
   m = directions_in listing
 
@@ -223,7 +222,7 @@ module _ (listing : List ℕ) (e : form_reply listing ≡ Accepted) where
         whole = ltb-false (bytes_of (take (m + n + 1) (lines_of listing))) (length listing) (if_accepted more (Sheet (m + n + 2)) last.1);
       }
 
-  own_numbers : (i : ℕ) → i < m + n → row_no listing i ≡ some (row_values (row_no listing i) [])
+  own_numbers : (i : ℕ) → i < m + n → row_no listing i ≡ Some (row_values (row_no listing i) [])
   own_numbers i l = row_found listing i (formed_as.sound i l)
 
   -- ---- every line is its own numbers
@@ -274,8 +273,8 @@ module _ (listing : List ℕ) (e : form_reply listing ≡ Accepted) where
 
   last_there : m + n + 1 ≤ lines_in listing
   last_there =
-      let some = formed_as.counts.m_least in let last = m + n - 1 in
-      omega (arith, some, row_there listing last (row_values (row_no listing last) []) (own_numbers last (omega (arith, some))))
+      let Some = formed_as.counts.m_least in let last = m + n - 1 in
+      omega (arith, Some, row_there listing last (row_values (row_no listing last) []) (own_numbers last (omega (arith, Some))))
 
   pub own_text : listing ≡ accepted_listing m n (tabulate m (own_u listing)) (tabulate m (own_adjusted listing)) (tabulate n (own_k listing)) (tabulate n (own_r listing)) (tabulate n (own_q listing))
   own_text =
@@ -305,7 +304,7 @@ abbrev pub Short : (count : ℕ) → List ℤ → Type 0
 Short count zs = (i : ℕ) → i < count → nat_abs (at zs i) < 10 ^ 18
 
 pub record Worded (m n : ℕ) (u adjusted k r q : List ℤ) (listing : List ℕ) : Type 0 where
-  pub form : form_reply listing ≡ Accepted
+  pub form : form_reply listing ≡ Ok tt
   pub directions : directions_in listing ≡ m
   pub conditions : conditions_in listing ≡ n
   pub own_u_lem : (i : ℕ) → i < m → own_u listing i ≡ at u i
@@ -366,7 +365,7 @@ module _ (m n : ℕ) (u adjusted k r q : List ℤ) (m_least : 1 ≤ m) (m_most :
   line_free_of (suc i) l =
       letter_free 17 (omega arith) (letter_due m i) (λ e. omega (arith, letter_high m i)) (numbers i) (known i (omega arith)).sized
 
-  heading_is : heading_of given ≡ some (pos m ∷ pos n ∷ [])
+  heading_is : heading_of given ≡ Some (pos m ∷ pos n ∷ [])
   unfolding heading_of begins signed_fields written
   heading_is =
       let rest = in_order m (v_line_of u adjusted) ++ in_order n (k_line_of k r q) in let row = digits_of m ++ (9 ∷ (digits_of n ++ [])) in
@@ -382,7 +381,7 @@ module _ (m n : ℕ) (u adjusted k r q : List ℤ) (m_least : 1 ≤ m) (m_most :
   line_is : (h : ℕ) → h < m + n + 1 → line_no given h ≡ line h
   line_is h l = ap (λ (s : List ℕ). line_no s h) (sym given_is) ∙ stacked_no (m + n + 1) line line_free_of h l
 
-  due : (i : ℕ) → i < m + n → due_at m i (line (suc i)) ≡ some (numbers i)
+  due : (i : ℕ) → i < m + n → due_at m i (line (suc i)) ≡ Some (numbers i)
   unfolding due_at numbered wording
   due i l =
       let x = known i l in let letter = letter_due m i in
@@ -390,7 +389,7 @@ module _ (m n : ℕ) (u adjusted k r q : List ℤ) (m_least : 1 ≤ m) (m_most :
       ∙ ap (numbered (number_due m i)) (letter_read 17 (omega arith) letter (λ e. omega (arith, letter_high m i)) (numbers i) x.sized)
       ∙ rw (same_yes x.first)
 
-  row : (i : ℕ) → i < m + n → row_no given i ≡ some (numbers i)
+  row : (i : ℕ) → i < m + n → row_no given i ≡ Some (numbers i)
   unfolding row_no
   row i l =
       ap (λ (d : ℕ). due_at d i (line_no given (i + 1))) m_is
@@ -404,7 +403,7 @@ module _ (m n : ℕ) (u adjusted k r q : List ℤ) (m_least : 1 ≤ m) (m_most :
       (ap bytes_of (take_all lines (lines_of (stacked lines line)) (omega (arith, stacked_count lines line line_free_of)))
       ∙ stacked_bytes lines line line_free_of)
 
-  form_is : form_reply given ≡ Accepted
+  form_is : form_reply given ≡ Ok tt
   unfolding form_reply malformed goes_on heading_amiss
   form_is =
       rw (

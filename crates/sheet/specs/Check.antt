@@ -1,19 +1,19 @@
 -- Another office's sheet held against a net: what its K give, and the line of the first test that fails. "Otherwise the counts are compared first, then the
 -- sizes of the K, then all lines in order."
-use Rattle.std.specs.Prelude.{Bool, ◌||◌, not, cond, List, ℕ, zero, suc, ◌+◌, ltb, eqb, ℤ, nat_abs}
+use Rattle.std.specs.Prelude.{Bool, ◌||◌, not, cond, List, ℕ, zero, suc, ◌+◌, ltb, eqb, ℤ, nat_abs, Result}
 use Rattle.exact.specs.First.{first, some_below}
 use Rattle.exact.specs.Same.{same}
-use Rattle.reply.specs.declared.Reply.{Reply}
-use Rattle.reply.specs.declared.Reply.TheVariants.{Accepted, Refused}
-use Rattle.reply.specs.Checks.{◌and_then◌}
+use Rattle.reply.specs.Reply.{Reply}
+use Rattle.reply.specs.Checks.{◌and_then◌, figure_of}
 use Rattle.doolittle.specs.Table.{Table, at}
 use Rattle.adjustment.specs.Corrections.{R_of, u_of, adjusted_of, Q_of}
 use Rattle.adjustment.specs.Refusals.{past_minute}
 use Rattle.text.specs.Lines.{lines_of}
 use Rattle.network.specs.Net.{net_of, table_reply}
 use Rattle.listing.specs.File.{table_in}
+use Rattle.reply.specs.declared.Refusal.{Refusal}
 use Rattle.sheet.specs.declared.Opinion.{Opinion}
-use Rattle.sheet.specs.declared.Opinion.TheVariants.{Yes, No, Refused as Unchecked}
+use Rattle.sheet.specs.declared.Opinion.TheVariants.{Yes, No}
 use Rattle.sheet.specs.Form.{directions_in, conditions_in, form_reply, own_u, own_adjusted, own_k, own_r, own_q}
 
 -- two numbers that ought to be the same, and are not
@@ -61,10 +61,6 @@ opinion_at (suc line) = No (suc line)
 unfoldable pub check_reply : (net listing : List ℕ) → Reply
 check_reply net listing = table_reply net and_then form_reply listing
 
-abbrev pub opinion_if : Reply → Opinion → Opinion
-opinion_if Accepted opinion = opinion
-opinion_if (Refused why) opinion = Unchecked why
-
-unfoldable pub opinion_of : (net listing : List ℕ) → Opinion
+unfoldable pub opinion_of : (net listing : List ℕ) → Result Opinion Refusal
 opinion_of net listing =
-    let given = net_of (lines_of net) in opinion_if (check_reply net listing) (opinion_at (disagreement (table_in given) (at given.directions) listing))
+    let given = net_of (lines_of net) in figure_of (check_reply net listing) (opinion_at (disagreement (table_in given) (at given.directions) listing))

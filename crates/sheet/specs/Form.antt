@@ -1,12 +1,11 @@
 -- The form of another office's listing, and the numbers that it prints. "A listing is malformed at the first line that isn't the ADJ, V or K line due there
 -- or lacks its LF, counting by its own ADJ line from 1 to 64 and 1 to 24 in order, with numbers written as in the network file but up to 18 digits; a missing
 -- line counts where it was due."
-use Rattle.std.specs.Prelude.{Bool, true, cond, ◌||◌, List, [], ◌∷◌, ℕ, ◌+◌, ◌-◌, ltb, ℤ, pos, nat_abs, length, get_or, take}
-use Rattle.std.proofs.Math.Option.{Option, none, some}
+use Rattle.std.specs.Prelude.{Bool, true, cond, ◌||◌, List, [], ◌∷◌, ℕ, ◌+◌, ◌-◌, ltb, ℤ, pos, nat_abs, length, get_or, take, Option, None, Some}
 use Rattle.exact.specs.Same.{same}
 use Rattle.exact.specs.Outside.{outside}
 use Rattle.reply.specs.declared.Refusal.TheVariants.{Sheet}
-use Rattle.reply.specs.declared.Reply.{Reply}
+use Rattle.reply.specs.Reply.{Reply}
 use Rattle.reply.specs.Checks.{refuse_if, refuse_first, ◌and_then◌}
 use Rattle.text.specs.Parts.{begins}
 use Rattle.text.specs.Lines.{lines_of, line_no, bytes_of}
@@ -17,12 +16,12 @@ abbrev pub adj_head : List ℕ
 adj_head = 65 ∷ 68 ∷ 74 ∷ 9 ∷ []
 
 unfoldable pub heading_of : (listing : List ℕ) → Option (List ℤ)
-heading_of listing = cond (begins adj_head listing) (row_within 18 listing 4 2) none
+heading_of listing = cond (begins adj_head listing) (row_within 18 listing 4 2) None
 
 -- "from 1 to 64 and 1 to 24"
 unfoldable pub heading_amiss : Option (List ℤ) → Bool
-heading_amiss (some zs) = outside (pos 1) (pos 64) (get_or zs 0 (pos 0)) || outside (pos 1) (pos 24) (get_or zs 1 (pos 0))
-heading_amiss none = true
+heading_amiss (Some zs) = outside (pos 1) (pos 64) (get_or zs 0 (pos 0)) || outside (pos 1) (pos 24) (get_or zs 1 (pos 0))
+heading_amiss None = true
 
 -- the listing's own counts, of directions and of conditions
 unfoldable pub count_no : (k : ℕ) (listing : List ℕ) → ℕ
@@ -46,8 +45,8 @@ number_due m i = cond (ltb i m) (i + 1) (i - m + 1)
 
 -- the numbers of a line, where the first is the one due
 unfoldable pub numbered : (number : ℕ) → Option (List ℤ) → Option (List ℤ)
-numbered number (some zs) = cond (same (get_or zs 0 (pos 0)) (pos number)) (some zs) none
-numbered number none = none
+numbered number (Some zs) = cond (same (get_or zs 0 (pos 0)) (pos number)) (Some zs) None
+numbered number None = None
 
 -- the numbers of a line that is the one due at place i; none, where it isn't
 unfoldable pub due_at : (m i : ℕ) (line : List ℕ) → Option (List ℤ)

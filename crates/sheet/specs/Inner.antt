@@ -1,17 +1,14 @@
 -- What the inner functions hand each other: the numbers of a listing's lines, four places to a line. No part of the promise.
-use Rattle.std.specs.Prelude.{◌≡◌, Bool, true, false, ◌||◌, List, ℕ, ◌+◌, ◌*◌, ◌≤◌, ◌<◌, ℤ, pos, nat_abs, length, get_or}
-use Rattle.std.proofs.Math.Option.{Option}
-use Rattle.reply.specs.declared.Refusal.TheVariants.{Sheet}
-use Rattle.reply.specs.declared.Reply.TheVariants.{Accepted, Refused}
+use Rattle.std.specs.Prelude.{◌≡◌, Bool, true, false, ◌||◌, List, ℕ, ◌+◌, ◌*◌, ◌≤◌, ◌<◌, ℤ, pos, nat_abs, length, get_or, Ok, Err, Result, Option}
 use Rattle.doolittle.specs.Table.{Table}
 use Rattle.adjustment.specs.Corrections.{V_of, u_of}
 use Rattle.text.specs.Parts.{place_from, begins}
 use Rattle.text.specs.Lines.{LF}
 use Rattle.text.specs.Rows.{lettered_within}
-use Rattle.sheet.specs.declared.form.Form.{Form}
-use Rattle.sheet.specs.declared.form.Form.TheVariants.{Lines, Malformed}
 use Rattle.sheet.specs.Check.{unlike}
 use Rattle.sheet.specs.Form.{adj_head, heading_of, heading_amiss, directions_in, conditions_in, letter_due, fields_due, number_due, numbered, form_reply, field_no}
+use Rattle.reply.specs.declared.Refusal.{Refusal}
+use Rattle.network.specs.declared.Size.{Size}
 
 -- the numbers of the line at a start, where it is the one due at place i
 unfoldable pub due_from : (listing : List ℕ) (start m i : ℕ) → Option (List ℤ)
@@ -37,16 +34,16 @@ abbrev pub Entered : (listing : List ℕ) (m lines : ℕ) (x : List ℤ) → Typ
 Entered listing m lines x = (i : ℕ) → i < lines → (k : ℕ) → k < fields_due m i → number_at x i k ≡ field_no k listing i
 
 pub record WellFormed (listing : List ℕ) (m n : ℕ) (x : List ℤ) : Type 0 where
-  pub passed : form_reply listing ≡ Accepted
+  pub passed : form_reply listing ≡ Ok tt
   pub m_is : m ≡ directions_in listing
   pub n_is : n ≡ conditions_in listing
   pub m_most : m ≤ 64
   pub n_most : n ≤ 24
   pub entered : Entered listing m (m + n) x
 
-abbrev pub FormedAs : (listing : List ℕ) → Form → (x : List ℤ) → Type 0
-FormedAs listing (Lines m n) x = WellFormed listing m n x
-FormedAs listing (Malformed line) x = form_reply listing ≡ Refused (Sheet line)
+abbrev pub FormedAs : (listing : List ℕ) → Result Size Refusal → (x : List ℤ) → Type 0
+FormedAs listing (Ok size) x = WellFormed listing size.m size.n x
+FormedAs listing (Err why) x = form_reply listing ≡ Err why
 
 -- two numbers side by side in every line, from place `from` on, against those of two lists
 abbrev pub pair_unlike : (x : List ℤ) (from : ℕ) (a b : List ℤ) (i : ℕ) → Bool

@@ -7,7 +7,8 @@ ghost use Rattle.text.specs.Rows.{lettered_within, row_values, end_of};
 ghost use Rattle.sheet.specs.Form.{heading_of, directions_in, conditions_in, fields_due, numbered};
 ghost use Rattle.sheet.specs.Inner.{due_from, Headed, FormedAs};
 
-use text::row::RowEnd;
+use network::Size;
+use reply::Refusal;
 use text::{find, row};
 
 // The most digits of a number in a listing.
@@ -16,23 +17,16 @@ const MOST_DIGITS: usize = 18;
 // Places for the numbers of 64 V lines and 24 K lines.
 pub const NUMBERS: usize = 352;
 
-// The counts of a listing that is well formed, or the line that is not the one due.
-#[derive(Clone, Copy)]
-pub enum Form {
-    Lines(usize, usize),
-    Malformed(u64),
-}
-
 // The two counts of the ADJ line.
-fn heading(listing: &[u8], x: &mut [i64]) -> RowEnd
+fn heading(listing: &[u8], x: &mut [i64]) -> Option<usize>
     requires { length x.old ≡ 2 }
     ensures end { result ≡ end_of (heading_of listing.now) (place_from LF listing.now 4 + 1) }
     ensures values { take 2 x.new ≡ row_values (heading_of listing.now) (take 2 x.new) }
 {
-    if find::begins(listing, b"ADJ\t") {
-        return row::read(MOST_DIGITS, listing, 4, 2, x);
+    if !find::begins(listing, b"ADJ\t") {
+        return None;
     }
-    RowEnd::NoRow
+    row::read(MOST_DIGITS, listing, 4, 2, x)
 }
 
 // A line of that letter and so many numbers, of which the first is its own.
@@ -43,25 +37,21 @@ fn numbered_line(
     count: usize,
     number: usize,
     x: &mut [i64],
-) -> RowEnd
+) -> Option<usize>
     requires { (start ≤ length listing.now) × (10 < letter) × (1 ≤ count) × (count ≤ length x.old) × (number ≤ 64) }
     ensures end { result ≡ end_of (numbered number (lettered_within 18 listing.now start letter count)) (place_from LF listing.now start + 1) }
     ensures values { take count x.new ≡ row_values (numbered number (lettered_within 18 listing.now start letter count)) (take count x.new) }
     ensures long { length x.new ≡ length x.old }
 {
-    let end = row::read_behind(MOST_DIGITS, listing, start, letter, count, x);
-    let RowEnd::Next(next) = end else {
-        return RowEnd::NoRow;
-    };
-    let own = x[0];
-    if own != number as i64 {
-        return RowEnd::NoRow;
+    let next = row::read_behind(MOST_DIGITS, listing, start, letter, count, x)?;
+    if x[0] != number as i64 {
+        return None;
     }
-    RowEnd::Next(next)
+    Some(next)
 }
 
 // The line at place i behind the ADJ line of m directions.
-fn due_line(listing: &[u8], start: usize, m: usize, i: usize, x: &mut [i64]) -> RowEnd
+fn due_line(listing: &[u8], start: usize, m: usize, i: usize, x: &mut [i64]) -> Option<usize>
     requires { (start ≤ length listing.now) × (4 ≤ length x.old) × (m ≤ 64) × (i < m + 24) }
     ensures end { result ≡ end_of (due_from listing.now start m i) (place_from LF listing.now start + 1) }
     ensures values { take (fields_due m i) x.new ≡ row_values (due_from listing.now start m i) (take (fields_due m i) x.new) }
@@ -74,45 +64,37 @@ fn due_line(listing: &[u8], start: usize, m: usize, i: usize, x: &mut [i64]) -> 
 }
 
 // The lines behind the ADJ line, which ends at `start`, and that nothing follows them.
-fn lines(listing: &[u8], start: usize, m: usize, n: usize, x: &mut [i64]) -> Form
+fn lines(listing: &[u8], start: usize, m: usize, n: usize, x: &mut [i64]) -> Result<Size, Refusal>
     requires headed { Headed listing.now start m n }
     requires x_len { length x.old ≡ 352 }
     ensures { FormedAs listing.now result x.new }
 {
     let mut next = start;
-    let mut i = 0;
-    while i < m + n {
-        let at = 4 * i;
-        let end = due_line(listing, next, m, i, &mut x[at..]);
-        let RowEnd::Next(after) = end else {
-            return Form::Malformed((i + 2) as u64);
+    for i in 0..m + n {
+        let Some(after) = due_line(listing, next, m, i, &mut x[4 * i..]) else {
+            return Err(Refusal::Sheet((i + 2) as u64));
         };
         next = after;
-        i += 1;
     }
     if next < listing.len() {
-        return Form::Malformed((m + n + 2) as u64);
+        return Err(Refusal::Sheet((m + n + 2) as u64));
     }
-    Form::Lines(m, n)
+    Ok(Size { m, n })
 }
 
 // All lines of a listing.
-pub fn read(listing: &[u8], x: &mut [i64]) -> Form
+pub fn read(listing: &[u8], x: &mut [i64]) -> Result<Size, Refusal>
     requires { length x.old ≡ 352 }
     ensures { FormedAs listing.now result x.new }
 {
-    let mut counts = [0i64; 2];
-    let end = heading(listing, &mut counts);
-    let RowEnd::Next(start) = end else {
-        return Form::Malformed(1);
+    let mut counts = [0; 2];
+    let Some(start) = heading(listing, &mut counts) else {
+        return Err(Refusal::Sheet(1));
     };
     let m = counts[0];
     let n = counts[1];
-    if exact::outside(1, 64, m) {
-        return Form::Malformed(1);
-    }
-    if exact::outside(1, 24, n) {
-        return Form::Malformed(1);
+    if exact::outside(1, 64, m) || exact::outside(1, 24, n) {
+        return Err(Refusal::Sheet(1));
     }
     lines(listing, start, m as usize, n as usize, x)
 }

@@ -1,5 +1,6 @@
 -- `print` meets its contract. Assumes nothing.
-use native.Mathlib.Omega.{arith}
+use Rattle.std.proofs.Common.{refl, arith, rules}
+use Rattle.text.proofs.Putting.{put_whole}
 use Rattle.sheet.proofs.Promising.{no_answer, answered}
 use Rattle.sheet.proofs.print.Goals as goal
 
@@ -9,8 +10,8 @@ returns-then-out-lt-ANSWER c = let a = c.args in record {
   within = omega arith;
 }
 
-pub returns : goal.returns
-returns c =
+pub returns-clause-line : goal.returns-clause-line
+returns-clause-line c =
     let a = c.args in
-    let both = answered a.net.now a.listing.now a.out.now (omega (arith, c.if-out-lt-ANSWER.false)) c.check-opinion.ensures c.put_answer.ensures in
-    record { line = both.0; within = both.1 }
+    let line = answered a.net.now a.listing.now a.out.now (omega (arith, c.if-out-lt-ANSWER.false)) c.check.ensures (put_whole refl c.put_answer.ensures) in
+    search rules

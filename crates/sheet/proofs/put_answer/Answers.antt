@@ -1,22 +1,26 @@
--- `put_answer` meets its contract. Assumes nothing.
-use mathlib.Core.Path.{sym, ◌∙◌, ap}
+-- The line of each opinion.
+use Rattle.std.proofs.Common.{◌≡◌, sym, ◌∙◌, ap, arith}
+use Rattle.std.specs.Prelude.{Ok}
 use Rattle.reply.specs.declared.Verdict.{Verdict}
-use Rattle.text.proofs.Putting.{then, rewrote}
+use Rattle.text.proofs.Putting.{puts_as, puts_then, puts_most}
 use Rattle.page.specs.Lines.{refused_line}
+use Rattle.sheet.specs.declared.Opinion.TheVariants.{Yes, No}
 use Rattle.sheet.specs.Answer.{answer_line}
 use Rattle.sheet.proofs.put_answer.Goals as goal
 
-pub returns-in-Yes : goal.returns-in-Yes
+pub returns-in-Ok-Yes : goal.returns-in-Ok-Yes
 unfolding answer_line
-returns-in-Yes c =
-    rewrote (ap answer_line (sym c.in-Yes.is)) (then c.put_three-word.ensures c.put_byte.ensures)
+returns-in-Ok-Yes c =
+    let f = rw c.in-Ok-Yes.is at c.in-Ok-Yes.field-0-is in let e : c.args.opinion ≡ Ok Yes = cc in
+    puts_as (ap answer_line (sym e)) (puts_most (omega arith) c.word.ensures)
 
-pub returns-in-No : goal.returns-in-No
+pub returns-in-Ok-No : goal.returns-in-Ok-No
 unfolding answer_line
-returns-in-No c =
-    rewrote (ap answer_line (sym c.in-No.is)) c.put_no.ensures
+returns-in-Ok-No c =
+    let f = rw c.in-Ok-No.is at c.in-Ok-No.field-0-is in let e : c.args.opinion ≡ Ok (No c.in-Ok-No.line) = cc in
+    puts_as (ap answer_line (sym e)) (puts_most (omega arith) (puts_then c.word-in-Ok-No.ensures (puts_then c.count.ensures c.byte.ensures)))
 
-pub returns-in-Refused : goal.returns-in-Refused
+pub returns-in-Err : goal.returns-in-Err
 unfolding answer_line
-returns-in-Refused c =
-    rewrote (ap (λ (v : Verdict). refused_line v.number v.place) c.refuse-verdict.ensures ∙ ap answer_line (sym c.in-Refused.is)) c.put_refused.ensures
+returns-in-Err c =
+    puts_as (ap (λ (v : Verdict). refused_line v.number v.place) c.from.ensures ∙ ap answer_line (sym c.in-Err.is)) c.put_refused.ensures

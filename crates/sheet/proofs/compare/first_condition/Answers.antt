@@ -7,23 +7,24 @@ use lib.IntN.{ℤ, pos}
 use lib.ListN.{length}
 use Rattle.exact.proofs.Filling.{tabulate_at}
 use Rattle.exact.proofs.Searching.{first_found}
-use Rattle.doolittle.specs.Table.{Table, at, table_of}
+use Rattle.doolittle.specs.Table.{Table, at}
+use Rattle.doolittle.specs.Lent.{table_in}
 use Rattle.adjustment.proofs.Solving.{closing_is, first_open, missed_is}
 use Rattle.sheet.specs.Form.{own_k}
 use Rattle.sheet.proofs.Comparing.{k_differs}
-use Rattle.sheet.proofs.compare.first_condition.Goals as goal
 use Rattle.sheet.proofs.compare.first_condition.Goals.{After-print_remainders, After-remainders-close, Start}
+use Rattle.sheet.proofs.compare.first_condition.Goals as goal
 
 -- what has been formed of the table
 module _ (c : After-print_remainders) where
   abbrev left : After-remainders-close
-  left = c.before.before.before
+  left = (goal.at.After-print_remainders c).After-remainders-close
 
   abbrev start : Start
-  start = left.before.before
+  start = (goal.at.After-print_remainders c).Start
 
   abbrev t : Table
-  t = table_of start.args.q.now start.args.a.now start.args.w.now
+  t = table_in start.args.table
 
   abbrev v : List ℤ
   v = start.args.v.now
@@ -51,14 +52,14 @@ module _ (c : After-print_remainders) where
 
 pub first_unlike-requires : goal.first_unlike-requires
 first_unlike-requires c =
-    let p = c.before in let s = start p in let r = s.requires in
-    (r.x_len, omega (arith, few p, r.sound.m_most, r.sound.n_most), omega (arith, few p, r_long p, r.w_in_bounds.0), omega (arith, few p, misses_long p, r.w_in_bounds.1))
+    let p = (goal.at.first_unlike-requires c).After-print_remainders in let s = start p in let r = s.requires in let sound = s.args.table.sound in
+    (r.x_long, omega (arith, few p, sound.m_most, sound.n_most), omega (arith, few p, r_long p, r.room.0), omega (arith, few p, misses_long p, r.room.1))
 
 pub returns : goal.returns
 returns c = λ listing f k.
-    let p = c.before.before in
+    let p = (goal.at.returns c).After-print_remainders in
     k_differs f (t p) refl refl (r p) (misses p) (close p) c.first_unlike.result
     (first_open (t p) (own_k listing) (v p) k.v_is (close p) (left p).remainders-close.ensures.value) (few p)
-    (λ j l. (left p).remainders-close.ensures.by_index j l ∙ closing_is (t p) (own_k listing) (v p) k.v_is j)
+    (λ j l. (left p).remainders-close.ensures.stored j l ∙ closing_is (t p) (own_k listing) (v p) k.v_is j)
     (λ j l. ap (λ (xs : List ℤ). at xs j) p.print_remainders.ensures ∙ tabulate_at (t p).n _ j (pos 0) (omega (arith, l, few p)) ∙ missed_is (t p) (own_k listing) (u p) k.u_is j)
     c.first_unlike.ensures

@@ -10,31 +10,31 @@ use lib.Seq.{length-take-le}
 use Rattle.exact.specs.First.{first}
 use Rattle.exact.proofs.Filling.{tabulate_at}
 use Rattle.exact.proofs.Searching.{first_before, first_found}
-use Rattle.doolittle.specs.Table.{Table, at, table_of}
+use Rattle.doolittle.specs.Table.{Table, at}
+use Rattle.doolittle.specs.Lent.{table_in}
 use Rattle.adjustment.specs.Corrections.{V_of, u_of}
 use Rattle.adjustment.proofs.Solving.{beyond, V_ext, rounding_is, first_past, turned_is}
 use Rattle.sheet.specs.Form.{own_k}
 use Rattle.sheet.proofs.Comparing.{v_differs}
-use Rattle.sheet.proofs.compare.first_direction.Goals as goal
 use Rattle.sheet.proofs.compare.first_direction.Goals.{After-adjust_directions, After-corrections, After-print_corrections-within, Start}
+use Rattle.sheet.proofs.compare.first_direction.Goals as goal
 
 pub corrections-requires : goal.corrections-requires
 corrections-requires c = let p = c.requires in record {
-  sound = p.sound;
-  w_in_bounds = p.w_in_bounds;
-  q_in_bounds = omega (arith, p.sound.m_most, p.x_len.1);
+  correlates = p.k_small;
+  room = omega (arith, c.args.table.sound.m_most, p.lists_long.1);
 }
 
 -- what has been formed of the table
 module _ (c : After-print_corrections-within) where
   abbrev corrected : After-corrections
-  corrected = c.before.before.before
+  corrected = (goal.at.After-print_corrections-within c).After-corrections
 
   abbrev start : Start
-  start = corrected.before.before
+  start = (goal.at.After-print_corrections-within c).Start
 
   abbrev t : Table
-  t = table_of start.args.q.now start.args.a.now start.args.w.now
+  t = table_in start.args.table
 
   abbrev v : List ℤ
   v = corrected.corrections.new.v
@@ -52,7 +52,7 @@ module _ (c : After-print_corrections-within) where
   u_long = c.print_corrections-within.auto.u
 
   adjusted_room : within ≤ length start.args.adjusted.now
-  adjusted_room = omega (arith, few, start.requires.sound.m_most, start.requires.x_len.3)
+  adjusted_room = omega (arith, few, start.args.table.sound.m_most, start.requires.lists_long.3)
 
   -- of the correlates k of the list, and of any that agree with them
   module _ (k : ℕ → ℤ) (same : (j : ℕ) → j < t.n → at start.args.k.now j ≡ k j) where
@@ -63,7 +63,7 @@ module _ (c : After-print_corrections-within) where
     past = first_past t k v v_is within c.print_corrections-within.ensures.value
 
     u_is : (i : ℕ) → i < within → at u i ≡ u_of t k i
-    u_is i l = c.print_corrections-within.ensures.by_index i l ∙ rounding_is t k v v_is i (omega (arith, few))
+    u_is i l = c.print_corrections-within.ensures.stored i l ∙ rounding_is t k v v_is i (omega (arith, few))
 
     u_most : (i : ℕ) → i < within → nat_abs (u_of t k i) ≤ 60000
     u_most i l = ltb-false 60000 (nat_abs (u_of t k i)) (first_before t.m (beyond 60000 (u_of t k)) i (omega (arith, past)))
@@ -72,22 +72,22 @@ module _ (c : After-print_corrections-within) where
   u_small i l = let k = at start.args.k.now in rw (u_is k (λ j h. refl) i l) (u_most k (λ j h. refl) i l)
 
 pub slice_bounds-adjust_directions-end : goal.slice_bounds-adjust_directions-end
-slice_bounds-adjust_directions-end c = adjusted_room c.before
+slice_bounds-adjust_directions-end c = adjusted_room (goal.at.slice_bounds-adjust_directions-end c).After-print_corrections-within
 
 pub slice_bounds-adjust_directions-end-2 : goal.slice_bounds-adjust_directions-end-2
-slice_bounds-adjust_directions-end-2 c = sym (length-take-le _ _ (adjusted_room c.before.before))
+slice_bounds-adjust_directions-end-2 c = sym (length-take-le _ _ (adjusted_room (goal.at.slice_bounds-adjust_directions-end-2 c).After-print_corrections-within))
 
 pub adjust_directions-requires : goal.adjust_directions-requires
 adjust_directions-requires c =
-    let p = c.before.before in let s = start p in let e = length-take-le (within p) s.args.adjusted.now (adjusted_room p) in record {
-      adjusted_in_bounds = (omega (arith, e, few p, s.requires.directions_len.0), omega (arith, e, few p, u_long p, s.requires.sound.m_most, s.requires.x_len.2));
-      small = ((λ i l. s.requires.directions_len.1 i (omega (arith, e, few p))), λ i l. u_small p i (omega (arith, e)));
+    let p = (goal.at.adjust_directions-requires c).After-print_corrections-within in let s = start p in let e = length-take-le (within p) s.args.adjusted.now (adjusted_room p) in record {
+      directions = (omega (arith, e, few p, s.requires.in_circle.0), λ i l. s.requires.in_circle.1 i (omega (arith, e, few p)));
+      corrections = (omega (arith, e, few p, u_long p, s.args.table.sound.m_most, s.requires.lists_long.2), λ i l. u_small p i (omega (arith, e)));
     }
 
 -- the adjusted directions, and what stands behind them
 module _ (c : After-adjust_directions) where
   abbrev printed : After-print_corrections-within
-  printed = c.before.before.before
+  printed = (goal.at.After-adjust_directions c).After-print_corrections-within
 
   abbrev turned : List ℤ
   turned = c.adjust_directions.new.adjusted
@@ -103,12 +103,12 @@ module _ (c : After-adjust_directions) where
 
 pub first_unlike-requires : goal.first_unlike-requires
 first_unlike-requires c =
-    let a = c.before in let p = printed a in let s = start p in
-    (s.requires.x_len.0, omega (arith, few p, s.requires.sound.m_most), omega (arith, few p, u_long p, s.requires.sound.m_most, s.requires.x_len.2), room a)
+    let a = (goal.at.first_unlike-requires c).After-adjust_directions in let p = printed a in let s = start p in
+    (s.requires.lists_long.0, omega (arith, few p, s.args.table.sound.m_most), omega (arith, few p, u_long p, s.args.table.sound.m_most, s.requires.lists_long.2), room a)
 
 pub returns : goal.returns
 returns c =
-    let a = c.before.before in let p = printed a in let s = start p in let direction = at s.args.directions.now in record {
+    let a = (goal.at.returns c).After-adjust_directions in let p = printed a in let s = start p in let direction = at s.args.directions.now in record {
       line = (λ listing f same. v_differs f (t p) refl refl direction (u p) (turned a ++ rest a) (within p) c.first_unlike.result (past p (own_k listing) same) (few p)
           (u_is p (own_k listing) same)
           (λ i l. get_or-append (turned a) (rest a) (pos 0) i (omega (arith, l, turned_long a))

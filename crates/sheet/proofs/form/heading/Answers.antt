@@ -9,20 +9,20 @@ use Rattle.sheet.proofs.form.heading.Goals as goal
 
 pub read-requires : goal.read-requires
 read-requires c =
-    (omega arith, omega (arith, begins_length adj_head c.args.listing.now (sym c.begins.ensures ∙ c.if-begins.true)), omega arith, omega (arith, c.requires))
+    (omega arith, omega (arith, begins_length adj_head c.args.listing.now (sym c.begins.ensures ∙ c.if-not-begins.false)), omega arith, omega (arith, c.requires))
 
-pub returns-then-begins : goal.returns-then-begins
-unfolding row_end
-returns-then-begins c =
-    let row = heading_row c.args.listing.now (sym c.begins.ensures ∙ c.if-begins.true) in record {
-      end = rw row c.read.ensures.end;
-      values = rw row c.read.ensures.values;
+pub returns-then-not-begins : goal.returns-then-not-begins
+unfolding end_of row_values
+returns-then-not-begins c =
+    let none = no_heading c.args.listing.now (sym c.begins.ensures ∙ c.if-not-begins.true) in record {
+      end = rw none;
+      values = rw none;
     }
 
 pub returns : goal.returns
-unfolding end_of row_values
+unfolding row_end
 returns c =
-    let none = no_heading c.args.listing.now (sym c.begins.ensures ∙ c.if-begins.false) in record {
-      end = rw none;
-      values = rw none;
+    let row = heading_row c.args.listing.now (sym c.begins.ensures ∙ c.if-not-begins.false) in record {
+      end = rw row c.read.ensures.end;
+      values = rw row c.read.ensures.values;
     }

@@ -2,16 +2,17 @@
 use mathlib.Core.Path.{◌≡◌, sym, ◌∙◌, ap, subst}
 use mathlib.Core.Bool.{false}
 use mathlib.Core.List.{List}
-use mathlib.Core.Option.{some}
-use Prim.Native.Nat.{ℕ, ◌+◌}
+use Rattle.std.specs.Prelude.{Some}
+use Prim.Native.Nat.{ℕ, ◌+◌, ◌<◌}
 use native.Mathlib.Omega.{arith}
+use borrow.Author.Rules.{rules}
 use lib.IntN.{ℤ, pos}
 use lib.ListN.{get_or, take}
 use lib.Seq.{get_or-take}
 use mir.Syntax.{w64}
-use mir.Val.{to_z, of_z}
+use mir.Val.{SFits, to_z, of_z}
 use Rattle.exact.specs.Outside.{outside}
-use Rattle.exact.proofs.Bound.{read_at}
+use Rattle.exact.proofs.Bound.{read}
 use Rattle.condition.specs.Sound.{Number}
 use Rattle.condition.proofs.Testing.{number_cast}
 use Rattle.text.specs.Parts.{place_from}
@@ -19,69 +20,69 @@ use Rattle.text.specs.Lines.{LF}
 use Rattle.text.proofs.Rowing.{told_some, told_none}
 use Rattle.sheet.specs.Form.{heading_of}
 use Rattle.sheet.proofs.Forming.{none_refused, first_refused, second_refused, directions_number, conditions_number, headed}
+use Rattle.sheet.proofs.form.read.Goals.{In-Some, Else-outside-2, then-outside-via-then-outside, then-outside-via-else-outside+then-outside-2}
 use Rattle.sheet.proofs.form.read.Goals as goal
-use Rattle.sheet.proofs.form.read.Goals.{After-heading-end, After-n-1, Else-outside-2}
 
 pub returns-in_default : goal.returns-in_default
-returns-in_default c =
-    let a = c.args in
-    none_refused a.listing.now (told_none _ _ (sym c.heading-end.ensures.end ∙ c.in_default.is))
+returns-in_default c = none_refused c.args.listing.now (told_none _ _ (sym c.heading.ensures.end ∙ c.in_default.is))
 
 -- ---- the two counts
-module _ (c : After-n-1) where
-  abbrev asked : After-heading-end
-  asked = (record { before = c.before.before.before.before.before; type_inv = record { listing = c.shared_slice_known-1.given } })
-
+module _ (c : In-Some) where
   abbrev listing : List ℕ
-  listing = asked.args.listing.now
+  listing = c.args.listing.now
 
   abbrev counts : List ℤ
-  counts = asked.heading-end.new.x
+  counts = c.heading.new.x
 
-  told : (heading_of listing ≡ some (take 2 counts)) × (c.in-Next.start ≡ place_from LF listing 4 + 1)
-  told = told_some _ _ _ _ (sym asked.heading-end.ensures.end ∙ c.in-Next.is) asked.heading-end.ensures.values
+  told : (heading_of listing ≡ Some (take 2 counts)) × (c.in-Some.start ≡ place_from LF listing 4 + 1)
+  told = told_some _ _ _ _ (sym c.heading.ensures.end ∙ c.in-Some.is) c.heading.ensures.values
 
-  m_is : to_z w64 (of_z w64 (get_or counts 0 (pos 0))) ≡ get_or (take 2 counts) 0 (pos 0)
-  m_is = read_at (get_or counts 0 (pos 0)) c.m-1.given ∙ sym (get_or-take 2 counts 0 (pos 0) (omega arith))
-
-  n_is : to_z w64 (of_z w64 (get_or counts 1 (pos 0))) ≡ get_or (take 2 counts) 1 (pos 0)
-  n_is = read_at (get_or counts 1 (pos 0)) c.n-1.given ∙ sym (get_or-take 2 counts 1 (pos 0) (omega arith))
+-- each is a number of the machine
+cut : (k : ℕ) (counts : List ℤ) → k < 2 → SFits w64 (get_or counts k (pos 0)) → to_z w64 (of_z w64 (get_or counts k (pos 0))) ≡ get_or (take 2 counts) k (pos 0)
+cut k counts l fit = read fit ∙ sym (get_or-take 2 counts k (pos 0) l)
 
 pub returns-then-outside : goal.returns-then-outside
 returns-then-outside c =
-    let k : After-n-1 = record { before = c.before.before.before; type_inv = record { listing = c.shared_slice_known-1.given } } in
-    first_refused (listing k) (take 2 (counts k)) (told k).0 (ap (outside (pos 1) (pos 64)) (sym (m_is k)) ∙ sym c.outside.ensures ∙ c.if-outside.true)
-
-pub returns-then-outside-2 : goal.returns-then-outside-2
-returns-then-outside-2 c =
-    let k : After-n-1 = record { before = c.before.before.before.before.before; type_inv = record { listing = c.shared_slice_known-1.given } } in
-    second_refused (listing k) (take 2 (counts k)) (told k).0 (ap (outside (pos 1) (pos 24)) (sym (n_is k)) ∙ sym c.outside-2.ensures ∙ c.if-outside-2.true)
+    let k = (goal.at.returns-then-outside c).In-Some in let xs = counts k in
+    let m_is : to_z w64 (of_z w64 (get_or xs 0 (pos 0))) ≡ get_or (take 2 xs) 0 (pos 0) = cut 0 xs (omega arith) (search rules) in
+    let n_is : to_z w64 (of_z w64 (get_or xs 1 (pos 0))) ≡ get_or (take 2 xs) 1 (pos 0) = cut 1 xs (omega arith) (search rules) in
+    elim c.then-outside.branch [
+      | then-outside-via-then-outside w ↦ first_refused (listing k) (take 2 xs) (told k).0 (ap (outside (pos 1) (pos 64)) (sym m_is) ∙ sym c.outside.ensures ∙ w.if-outside.true)
+      | then-outside-via-else-outside+then-outside-2 w ↦
+          second_refused (listing k) (take 2 xs) (told k).0 (ap (outside (pos 1) (pos 24)) (sym n_is) ∙ sym w.outside-else-outside.ensures ∙ w.if-outside-2.true)
+    ]
 
 -- ---- both are in range
 module _ (c : Else-outside-2) where
-  abbrev read : After-n-1
-  read = (record { before = c.before.before.before.before.before; type_inv = record { listing = c.shared_slice_known-1.given } })
+  abbrev counted : In-Some
+  counted = (goal.at.Else-outside-2 c).In-Some
 
-  few_directions : outside (pos 1) (pos 64) (get_or (take 2 (counts read)) 0 (pos 0)) ≡ false
-  few_directions = ap (outside (pos 1) (pos 64)) (sym (m_is read)) ∙ sym c.outside.ensures ∙ c.if-outside.false
+  m_is : to_z w64 (of_z w64 (get_or (counts counted) 0 (pos 0))) ≡ get_or (take 2 (counts counted)) 0 (pos 0)
+  m_is = cut 0 (counts counted) (omega arith) (search rules)
 
-  few_conditions : outside (pos 1) (pos 24) (get_or (take 2 (counts read)) 1 (pos 0)) ≡ false
-  few_conditions = ap (outside (pos 1) (pos 24)) (sym (n_is read)) ∙ sym c.outside-2.ensures ∙ c.if-outside-2.false
+  n_is : to_z w64 (of_z w64 (get_or (counts counted) 1 (pos 0))) ≡ get_or (take 2 (counts counted)) 1 (pos 0)
+  n_is = cut 1 (counts counted) (omega arith) (search rules)
+
+  few_directions : outside (pos 1) (pos 64) (get_or (take 2 (counts counted)) 0 (pos 0)) ≡ false
+  few_directions = ap (outside (pos 1) (pos 64)) (sym m_is) ∙ sym c.outside.ensures ∙ c.if-outside.false
+
+  few_conditions : outside (pos 1) (pos 24) (get_or (take 2 (counts counted)) 1 (pos 0)) ≡ false
+  few_conditions = ap (outside (pos 1) (pos 24)) (sym n_is) ∙ sym c.outside-else-outside.ensures ∙ c.if-outside-2.false
 
 pub overflow_cast-m : goal.overflow_cast-m
 overflow_cast-m c =
-    let k = read c in
+    let k = counted c in
     number_cast 64 (get_or (counts k) 0 (pos 0)) (subst (Number 64) (get_or-take 2 (counts k) 0 (pos 0) (omega arith)) (directions_number (listing k) (take 2 (counts k)) (told k).0 (few_directions c) (few_conditions c))) (omega arith)
 
 pub overflow_cast-n : goal.overflow_cast-n
 overflow_cast-n c =
-    let k = read c in
+    let k = counted c in
     number_cast 24 (get_or (counts k) 1 (pos 0)) (subst (Number 24) (get_or-take 2 (counts k) 1 (pos 0) (omega arith)) (conditions_number (listing k) (take 2 (counts k)) (told k).0 (few_directions c) (few_conditions c))) (omega arith)
 
 pub lines-requires : goal.lines-requires
 lines-requires c =
-    let e : Else-outside-2 = record { before = c.before.before; type_inv = record { listing = c.shared_slice_known-1.given } } in let k = read e in
+    let e = (goal.at.lines-requires c).Else-outside-2 in let k = counted e in
     record {
-      headed = rw (m_is k, n_is k) (headed (listing k) (take 2 (counts k)) (told k).0 (few_directions e) (few_conditions e) _ (told k).1);
-      x_len = (asked k).requires;
+      headed = rw (m_is e, n_is e) (headed (listing k) (take 2 (counts k)) (told k).0 (few_directions e) (few_conditions e) _ (told k).1);
+      x_len = c.requires;
     }
