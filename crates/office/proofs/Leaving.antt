@@ -22,10 +22,7 @@ use lib.IntN.{ℤ}
 use lib.ListN.{length}
 use Rattle.exact.specs.First.{first}
 use Rattle.reply.specs.declared.Refusal.{Refusal}
-use Rattle.reply.specs.declared.Reply.{Reply}
-use Rattle.reply.specs.declared.Reply.TheVariants.{Accepted, Refused}
-use Rattle.reply.specs.declared.Figure.{Figure}
-use Rattle.reply.specs.declared.Figure.TheVariants.{Value, Refused as NoFigure}
+use Rattle.reply.specs.Reply.{Reply, Figure}
 use Rattle.reply.specs.declared.Verdict.{Verdict}
 use Rattle.reply.specs.declared.Refusal.TheVariants.{Count, OutOfRange, Nets}
 use Rattle.reply.specs.Checks.{refuse_if, ◌and_then◌, leaves, figure_reply, figure_leaves}
@@ -48,12 +45,11 @@ use Rattle.totals.specs.Promise.{most_nets, sum_reply}
 use Rattle.season.specs.Season.{shares_of, season_reply, season_report}
 use Rattle.season.specs.Stream.{over, place_of, place_list, ended_totals, ended_place, lengths_amiss, total_amiss, line_amiss, place_reply, state_reply}
 use Rattle.season.specs.Promise.{report_reply, begin_reply, past_reply, end_reply}
+use Rattle.std.specs.Prelude.{Result, Ok, Err, Some, None, Option}
 use Rattle.sheet.specs.declared.Opinion.{Opinion}
-use Rattle.sheet.specs.declared.Opinion.TheVariants.{Yes, No, Refused as Unchecked}
+use Rattle.sheet.specs.declared.Opinion.TheVariants.{Yes, No}
 use Rattle.sheet.specs.Check.{opinion_of}
-use Rattle.sheet.specs.Promise.{opinion_reply, opinion_leaves}
-use Rattle.office.specs.declared.Heading.{Heading}
-use Rattle.office.specs.declared.Heading.TheVariants.{Named, Unknown}
+use Rattle.sheet.specs.Promise.{opinion_leaves}
 use Rattle.office.specs.Promises.{Means, SightingsRescued, Coefficients, Misclosed, Table, DirectionErrors, ToldBy, SightingBook, BookParted, File, SeasonReport, SeasonBegun, SeasonNext, SeasonEnded, ReportSum, SheetChecked}
 use Rattle.office.specs.Terms.{coefficients_reply_under, coefficients_list_under, misclosure_under}
 
@@ -62,11 +58,11 @@ Refuses v = v.number ≡ 0 → ⊥
 
 record Refusing (r : Reply) : Type 0 where
   pub why : Refusal
-  pub is : r ≡ Refused why
+  pub is : r ≡ Err why
 
 reply_refuses : {v : Verdict} (r : Reply) → v ≡ verdict_of r → Refuses v → Refusing r
-reply_refuses Accepted told refuses = absurd (refuses (ap (λ (v : Verdict). v.number) told))
-reply_refuses (Refused why) told refuses = record { why = why; is = refl }
+reply_refuses (Ok _) told refuses = absurd (refuses (ap (λ (v : Verdict). v.number) told))
+reply_refuses (Err why) told refuses = record { why = why; is = refl }
 
 pub means_left : (b : Book) (d p D P : List ℤ) (v : Verdict) → Means b d p v D P → Refuses v → (D ≡ d) × (P ≡ p)
 means_left b d p D P v m refuses =
@@ -84,19 +80,19 @@ pub errors_left : (us qs : List ℤ) (n : ℕ) (lent left : Errors) (v : Verdict
 errors_left us qs n lent left v d refuses =
     let r = reply_refuses (errors_reply us qs n) d.verdict refuses in errors-kept us qs n r.why left (subst (λ (x : Reply). TellsErrors us qs n lent x left) r.is d.numbers)
 
-pub coefficients_left : (h : Heading) (l : Kind → Lent) (before after : List ℤ) (v : Verdict) → Coefficients h l before v after → Refuses v → after ≡ before
+pub coefficients_left : (h : Option Kind) (l : Kind → Lent) (before after : List ℤ) (v : Verdict) → Coefficients h l before v after → Refuses v → after ≡ before
 coefficients_left h l before after v c refuses = c.list ∙ under h c.verdict
   where
-    under : (h : Heading) → v ≡ verdict_of (coefficients_reply_under h l (length before)) → coefficients_list_under h l before ≡ before
-    under (Named kind) told = let r = reply_refuses (coefficients_reply (l kind) (length before)) told refuses in kept (l kind) before r.why r.is
-    under Unknown told = refl
+    under : (h : Option Kind) → v ≡ verdict_of (coefficients_reply_under h l (length before)) → coefficients_list_under h l before ≡ before
+    under (Some kind) told = let r = reply_refuses (coefficients_reply (l kind) (length before)) told refuses in kept (l kind) before r.why r.is
+    under None told = refl
 
-pub misclosure_left : (h : Heading) (l : Kind → Lent) (before after : ℤ) (v : Verdict) → Misclosed h l before v after → Refuses v → after ≡ before
+pub misclosure_left : (h : Option Kind) (l : Kind → Lent) (before after : ℤ) (v : Verdict) → Misclosed h l before v after → Refuses v → after ≡ before
 misclosure_left h l before after v c refuses = c.number ∙ under (misclosure_under h l) c.verdict
   where
     under : (f : Figure) → v ≡ verdict_of (figure_reply f) → figure_leaves f before ≡ before
-    under (Value w) told = absurd (refuses (ap (λ (v : Verdict). v.number) told))
-    under (NoFigure why) told = refl
+    under (Ok w) told = absurd (refuses (ap (λ (v : Verdict). v.number) told))
+    under (Err why) told = refl
 
 told_left : (rule : Reply) (listing before after : List ℕ) (n m : ℕ) (v : Verdict) → ToldBy rule listing before n v after m → Refuses v → (after ≡ before) × (m ≡ n)
 told_left rule listing before after n m v t refuses =
@@ -128,10 +124,10 @@ sum_left first second lent left v s refuses =
 pub check_sheet_left : (net listing : List ℕ) (before after : ℕ) (v : Verdict) → SheetChecked net listing before v after → Refuses v → after ≡ before
 check_sheet_left net listing before after v c refuses = c.number ∙ under (opinion_of net listing) c.verdict
   where
-    under : (o : Opinion) → v ≡ verdict_of (opinion_reply o) → opinion_leaves o before ≡ before
-    under Yes told = absurd (refuses (ap (λ (v : Verdict). v.number) told))
-    under (No line) told = absurd (refuses (ap (λ (v : Verdict). v.number) told))
-    under (Unchecked why) told = refl
+    under : (o : Result Opinion Refusal) → v ≡ verdict_of (figure_reply o) → opinion_leaves o before ≡ before
+    under (Ok Yes) told = absurd (refuses (ap (λ (v : Verdict). v.number) told))
+    under (Ok (No line)) told = absurd (refuses (ap (λ (v : Verdict). v.number) told))
+    under (Err why) told = refl
 
 -- ---- 30, a net past 100,000, and no other number, comes with an answer
 abbrev pub Past : Verdict → Type 0
@@ -188,14 +184,14 @@ module _ (held totals place t p : List ℕ) (v : Verdict) (s : SeasonEnded held 
       (s.lists.totals_are ∙ by_state (state_reply held totals place) told_ended _ totals, s.lists.place_is ∙ by_state (state_reply held totals place) told_ended _ place)
     where
       by_state : (state : Reply) → ended state → (answer before : List ℕ) → leaves state answer before ≡ before
-      by_state Accepted told answer before = absurd (past_or_none (eqb (ended_place totals (place_of place)).past 1) told refuses other)
-      by_state (Refused why) told answer before = refl
+      by_state (Ok _) told answer before = absurd (past_or_none (eqb (ended_place totals (place_of place)).past 1) told refuses other)
+      by_state (Err why) told answer before = refl
 
   pub ended_past : Past v → (t ≡ ended_totals totals (place_of place)) × (p ≡ place_list (ended_place totals (place_of place)))
   ended_past past =
       let a = accepts_state (state_reply held totals place) told_ended (state_number held totals place) in
       (rw a at s.lists.totals_are, rw a at s.lists.place_is)
     where
-      accepts_state : (state : Reply) → ended state → (Past (verdict_of state) → ⊥) → state ≡ Accepted
-      accepts_state Accepted told never = refl
-      accepts_state (Refused why) told never = absurd (never (sym (ap (λ (v : Verdict). v.number) told) ∙ past))
+      accepts_state : (state : Reply) → ended state → (Past (verdict_of state) → ⊥) → state ≡ Ok tt
+      accepts_state (Ok _) told never = refl
+      accepts_state (Err why) told never = absurd (never (sym (ap (λ (v : Verdict). v.number) told) ∙ past))

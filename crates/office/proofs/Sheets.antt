@@ -5,8 +5,7 @@ use mathlib.Core.Path.{◌≡◌, refl, sym, ◌∙◌, ap}
 use mathlib.Core.List.{List}
 use Prim.Native.Nat.{ℕ, zero, suc}
 use native.Mathlib.Omega.{arith}
-use Rattle.reply.specs.declared.Reply.{Reply}
-use Rattle.reply.specs.declared.Reply.TheVariants.{Accepted, Refused}
+use Rattle.reply.specs.Reply.{Reply}
 use Rattle.reply.specs.declared.Verdict.{Verdict}
 use Rattle.reply.specs.Verdicts.{verdict_of}
 use Rattle.reply.proofs.Unique.{no_refusal_is_0}
@@ -15,16 +14,18 @@ use Rattle.text.specs.Lines.{lines_of}
 use Rattle.network.specs.Net.{net_of}
 use Rattle.listing.specs.File.{table_in}
 use Rattle.sheet.specs.declared.Opinion.TheVariants.{Yes}
-use Rattle.sheet.specs.Check.{disagreement, opinion_at, check_reply, opinion_if, opinion_of}
-use Rattle.sheet.specs.Promise.{opinion_reply, opinion_leaves, SheetDemand3, SheetWithinMinute}
+use Rattle.sheet.specs.Check.{disagreement, opinion_at, check_reply, opinion_of}
+use Rattle.sheet.specs.Promise.{opinion_leaves, SheetDemand3, SheetWithinMinute}
 use Rattle.office.specs.Promises.{SheetChecked}
+use Rattle.std.specs.Prelude.{Ok, Err}
+use Rattle.reply.specs.Checks.{figure_reply, figure_of}
 
-by_reply : (r : Reply) (line before : ℕ) → let o = opinion_if r (opinion_at line) in (verdict_of (opinion_reply o)).number ≡ 0 → opinion_leaves o before ≡ 0 → o ≡ Yes
-by_reply Accepted zero before accepted none = refl
-by_reply Accepted (suc line) before accepted none = absurd (omega (arith, none))
-by_reply (Refused why) line before accepted none = absurd (no_refusal_is_0 why accepted)
+by_reply : (r : Reply) (line before : ℕ) → let o = figure_of r (opinion_at line) in (verdict_of (figure_reply o)).number ≡ 0 → opinion_leaves o before ≡ 0 → o ≡ Ok Yes
+by_reply (Ok _) zero before accepted none = refl
+by_reply (Ok _) (suc line) before accepted none = absurd (omega (arith, none))
+by_reply (Err why) line before accepted none = absurd (no_refusal_is_0 why accepted)
 
-pub zeros_are_yes : (net listing : List ℕ) (before : ℕ) → (verdict_of (opinion_reply (opinion_of net listing))).number ≡ 0 → opinion_leaves (opinion_of net listing) before ≡ 0 → opinion_of net listing ≡ Yes
+pub zeros_are_yes : (net listing : List ℕ) (before : ℕ) → (verdict_of (figure_reply (opinion_of net listing))).number ≡ 0 → opinion_leaves (opinion_of net listing) before ≡ 0 → opinion_of net listing ≡ Ok Yes
 unfolding opinion_of
 zeros_are_yes net listing before accepted none =
     let given = net_of (lines_of net) in by_reply (check_reply net listing) (disagreement (table_in given) (at given.directions) listing) before accepted none

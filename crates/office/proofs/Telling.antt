@@ -2,7 +2,6 @@
 --   means_told           of station means
 --   table_told           of the adjustment of a table
 --   errors_told          of the mean and the probable error of lent lists
---   number_told          a number that the library answers, 0 where it refuses, as a lent number tells it
 --   listed_told          of any file that has been listed, and the length that was lent
 --   book_told, part_told, file_told      of a sighting book, of a part of a spoiled one, and of a network file
 --   rescue_told          of a spoiled list of sightings
@@ -14,19 +13,16 @@ use mathlib.Core.List.{List}
 use Prim.Native.Nat.{ℕ}
 use lib.IntN.{ℤ}
 use lib.ListN.{length}
-use lib.Seq.{sets}
-use Rattle.reply.specs.declared.Reply.{Reply}
-use Rattle.reply.specs.declared.Reply.TheVariants.{Accepted, Refused}
+use Rattle.reply.specs.Reply.{Reply}
 use Rattle.reply.specs.declared.Verdict.{Verdict}
-use Rattle.reply.specs.Checks.{leaves}
+use Rattle.reply.specs.Checks.{leaves, figure_reply, figure_leaves}
 use Rattle.reply.specs.Verdicts.{verdict_of}
 use Rattle.station.specs.declared.Rescued.{Rescued}
 use Rattle.station.specs.Sightings.{Book, sightings}
 use Rattle.station.specs.Replies.{Answers}
-use Rattle.station.specs.Rescue.{Lent as Places, kept, ordinals, filled, Rescues}
+use Rattle.station.specs.Rescue.{Lent as Places, kept, ordinals, rooms, rescue_reply, Rescues}
 use Rattle.adjustment.specs.Promise.{Answers as Lists, Adjusts}
-use Rattle.page.specs.declared.Listed.{Listed}
-use Rattle.page.specs.Page.{ListedBy}
+use Rattle.page.specs.Page.{Listed, ListedBy}
 use Rattle.precision.specs.declared.Errors.{Errors}
 use Rattle.precision.specs.Promise.{TellsErrors}
 use Rattle.listing.specs.declared.Sheet.{Sheet}
@@ -36,8 +32,11 @@ use Rattle.book.specs.declared.parts.Part.{Part}
 use Rattle.book.specs.Rescue.{RescuedOf}
 use Rattle.totals.specs.Promise.{Adds}
 use Rattle.season.specs.Promise.{Reports, Begins, Feeds, Ends}
+use Rattle.reply.specs.declared.Refusal.{Refusal}
+use Rattle.std.specs.Prelude.{Result, Ok, Err, IsOk}
 use Rattle.sheet.specs.declared.Opinion.{Opinion}
-use Rattle.sheet.specs.Promise.{opinion_reply, opinion_leaves, Checks}
+use Rattle.sheet.specs.Promise.{opinion_leaves, Checks}
+use Rattle.reply.proofs.Checking.{figure_replied, figure_left, figure_ok}
 use Rattle.office.specs.Promises.{Means, SightingsRescued, Table, DirectionErrors, ToldBy, SightingBook, BookParted, File, SeasonReport, SeasonBegun, SeasonNext, SeasonEnded, ReportSum, SheetChecked}
 
 module _ (v : Verdict) (r : Reply) (told : v ≡ verdict_of r) where
@@ -73,46 +72,58 @@ module _ (v : Verdict) (r : Reply) (told : v ≡ verdict_of r) where
   sum_told first second lent left a =
       record { verdict = told ∙ ap verdict_of a.answer; list = subst (λ (r : Reply). Adds first second lent r left) a.answer a }
 
-number_told : (r : Reply) {answered : ℕ} (right before : ℕ) → answered ≡ leaves r right 0 → leaves r answered before ≡ leaves r right before
-number_told Accepted right before e = e
-number_told (Refused why) right before e = refl
+-- where the rule accepts a file, the library gives its length
+accepted : {listed : Listed} {before after : List ℕ} {rule : Reply} {listing : List ℕ} → ListedBy rule listing before listed after → rule ≡ Ok tt → IsOk listed
+accepted {rule = rule} {listing} a e = subst (λ (l : Listed). IsOk l) (sym a.answer) (figure_ok rule (length listing) e)
 
-module _ {v : Verdict} {listed : Listed} {before after : List ℕ} {n m : ℕ} (told : v ≡ verdict_of listed.reply) (left : m ≡ leaves listed.reply listed.length n) where
+module _ {v : Verdict} {listed : Listed} {before after : List ℕ} {n m : ℕ} (told : v ≡ verdict_of (figure_reply listed)) (left : m ≡ figure_leaves listed n) where
   listed_told : {rule : Reply} {listing : List ℕ} → ListedBy rule listing before listed after → ToldBy rule listing before n v after m
-  listed_told {rule} {listing} a =
-      let e = a.answer in record {
-        verdict = told ∙ ap verdict_of e;
-        buffer = a.buffer ∙ ap (λ (r : Reply). leaves r (sets before 0 listing) before) e;
-        number = left ∙ number_told listed.reply (length listing) n a.length_is ∙ ap (λ (r : Reply). leaves r (length listing) n) e;
-      }
+  listed_told {rule} {listing} a = record {
+    verdict = told ∙ ap (λ (l : Listed). verdict_of (figure_reply l)) a.answer ∙ ap verdict_of (figure_replied rule (length listing));
+    buffer = a.buffer;
+    number = left ∙ ap (λ (l : Listed). figure_leaves l n) a.answer ∙ figure_left rule (length listing) n;
+  }
 
   pub book_told : (file : List ℕ) → MeansOf file before listed after → SightingBook file before n v after m
-  book_told file a = record { told = listed_told a.lists; joined = λ f. a.joined (a.lists.answer ∙ f) }
+  book_told file a = record { told = listed_told a.lists; joined = λ f. a.joined (accepted a.lists f) }
 
   pub part_told : (part : Part) (file : List ℕ) → RescuedOf part file before listed after → BookParted part file before n v after m
   part_told part file a = record { told = listed_told a.lists }
 
   pub file_told : (sheet : Sheet) (file : List ℕ) → AdjustsFile sheet file before listed after → File sheet file before n v after m
-  file_told sheet file a =
-      let e = a.lists.answer in
-      record { told = listed_told a.lists; demand3 = λ f. a.demand3 (e ∙ f); within_minute = λ f. a.within_minute (e ∙ f); mean_error = λ f. a.mean_error (e ∙ f) }
+  file_told sheet file a = record {
+    told = listed_told a.lists;
+    demand3 = λ f. a.demand3 (accepted a.lists f);
+    within_minute = λ f. a.within_minute (accepted a.lists f);
+    mean_error = λ f. a.mean_error (accepted a.lists f);
+  }
 
-pub rescue_told : {b : Book} {before after : Places} {rescued : Rescued} {v : Verdict} {k d m n : ℕ} → v ≡ verdict_of rescued.reply
-    → (m ≡ leaves rescued.reply rescued.kept k) × (n ≡ leaves rescued.reply rescued.dropped d) → Rescues b before rescued after
-    → SightingsRescued b before k d v after m n
+-- the counts of a list that has been rescued, 0 and 0 kept and dropped before
+abbrev counts : ℕ → ℕ → Rescued
+counts kept dropped = record { kept = kept; dropped = dropped }
+
+pub rescue_told : {b : Book} {before after : Places} {rescued : Result Rescued Refusal} {v : Verdict} {k d m n : ℕ} → v ≡ verdict_of (figure_reply rescued)
+    → counts m n ≡ figure_leaves rescued (counts k d) → Rescues b before rescued after → SightingsRescued b before k d v after m n
 rescue_told {b} {before} {rescued = rescued} {k = k} {d = d} told numbers a =
-    let e = a.replied in record {
-      verdict = told ∙ ap verdict_of e;
-      lists_are = a.lists_are ∙ ap (λ (r : Reply). leaves r (filled b before) before) e;
-      kept_are = numbers.0 ∙ number_told rescued.reply (sightings (kept b)) k a.kept_are ∙ ap (λ (r : Reply). leaves r (sightings (kept b)) k) e;
-      dropped_are = numbers.1 ∙ number_told rescued.reply (length (ordinals b)) d a.dropped_are ∙ ap (λ (r : Reply). leaves r (length (ordinals b)) d) e;
+    let rule = rescue_reply b (rooms b before) in
+    let given = counts (sightings (kept b)) (length (ordinals b)) in
+    let left = numbers ∙ ap (λ (r : Result Rescued Refusal). figure_leaves r (counts k d)) a.answer ∙ figure_left rule given (counts k d) in
+    record {
+      verdict = told ∙ a.verdict;
+      lists_are = a.lists_are;
+      kept_are = ap (λ (c : Rescued). c.kept) left ∙ count_left rule (λ (c : Rescued). c.kept) given (counts k d);
+      dropped_are = ap (λ (c : Rescued). c.dropped) left ∙ count_left rule (λ (c : Rescued). c.dropped) given (counts k d);
     }
+  where
+    count_left : (r : Reply) (count : Rescued → ℕ) (given before : Rescued) → count (leaves r given before) ≡ leaves r (count given) (count before)
+    count_left (Ok _) count given before = refl
+    count_left (Err why) count given before = refl
 
-pub sheet_told : {net listing : List ℕ} {o answer : Opinion} {before after : ℕ} {v : Verdict} → o ≡ answer → v ≡ verdict_of (opinion_reply answer)
+pub sheet_told : {net listing : List ℕ} {o answer : Result Opinion Refusal} {before after : ℕ} {v : Verdict} → o ≡ answer → v ≡ verdict_of (figure_reply answer)
     → after ≡ opinion_leaves answer before → Checks net listing o → SheetChecked net listing before v after
 sheet_told {net} {listing} {before = before} e told left a =
     let f = sym e ∙ a.answer in record {
-      verdict = told ∙ ap (λ (o : Opinion). verdict_of (opinion_reply o)) f;
-      number = left ∙ ap (λ (o : Opinion). opinion_leaves o before) f;
-      sheet = subst (λ (o : Opinion). Checks net listing o) a.answer a;
+      verdict = told ∙ ap (λ (o : Result Opinion Refusal). verdict_of (figure_reply o)) f;
+      number = left ∙ ap (λ (o : Result Opinion Refusal). opinion_leaves o before) f;
+      sheet = subst (λ (o : Result Opinion Refusal). Checks net listing o) a.answer a;
     }

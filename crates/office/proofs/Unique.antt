@@ -12,7 +12,7 @@ use Prim.Native.Nat.{ℕ}
 use lib.IntN.{ℤ}
 use lib.ListN.{length}
 use Rattle.exact.proofs.Unique.{only}
-use Rattle.reply.specs.declared.Reply.{Reply}
+use Rattle.reply.specs.Reply.{Reply}
 use Rattle.reply.specs.declared.Verdict.{Verdict}
 use Rattle.station.specs.Sightings.{Book}
 use Rattle.station.specs.Rescue.{Lent as Places}
@@ -28,9 +28,9 @@ use Rattle.listing.specs.declared.Sheet.{Sheet}
 use Rattle.book.specs.declared.parts.Part.{Part}
 use Rattle.totals.proofs.Promising.{one_sum}
 use Rattle.season.proofs.Unique.{one_report, one_begin, one_next, one_end}
-use Rattle.office.specs.declared.Heading.{Heading}
 use Rattle.office.specs.Promises.{Means, SightingsRescued, Coefficients, Misclosed, Table, DirectionErrors, ToldBy, SightingBook, BookParted, File, SeasonReport, SeasonBegun, SeasonNext, SeasonEnded, ReportSum, SheetChecked}
 use Rattle.office.specs.Statuses.{status_number}
+use Rattle.std.specs.Prelude.{Option}
 
 pub one_means : (b : Book) (d p : List ℤ) (v v' : Verdict) (D D' P P' : List ℤ) → Means b d p v D P → Means b d p v' D' P' → (v ≡ v') × ((D ≡ D') × (P ≡ P'))
 one_means b d p v v' D D' P P' x y = (only x.verdict y.verdict, (same_answers b d p _ _ D D' P P' x.lists y.lists).1)
@@ -45,10 +45,10 @@ one_table ds qs cs ws lent left left' v v' x y = (only x.verdict y.verdict, (onl
 pub one_errors : (us qs : List ℤ) (n : ℕ) (lent left left' : Errors) (v v' : Verdict) → DirectionErrors us qs n lent v left → DirectionErrors us qs n lent v' left' → (v ≡ v') × (left ≡ left')
 one_errors us qs n lent left left' v v' x y = (only x.verdict y.verdict, (only_answer us qs n _ _ left left' x.numbers y.numbers).1)
 
-pub one_coefficients : (h : Heading) (l : Kind → Lent) (before : List ℤ) (v v' : Verdict) (a a' : List ℤ) → Coefficients h l before v a → Coefficients h l before v' a' → (v ≡ v') × (a ≡ a')
+pub one_coefficients : (h : Option Kind) (l : Kind → Lent) (before : List ℤ) (v v' : Verdict) (a a' : List ℤ) → Coefficients h l before v a → Coefficients h l before v' a' → (v ≡ v') × (a ≡ a')
 one_coefficients h l before v v' a a' x y = (only x.verdict y.verdict, only x.list y.list)
 
-pub one_misclosure : (h : Heading) (l : Kind → Lent) (before : ℤ) (v v' : Verdict) (w w' : ℤ) → Misclosed h l before v w → Misclosed h l before v' w' → (v ≡ v') × (w ≡ w')
+pub one_misclosure : (h : Option Kind) (l : Kind → Lent) (before : ℤ) (v v' : Verdict) (w w' : ℤ) → Misclosed h l before v w → Misclosed h l before v' w' → (v ≡ v') × (w ≡ w')
 one_misclosure h l before v v' w w' x y = (only x.verdict y.verdict, only x.number y.number)
 
 pub one_length : (file : List ℕ) (start n n' : ℕ) → n ≡ length (line_at file start) → n' ≡ length (line_at file start) → n ≡ n'

@@ -1,9 +1,8 @@
 -- The library's promises as C is told them: the verdict is that on the rules' reply, and with that reply what was lent keeps the library's own promise.
 -- Where one number is lent for an answer, a refusal leaves it as it was, like any lent list.
-use Rattle.std.specs.Prelude.{◌≡◌, List, ℕ, ℤ, length}
+use Rattle.std.specs.Prelude.{◌≡◌, List, ℕ, ℤ, length, Ok, Option}
 use Rattle.std.proofs.lemmas.List.Edits.{sets}
-use Rattle.reply.specs.declared.Reply.{Reply}
-use Rattle.reply.specs.declared.Reply.TheVariants.{Accepted}
+use Rattle.reply.specs.Reply.{Reply}
 use Rattle.reply.specs.declared.Verdict.{Verdict}
 use Rattle.reply.specs.Checks.{leaves, figure_reply, figure_leaves}
 use Rattle.reply.specs.Verdicts.{verdict_of}
@@ -26,8 +25,7 @@ use Rattle.totals.specs.Promise.{sum_reply, Adds}
 use Rattle.season.specs.Stream.{state_reply}
 use Rattle.season.specs.Promise.{report_reply, Reports, begin_reply, Begins, Feeds, end_reply, Ends}
 use Rattle.sheet.specs.Check.{opinion_of}
-use Rattle.sheet.specs.Promise.{opinion_reply, opinion_leaves, Checks}
-use Rattle.office.specs.declared.Heading.{Heading}
+use Rattle.sheet.specs.Promise.{opinion_leaves, Checks}
 use Rattle.office.specs.Terms.{coefficients_reply_under, coefficients_list_under, misclosure_under}
 
 pub record Means (b : Book) (d p : List ℤ) (v : Verdict) (directionsNow pairsNow : List ℤ) : Type 0 where
@@ -41,11 +39,11 @@ pub record SightingsRescued (b : Book) (before : Places) (keptBefore droppedBefo
   pub kept_are : keptAfter ≡ leaves (rescue_reply b (rooms b before)) (sightings (kept b)) keptBefore
   pub dropped_are : droppedAfter ≡ leaves (rescue_reply b (rooms b before)) (length (ordinals b)) droppedBefore
 
-pub record Coefficients (h : Heading) (l : Kind → Lent) (before : List ℤ) (v : Verdict) (after : List ℤ) : Type 0 where
+pub record Coefficients (h : Option Kind) (l : Kind → Lent) (before : List ℤ) (v : Verdict) (after : List ℤ) : Type 0 where
   pub verdict : v ≡ verdict_of (coefficients_reply_under h l (length before))
   pub list : after ≡ coefficients_list_under h l before
 
-pub record Misclosed (h : Heading) (l : Kind → Lent) (before : ℤ) (v : Verdict) (after : ℤ) : Type 0 where
+pub record Misclosed (h : Option Kind) (l : Kind → Lent) (before : ℤ) (v : Verdict) (after : ℤ) : Type 0 where
   pub verdict : v ≡ verdict_of (figure_reply (misclosure_under h l))
   pub number : after ≡ figure_leaves (misclosure_under h l) before
 
@@ -65,7 +63,7 @@ pub record ToldBy (rule : Reply) (listing before : List ℕ) (lengthBefore : ℕ
 
 pub record SightingBook (file before : List ℕ) (lengthBefore : ℕ) (v : Verdict) (after : List ℕ) (lengthAfter : ℕ) : Type 0 where
   pub told : ToldBy (means_reply file (length before)) (book_listing file) before lengthBefore v after lengthAfter
-  pub joined : means_reply file (length before) ≡ Accepted → JoinedRightly (book_of file)
+  pub joined : means_reply file (length before) ≡ Ok tt → JoinedRightly (book_of file)
 
 -- one part of a spoiled book: the kept lines, or a line for each sighting that is dropped
 pub record BookParted (part : Part) (file before : List ℕ) (lengthBefore : ℕ) (v : Verdict) (after : List ℕ) (lengthAfter : ℕ) : Type 0 where
@@ -73,9 +71,9 @@ pub record BookParted (part : Part) (file before : List ℕ) (lengthBefore : ℕ
 
 pub record File (sheet : Sheet) (file before : List ℕ) (lengthBefore : ℕ) (v : Verdict) (after : List ℕ) (lengthAfter : ℕ) : Type 0 where
   pub told : ToldBy (adjust_file_reply sheet file (length before)) (file_listing sheet file) before lengthBefore v after lengthAfter
-  pub demand3 : adjust_file_reply sheet file (length before) ≡ Accepted → FileDemand3 file
-  pub within_minute : adjust_file_reply sheet file (length before) ≡ Accepted → FileWithinMinute file
-  pub mean_error : adjust_file_reply sheet file (length before) ≡ Accepted → FileMeanError file
+  pub demand3 : adjust_file_reply sheet file (length before) ≡ Ok tt → FileDemand3 file
+  pub within_minute : adjust_file_reply sheet file (length before) ≡ Ok tt → FileWithinMinute file
+  pub mean_error : adjust_file_reply sheet file (length before) ≡ Ok tt → FileMeanError file
 
 -- ---- of a season's archive: whole, and in parts. 30 alone, of these promises, comes with an answer: the totals of the nets before
 pub record SeasonReport (archive lent : List ℕ) (v : Verdict) (left : List ℕ) : Type 0 where
@@ -101,6 +99,6 @@ pub record ReportSum (first second lent : List ℕ) (v : Verdict) (left : List �
 
 -- ---- of another office's sheet: with the rules' opinion the library's own promise, demand 3 of a yes with it
 pub record SheetChecked (net listing : List ℕ) (before : ℕ) (v : Verdict) (after : ℕ) : Type 0 where
-  pub verdict : v ≡ verdict_of (opinion_reply (opinion_of net listing))
+  pub verdict : v ≡ verdict_of (figure_reply (opinion_of net listing))
   pub number : after ≡ opinion_leaves (opinion_of net listing) before
   pub sheet : Checks net listing (opinion_of net listing)

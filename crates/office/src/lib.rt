@@ -3,7 +3,7 @@
 #![tactic(auto)]
 
 ghost use Rattle.std.specs.Prelude.{◌≡◌, ◌≤◌, length, take, drop};
-ghost use Rattle.reply.specs.Checks.{leaves};
+ghost use Rattle.reply.specs.Checks.{figure_reply, figure_leaves};
 ghost use Rattle.reply.specs.Verdicts.{verdict_of};
 ghost use Rattle.station.specs.Sightings.{book};
 ghost use Rattle.station.specs.Rescue.{lent};
@@ -23,58 +23,34 @@ ghost use Rattle.office.specs.Statuses.{status_number};
 use book::parts::Part;
 use condition::Kind;
 use listing::Sheet;
-use page::Listed;
-use reply::{Figure, Refusal, Reply, Verdict};
+use reply::{Refusal, Verdict};
 use sheet::Opinion;
 use station::Rescued;
 use text::line::LineStatus;
 
-// The kind of condition that a letter names.
-#[derive(Clone, Copy)]
-enum Heading {
-    Named(Kind),
-    Unknown,
-}
-
-// A is an angle condition, S a side condition.
-fn kind_named(letter: u8) -> Heading
+// The kind of condition that a letter names: A is an angle condition, S a side condition.
+fn kind_named(letter: u8) -> Option<Kind>
     ensures { result ≡ heading_of letter }
 {
-    if letter == b'A' {
-        Heading::Named(Kind::Angle)
-    } else if letter == b'S' {
-        Heading::Named(Kind::Side)
-    } else {
-        Heading::Unknown
+    match letter {
+        b'A' => Some(Kind::Angle),
+        b'S' => Some(Kind::Side),
+        _ => None,
     }
 }
 
-// What C is told of a file that has been listed. The listing's length goes into the lent number where the file was accepted.
-fn tell_listed(listed: Listed, length: &mut usize) -> Verdict
-    ensures verdict { result ≡ verdict_of listed.reply }
-    ensures number { length.new ≡ leaves listed.reply listed.length length.old }
+// What C is told of an answer that gives something, as the length of a listing: that goes into the lent place, and a refusal leaves what stood there.
+fn tell_given<T: Copy>(given: Result<T, Refusal>, place: &mut T) -> Verdict
+    ensures verdict { result ≡ verdict_of (figure_reply given) }
+    ensures left { place.new ≡ figure_leaves given place.old }
 {
-    let reply = listed.reply;
-    if let Reply::Refused(why) = reply {
-        return reply::refuse(why);
+    match given {
+        Ok(value) => {
+            *place = value;
+            Verdict::from(Ok(()))
+        }
+        Err(why) => Verdict::from(why),
     }
-    *length = listed.length;
-    reply::tell(Reply::Accepted)
-}
-
-// What C is told of a list that has been rescued. How many sightings are kept and dropped goes into the lent numbers where the list was accepted.
-fn tell_rescued(rescued: Rescued, kept: &mut usize, dropped: &mut usize) -> Verdict
-    ensures verdict { result ≡ verdict_of rescued.reply }
-    ensures numbers { (kept.new ≡ leaves rescued.reply rescued.kept kept.old)
-        × (dropped.new ≡ leaves rescued.reply rescued.dropped dropped.old) }
-{
-    let reply = rescued.reply;
-    if let Reply::Refused(why) = reply {
-        return reply::refuse(why);
-    }
-    *kept = rescued.kept;
-    *dropped = rescued.dropped;
-    reply::tell(Reply::Accepted)
 }
 
 // Station means: the direction and the number of pairs of each object, into two lent lists of 16.
@@ -89,16 +65,14 @@ pub fn molsadriu_station_means(
     ensures { Means (book position.now object.now face.now reading.now)
         direction.old pairs.old result direction.new pairs.new }
 {
-    let reply = station::means(position, object, face, reading, direction, pairs);
-    reply::tell(reply)
+    Verdict::from(station::means(position, object, face, reading, direction, pairs))
 }
 
 // Station means of a sighting book: the listing of an accepted one, into a lent buffer of at least 1,136 bytes, and its length, into one lent number.
 pub fn molsadriu_station_book(file: &[u8], out: &mut [u8], length: &mut usize) -> Verdict
     ensures { SightingBook file.now out.old length.old result out.new length.new }
 {
-    let listed = book::means(file, out);
-    tell_listed(listed, length)
+    tell_given(book::means(file, out), length)
 }
 
 // The rescue of a spoiled list of sightings: the kept ones, into the first places of four lent lists, and for each dropped one its ordinal and its reason,
@@ -135,15 +109,21 @@ pub fn molsadriu_rescue_sightings(
         ordinals,
         reasons,
     );
-    tell_rescued(rescued, kept, dropped)
+    let mut counts = Rescued {
+        kept: *kept,
+        dropped: *dropped,
+    };
+    let told = tell_given(rescued, &mut counts);
+    *kept = counts.kept;
+    *dropped = counts.dropped;
+    told
 }
 
 // The kept lines of a spoiled sighting book, which are a book again, into a lent buffer of at least 10,752 bytes, and their length, into one lent number.
 pub fn molsadriu_rescue_book(file: &[u8], out: &mut [u8], length: &mut usize) -> Verdict
     ensures { BookParted Kept file.now out.old length.old result out.new length.new }
 {
-    let listed = book::rescue(Part::Kept, file, out);
-    tell_listed(listed, length)
+    tell_given(book::rescue(Part::Kept, file, out), length)
 }
 
 // A line for each sighting of a spoiled book that is dropped, its ordinal and its reason, into a lent buffer of at least 4,096 bytes, and their length, into
@@ -151,8 +131,7 @@ pub fn molsadriu_rescue_book(file: &[u8], out: &mut [u8], length: &mut usize) ->
 pub fn molsadriu_dropped_book(file: &[u8], out: &mut [u8], length: &mut usize) -> Verdict
     ensures { BookParted Dropped file.now out.old length.old result out.new length.new }
 {
-    let listed = book::rescue(Part::Dropped, file, out);
-    tell_listed(listed, length)
+    tell_given(book::rescue(Part::Dropped, file, out), length)
 }
 
 // The coefficients of one condition, into a lent list of as many numbers as there are directions.
@@ -173,12 +152,10 @@ pub fn molsadriu_coefficients(
         kinds.now values.now d.now i.now k.now)
         a.old result a.new }
 {
-    let heading = kind_named(letter);
-    let Heading::Named(kind) = heading else {
-        return reply::refuse(Refusal::Malformed(0));
+    let Some(kind) = kind_named(letter) else {
+        return Verdict::from(Refusal::Malformed(0));
     };
-    let reply = condition::coefficients(directions, q, kind, target, kinds, values, d, i, k, a);
-    reply::tell(reply)
+    Verdict::from(condition::coefficients(directions, q, kind, target, kinds, values, d, i, k, a))
 }
 
 // The misclosure of the same condition, into one lent number.
@@ -199,18 +176,13 @@ pub fn molsadriu_misclosure(
         kinds.now values.now d.now i.now k.now)
         w.old result w.new }
 {
-    let heading = kind_named(letter);
-    let Heading::Named(kind) = heading else {
-        return reply::refuse(Refusal::Malformed(0));
+    let Some(kind) = kind_named(letter) else {
+        return Verdict::from(Refusal::Malformed(0));
     };
-    let figure = condition::misclosure(directions, q, kind, target, kinds, values, d, i, k);
-    match figure {
-        Figure::Value(value) => {
-            *w = value;
-            reply::tell(Reply::Accepted)
-        }
-        Figure::Refused(why) => reply::refuse(why),
-    }
+    tell_given(
+        condition::misclosure(directions, q, kind, target, kinds, values, d, i, k),
+        w,
+    )
 }
 
 // Adjusts a lent condition table: V, u, adjusted directions, K, R and Q into six lent lists.
@@ -231,7 +203,7 @@ pub fn molsadriu_adjust_table(
         result
         (lists corrections.new printed.new adjusted.new correlates.new remainders.new misses.new) }
 {
-    let reply = adjustment::adjust(
+    Verdict::from(adjustment::adjust(
         directions,
         q,
         a,
@@ -242,8 +214,7 @@ pub fn molsadriu_adjust_table(
         correlates,
         remainders,
         misses,
-    );
-    reply::tell(reply)
+    ))
 }
 
 // The mean and the probable error of a direction, of lent printed corrections, their q and the number of conditions, into two lent numbers.
@@ -257,24 +228,21 @@ pub fn molsadriu_probable_error(
     ensures { DirectionErrors u.now q.now n
         (errors mean.old probable.old) result (errors mean.new probable.new) }
 {
-    let reply = precision::probable_error(u, q, n, mean, probable);
-    reply::tell(reply)
+    Verdict::from(precision::probable_error(u, q, n, mean, probable))
 }
 
 // Adjusts a network file: the listing of an accepted one, into a lent buffer of at least 6,560 bytes, and its length, into one lent number.
 pub fn molsadriu_adjust_file(file: &[u8], out: &mut [u8], length: &mut usize) -> Verdict
     ensures { File Plain file.now out.old length.old result out.new length.new }
 {
-    let listed = listing::adjust(Sheet::Plain, file, out);
-    tell_listed(listed, length)
+    tell_given(listing::adjust(Sheet::Plain, file, out), length)
 }
 
 // The same with an E line at the end of the listing, the mean and the probable error of a direction, into a lent buffer of at least 6,606 bytes.
 pub fn molsadriu_probable_file(file: &[u8], out: &mut [u8], length: &mut usize) -> Verdict
     ensures { File WithErrors file.now out.old length.old result out.new length.new }
 {
-    let listed = listing::adjust(Sheet::WithErrors, file, out);
-    tell_listed(listed, length)
+    tell_given(listing::adjust(Sheet::WithErrors, file, out), length)
 }
 
 // The REFUSED line of a refusal's number and place, into a lent buffer of at least 52 bytes, and how many bytes it has.
@@ -319,16 +287,14 @@ pub fn molsadriu_line_status(file: &[u8], start: usize) -> u64
 pub fn molsadriu_report(archive: &[u8], totals: &mut [u64]) -> Verdict
     ensures { SeasonReport archive.now totals.old result totals.new }
 {
-    let reply = season::report(archive, totals);
-    reply::tell(reply)
+    Verdict::from(season::report(archive, totals))
 }
 
 // Begins a report whose archive comes in parts. Its state stands in three lent lists: the open net's bytes, the totals so far and the place.
 pub fn molsadriu_season_begin(held: &[u8], totals: &mut [u64], place: &mut [u64]) -> Verdict
     ensures { SeasonBegun held.now totals.old place.old result totals.new place.new }
 {
-    let reply = season::stream::begin(held, totals, place);
-    reply::tell(reply)
+    Verdict::from(season::stream::begin(held, totals, place))
 }
 
 // The next bytes of the archive, however many.
@@ -341,40 +307,36 @@ pub fn molsadriu_season_next(
     ensures { SeasonNext bytes.now held.old totals.old place.old result
         held.new totals.new place.new }
 {
-    let reply = season::stream::next(bytes, held, totals, place);
-    reply::tell(reply)
+    Verdict::from(season::stream::next(bytes, held, totals, place))
 }
 
 // Ends it: the totals are then the report, also under 30.
 pub fn molsadriu_season_end(held: &[u8], totals: &mut [u64], place: &mut [u64]) -> Verdict
     ensures { SeasonEnded held.now totals.old place.old result totals.new place.new }
 {
-    let reply = season::stream::end(held, totals, place);
-    reply::tell(reply)
+    Verdict::from(season::stream::end(held, totals, place))
 }
 
 // The sum of two reports, into a third lent list, which every refusal leaves as it was.
 pub fn molsadriu_add_reports(first: &[u64], second: &[u64], sum: &mut [u64]) -> Verdict
     ensures { ReportSum first.now second.now sum.old result sum.new }
 {
-    let reply = totals::add_reports(first, second, sum);
-    reply::tell(reply)
+    Verdict::from(totals::add_reports(first, second, sum))
 }
 
 // Whether another office's listing agrees with a network file, into one lent number: 0 where it does, else the line of the first test that fails.
 pub fn molsadriu_check_sheet(net: &[u8], listing: &[u8], line: &mut u64) -> Verdict
     ensures { SheetChecked net.now listing.now line.old result line.new }
 {
-    let opinion = sheet::check(net, listing);
-    match opinion {
-        Opinion::Yes => {
+    match sheet::check(net, listing) {
+        Ok(Opinion::Yes) => {
             *line = 0;
-            reply::tell(Reply::Accepted)
+            Verdict::from(Ok(()))
         }
-        Opinion::No(first) => {
+        Ok(Opinion::No(first)) => {
             *line = first;
-            reply::tell(Reply::Accepted)
+            Verdict::from(Ok(()))
         }
-        Opinion::Refused(why) => reply::refuse(why),
+        Err(why) => Verdict::from(why),
     }
 }

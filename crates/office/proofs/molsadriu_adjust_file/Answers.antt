@@ -3,4 +3,4 @@ use Rattle.office.proofs.Telling.{file_told}
 use Rattle.office.proofs.molsadriu_adjust_file.Goals as goal
 
 pub returns : goal.returns
-returns c = file_told c.tell_listed.ensures.verdict c.tell_listed.ensures.number _ _ c.adjust-listed.ensures
+returns c = file_told c.tell_given.ensures.verdict c.tell_given.ensures.left _ _ c.adjust.ensures

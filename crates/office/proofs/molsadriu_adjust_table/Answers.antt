@@ -3,4 +3,4 @@ use Rattle.office.proofs.Telling.{table_told}
 use Rattle.office.proofs.molsadriu_adjust_table.Goals as goal
 
 pub returns : goal.returns
-returns c = table_told _ _ c.tell.ensures _ _ _ _ _ _ c.adjust-reply.ensures
+returns c = table_told _ _ c.from.ensures _ _ _ _ _ _ c.adjust.ensures

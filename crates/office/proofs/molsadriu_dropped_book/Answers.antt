@@ -3,4 +3,4 @@ use Rattle.office.proofs.Telling.{part_told}
 use Rattle.office.proofs.molsadriu_dropped_book.Goals as goal
 
 pub returns : goal.returns
-returns c = part_told c.tell_listed.ensures.verdict c.tell_listed.ensures.number _ _ c.rescue-listed.ensures
+returns c = part_told c.tell_given.ensures.verdict c.tell_given.ensures.left _ _ c.rescue.ensures

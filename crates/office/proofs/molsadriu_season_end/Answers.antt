@@ -3,4 +3,4 @@ use Rattle.office.proofs.Telling.{ended_told}
 use Rattle.office.proofs.molsadriu_season_end.Goals as goal
 
 pub returns : goal.returns
-returns c = ended_told _ _ c.tell.ensures _ _ _ _ _ c.end-reply.ensures
+returns c = ended_told _ _ c.from.ensures _ _ _ _ _ c.end.ensures

@@ -3,4 +3,4 @@ use Rattle.office.proofs.Telling.{book_told}
 use Rattle.office.proofs.molsadriu_station_book.Goals as goal
 
 pub returns : goal.returns
-returns c = book_told c.tell_listed.ensures.verdict c.tell_listed.ensures.number _ c.means-listed.ensures
+returns c = book_told c.tell_given.ensures.verdict c.tell_given.ensures.left _ c.means.ensures
