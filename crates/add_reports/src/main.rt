@@ -7,6 +7,6 @@ use std::process::ExitCode;
 fn main(rt: HostRuntime) -> ExitCode {
     let mut input = rt.stdin();
     let outcome = sums::add_open(&rt, &mut input);
-    lister::report(&rt, b"add_reports", outcome, b"standard input");
+    lister::report(&rt, "add_reports", outcome, b"standard input");
     lister::status(outcome)
 }

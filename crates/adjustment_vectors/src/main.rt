@@ -5,12 +5,8 @@
 
 ghost use Rattle.std.specs.Prelude.{◌≤◌};
 
-const LEAST: i64 = -9_223_372_036_854_775_808;
-
-const MOST: i64 = 9_223_372_036_854_775_807;
-
 fn numbers(rt: &impl Print, xs: &[i64]) {
-    vectors::text(rt, b";");
+    let _ = print!(rt; ";");
     vectors::list(rt, xs);
 }
 
@@ -40,7 +36,7 @@ fn show(
         remainders,
         misses,
     );
-    vectors::text(rt, b": ");
+    let _ = print!(rt; ": ");
     vectors::told(rt, reply);
     numbers(rt, corrections);
     numbers(rt, printed);
@@ -48,18 +44,14 @@ fn show(
     numbers(rt, correlates);
     numbers(rt, remainders);
     numbers(rt, misses);
-    vectors::text(rt, b";\n");
+    let _ = println!(rt; ";");
 }
 
 // Lists of these lengths, v of the answer lists by direction and k of those by condition: every number is in range.
 fn lengths(rt: &impl Print, m: usize, q: usize, a: usize, w: usize, v: usize, k: usize)
     requires { (m ≤ 65) × ((q ≤ 65) × ((a ≤ 625) × ((w ≤ 25) × ((v ≤ 65) × (k ≤ 25))))) }
 {
-    vectors::text(rt, b"lengths");
-    vectors::list(
-        rt,
-        &[m as i64, q as i64, a as i64, w as i64, v as i64, k as i64],
-    );
+    let _ = print!(rt; "lengths {m} {q} {a} {w} {v} {k}");
     let directions = [0i64; 65];
     let weights = [1i64; 65];
     let coefficients = [100i64; 625];
@@ -99,8 +91,7 @@ fn two(
     w: i64,
     x: i64,
 ) {
-    vectors::text(rt, b"two");
-    vectors::list(rt, &[d, e, p, q, a1, a2, b1, b2, w, x]);
+    let _ = print!(rt; "two {d} {e} {p} {q} {a1} {a2} {b1} {b2} {w} {x}");
     let mut corrections = [7i64; 2];
     let mut printed = [7i64; 2];
     let mut adjusted = [7i64; 2];
@@ -158,8 +149,8 @@ fn of_directions(rt: &impl Print) {
     directions(rt, 0, 1, 1296000000, 1);
     directions(rt, 0, 0, 0, 1);
     directions(rt, 0, 1, 0, 11);
-    directions(rt, 0, LEAST, 0, 1);
-    directions(rt, 0, 1, MOST, 1);
+    directions(rt, 0, i64::MIN, 0, 1);
+    directions(rt, 0, 1, i64::MAX, 1);
     two(rt, 0, -1, 1, 1, 2001, 0, 0, 100, 0, 0);
 }
 
@@ -167,10 +158,10 @@ fn of_directions(rt: &impl Print) {
 fn of_conditions(rt: &impl Print) {
     conditions(rt, 2001, 0, 100, 0);
     conditions(rt, 100, 0, -2001, 0);
-    conditions(rt, LEAST, 0, 100, 0);
+    conditions(rt, i64::MIN, 0, 100, 0);
     conditions(rt, 100, 1000001, 100, 0);
     conditions(rt, 100, 0, 100, -1000001);
-    conditions(rt, 100, LEAST, 100, 0);
+    conditions(rt, 100, i64::MIN, 100, 0);
     conditions(rt, 100, -1000001, 2001, 0);
     conditions(rt, 2001, 1000001, 100, 0);
 }

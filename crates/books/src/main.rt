@@ -2,9 +2,9 @@
 // that must be, worked out by the independent program (see `answers`).
 #![tactic(auto)]
 
-use lister::Files;
+use lister::{Files, Kind};
 use std::process::ExitCode;
 
 fn main(rt: HostRuntime) -> ExitCode {
-    lister::list_arguments(&rt, b"books", true, Files::Books)
+    lister::print_arguments(&rt, "books", true, Kind::Whole(Files::Books))
 }

@@ -2,9 +2,9 @@
 // listing with its E line. `stdout` has what that must be, worked out by the independent program (see `answers`).
 #![tactic(auto)]
 
-use lister::Files;
+use lister::{Files, Kind};
 use std::process::ExitCode;
 
 fn main(rt: HostRuntime) -> ExitCode {
-    lister::list_arguments(&rt, b"cards", true, Files::NetworksWithErrors)
+    lister::print_arguments(&rt, "cards", true, Kind::Whole(Files::NetworksWithErrors))
 }

@@ -7,7 +7,7 @@ use std::process::ExitCode;
 
 fn main(rt: HostRuntime) -> ExitCode {
     if lister::arg_count(&rt) == 3 {
-        return lister::status(sheets::check_pair(&rt, b"check", false, 1, 2));
+        return lister::status(sheets::check_pair(&rt, "check", false, 1, 2));
     }
     let _ = rt.stderr().write_all(b"check: too few names or too many; it is: check NET LISTING\n");
     ExitCode::SUCCESS

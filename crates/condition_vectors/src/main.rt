@@ -6,38 +6,20 @@
 ghost use Rattle.std.specs.Prelude.{◌≤◌};
 
 use condition::Kind;
-use reply::Figure;
 
-const LEAST: i64 = -9_223_372_036_854_775_808;
+const P: i64 = b'P' as i64;
 
-const MOST: i64 = 9_223_372_036_854_775_807;
+const F: i64 = b'F' as i64;
 
-const P: i64 = 80;
+const L: i64 = b'L' as i64;
 
-const F: i64 = 70;
+const R: i64 = b'R' as i64;
 
-const L: i64 = 76;
-
-const R: i64 = 82;
-
-fn print_kind(rt: &impl Print, kind: Kind) {
+// The letter of a kind of condition.
+fn letter(kind: Kind) -> char {
     match kind {
-        Kind::Angle => {
-            vectors::text(rt, b" A");
-        }
-        Kind::Side => {
-            vectors::text(rt, b" S");
-        }
-    }
-}
-
-fn tell_misclosure(rt: &impl Print, w: Figure) {
-    match w {
-        Figure::Value(v) => vectors::signed(rt, v),
-        Figure::Refused(why) => {
-            vectors::text(rt, b" ");
-            vectors::refusal(rt, why);
-        }
+        Kind::Angle => 'A',
+        Kind::Side => 'S',
     }
 }
 
@@ -55,19 +37,17 @@ fn show(
     k: &[i64],
     a: &mut [i64],
 ) {
-    vectors::text(rt, b": ");
+    let _ = print!(rt; ": ");
     vectors::told(
         rt,
         condition::coefficients(directions, q, kind, target, kinds, values, d, i, k, a),
     );
-    vectors::text(rt, b":");
+    let _ = print!(rt; ":");
     vectors::list(rt, a);
-    vectors::text(rt, b"; w");
-    tell_misclosure(
-        rt,
-        condition::misclosure(directions, q, kind, target, kinds, values, d, i, k),
-    );
-    vectors::text(rt, b"\n");
+    let _ = match condition::misclosure(directions, q, kind, target, kinds, values, d, i, k) {
+        Ok(w) => println!(rt; "; w {w}"),
+        Err(why) => println!(rt; "; w {why}"),
+    };
 }
 
 // Lists of these lengths, of fixed angles of 0: every number is in range.
@@ -85,20 +65,7 @@ fn counts(
     requires m_bound { (m ≤ 65) × ((q ≤ 65) × (room ≤ 65)) }
     requires n_bound { (n ≤ 13) × ((values ≤ 13) × ((d ≤ 13) × ((i ≤ 13) × (k ≤ 13)))) }
 {
-    vectors::text(rt, b"counts");
-    vectors::list(
-        rt,
-        &[
-            m as i64,
-            q as i64,
-            n as i64,
-            values as i64,
-            d as i64,
-            i as i64,
-            k as i64,
-            room as i64,
-        ],
-    );
+    let _ = print!(rt; "counts {m} {q} {n} {values} {d} {i} {k} {room}");
     let directions = [0i64; 65];
     let weights = [1i64; 65];
     let kinds = [F; 13];
@@ -124,8 +91,7 @@ fn counts(
 
 // The angle P 0 2 where there are two directions, given with their q.
 fn directions(rt: &impl Print, first: i64, first_q: i64, last: i64, last_q: i64) {
-    vectors::text(rt, b"directions");
-    vectors::list(rt, &[first, first_q, last, last_q]);
+    let _ = print!(rt; "directions {first} {first_q} {last} {last_q}");
     let mut a = [7i64; 2];
     show(
         rt,
@@ -144,10 +110,8 @@ fn directions(rt: &impl Print, first: i64, first_q: i64, last: i64, last_q: i64)
 
 // A condition of one term among the three directions of the rules' figure 3.
 fn one(rt: &impl Print, kind: Kind, target: i64, code: i64, value: i64, d: i64, i: i64, k: i64) {
-    vectors::text(rt, b"one");
-    print_kind(rt, kind);
-    let given = [target, code, value, d, i, k];
-    vectors::list(rt, &given);
+    let letter = letter(kind);
+    let _ = print!(rt; "one {letter} {target} {code} {value} {d} {i} {k}");
     let directions = [216_000_000, 216_003_000, 215_997_000];
     let q = [1, 10, 5];
     let mut a = [7i64; 3];
@@ -181,11 +145,9 @@ fn two(
     last_i: i64,
     last_k: i64,
 ) {
-    vectors::text(rt, b"two");
-    print_kind(rt, kind);
-    vectors::list(
-        rt,
-        &[first, v, d, i, k, last, last_v, last_d, last_i, last_k],
+    let letter = letter(kind);
+    let _ = print!(rt;
+        "two {letter} {first} {v} {d} {i} {k} {last} {last_v} {last_d} {last_i} {last_k}"
     );
     let mut a = [7i64; 3];
     show(
@@ -238,9 +200,9 @@ fn of_directions(rt: &impl Print) {
     directions(rt, 5, 1, 1296000000, 1);
     directions(rt, 5, 1, 5, 0);
     directions(rt, 5, 1, 5, 11);
-    directions(rt, 5, 1, LEAST, 1);
-    directions(rt, 5, LEAST, 5, 1);
-    directions(rt, MOST, 1, 5, MOST);
+    directions(rt, 5, 1, i64::MIN, 1);
+    directions(rt, 5, i64::MIN, 5, 1);
+    directions(rt, i64::MAX, 1, 5, i64::MAX);
     directions(rt, 5, 11, -1, 1);
 }
 
@@ -248,10 +210,10 @@ fn of_directions(rt: &impl Print) {
 fn of_targets(rt: &impl Print) {
     one(rt, Kind::Angle, -1, F, 0, 0, 0, 0);
     one(rt, Kind::Angle, 15552000001, F, 0, 0, 0, 0);
-    one(rt, Kind::Angle, LEAST, P, 0, 0, 0, 0);
-    one(rt, Kind::Side, LEAST, L, 0, 5, 0, 1);
+    one(rt, Kind::Angle, i64::MIN, P, 0, 0, 0, 0);
+    one(rt, Kind::Side, i64::MIN, L, 0, 5, 0, 1);
     one(rt, Kind::Side, -1, R, 0, 5, 0, 1);
-    one(rt, Kind::Side, MOST, L, 0, 0, 0, 0);
+    one(rt, Kind::Side, i64::MAX, L, 0, 0, 0, 0);
 }
 
 // 1: a kind that does not fit, before the same term's 3.
@@ -272,22 +234,22 @@ fn of_codes(rt: &impl Print) {
     one(rt, Kind::Angle, 0, 81, 0, 0, 0, 1);
     one(rt, Kind::Angle, 0, 112, 0, 0, 0, 1);
     one(rt, Kind::Angle, 0, 4294967376, 0, 0, 0, 1);
-    one(rt, Kind::Angle, 0, LEAST, 0, 0, 0, 1);
-    one(rt, Kind::Angle, 0, MOST, 0, 0, 0, 1);
+    one(rt, Kind::Angle, 0, i64::MIN, 0, 0, 0, 1);
+    one(rt, Kind::Angle, 0, i64::MAX, 0, 0, 0, 1);
 }
 
 // 3 in a term of each kind, by the least and the greatest number; and the fields that a kind does not use are not read.
 fn of_terms(rt: &impl Print) {
-    one(rt, Kind::Angle, 0, P, 0, 0, LEAST, 1);
-    one(rt, Kind::Angle, 0, P, 0, 0, 1, LEAST);
-    one(rt, Kind::Angle, 0, P, 0, 0, MOST, MOST);
-    one(rt, Kind::Angle, 3000, P, LEAST, MOST, 1, 2);
-    one(rt, Kind::Angle, 0, F, 0, LEAST, MOST, MOST);
-    one(rt, Kind::Angle, 0, F, LEAST, 0, 0, 0);
-    one(rt, Kind::Angle, 0, F, MOST, 0, 0, 0);
-    one(rt, Kind::Side, 0, L, LEAST, 0, 0, 0);
-    one(rt, Kind::Side, 0, L, 0, LEAST, 0, 1);
-    one(rt, Kind::Side, 0, L, 0, LEAST, LEAST, LEAST);
+    one(rt, Kind::Angle, 0, P, 0, 0, i64::MIN, 1);
+    one(rt, Kind::Angle, 0, P, 0, 0, 1, i64::MIN);
+    one(rt, Kind::Angle, 0, P, 0, 0, i64::MAX, i64::MAX);
+    one(rt, Kind::Angle, 3000, P, i64::MIN, i64::MAX, 1, 2);
+    one(rt, Kind::Angle, 0, F, 0, i64::MIN, i64::MAX, i64::MAX);
+    one(rt, Kind::Angle, 0, F, i64::MIN, 0, 0, 0);
+    one(rt, Kind::Angle, 0, F, i64::MAX, 0, 0, 0);
+    one(rt, Kind::Side, 0, L, i64::MIN, 0, 0, 0);
+    one(rt, Kind::Side, 0, L, 0, i64::MIN, 0, 1);
+    one(rt, Kind::Side, 0, L, 0, i64::MIN, i64::MIN, i64::MIN);
 }
 
 // 1 and 3 by term; the earlier term speaks first.

@@ -4,42 +4,26 @@
 
 ghost use Rattle.std.specs.Prelude.{pos, ◌<ℤ◌};
 
-// A line: the two numbers, and what they gave.
-fn line(rt: &impl Print, a: i64, b: i64, r: i64) {
-    vectors::signed(rt, a);
-    vectors::signed(rt, b);
-    vectors::text(rt, b" =");
-    vectors::signed(rt, r);
-    vectors::text(rt, b"\n");
-}
-
 fn nearest(rt: &impl Print, n: i64, d: i64)
     requires { pos 0 <ℤ d }
 {
-    vectors::text(rt, b"nearest");
-    line(rt, n, d, exact::nearest(n, d));
+    let _ = println!(rt; "nearest {n} {d} = {}", exact::nearest(n, d));
 }
 
 fn floor(rt: &impl Print, n: i64, d: i64)
     requires { pos 0 <ℤ d }
 {
-    vectors::text(rt, b"floor");
-    line(rt, n, d, exact::floor(n, d));
+    let _ = println!(rt; "floor {n} {d} = {}", exact::floor(n, d));
 }
 
 fn modulo(rt: &impl Print, z: i64, m: i64)
     requires { pos 0 <ℤ m }
 {
-    vectors::text(rt, b"modulo");
-    line(rt, z, m, exact::modulo(z, m));
+    let _ = println!(rt; "modulo {z} {m} = {}", exact::modulo(z, m));
 }
 
 fn magnitude(rt: &impl Print, z: i64) {
-    vectors::text(rt, b"magnitude");
-    vectors::signed(rt, z);
-    vectors::text(rt, b" = ");
-    vectors::natural(rt, exact::magnitude(z));
-    vectors::text(rt, b"\n");
+    let _ = println!(rt; "magnitude {z} = {}", exact::magnitude(z));
 }
 
 fn main(rt: HostRuntime) {

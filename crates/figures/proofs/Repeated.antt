@@ -13,13 +13,13 @@ use Rattle.exact.specs.Nearest.{nearest}
 use Rattle.exact.proofs.Bound.{abs_mul}
 use Rattle.exact.proofs.Searching.{Failed, first_at, first_none}
 use Rattle.reply.specs.declared.Refusal.TheVariants.{WeakRow}
-use Rattle.reply.specs.declared.Reply.TheVariants.{Accepted, Refused}
 use Rattle.direction.specs.Ranges.{directions_reply}
 use Rattle.doolittle.specs.Solution.{N, reduced, D, L, weak_row, weak}
 use Rattle.doolittle.proofs.Weakness.{weak_by_low}
 use Rattle.adjustment.specs.Refusals.{counts_amiss, differs, lengths_amiss, coefficient_fault, misclosure_fault, conditions_reply, rows_reply, solution_reply, input_reply}
 use Rattle.adjustment.specs.Promise.{adjust_reply}
 use Rattle.adjustment.proofs.Figures.{figure4, table_in, reply_to}
+use Rattle.std.specs.Prelude.{Ok, Err}
 
 in_range : (w : ℤ) → nat_abs w ≤ 1000000 → ltb 1000000 (nat_abs w) ≡ false
 in_range w small = le-ltb 1000000 (nat_abs w) small
@@ -37,7 +37,7 @@ row_2_weak : (w w' : ℤ) → weak (table_in (figure4 w w')) 1 ≡ true
 unfolding sum nearest first N reduced D weak_row weak
 row_2_weak w w' = let t = table_in (figure4 w w') in weak_by_low 2 1 (N t 1 1) (D t 1) (L t 1) refl
 
-rows : (w w' : ℤ) → nat_abs w ≤ 1000000 → rows_reply (table_in (figure4 w w')) ≡ Refused (WeakRow 2)
+rows : (w w' : ℤ) → nat_abs w ≤ 1000000 → rows_reply (table_in (figure4 w w')) ≡ Err (WeakRow 2)
 unfolding rows_reply
 rows w w' small = rw (first_at 2 (weak (table_in (figure4 w w'))) 1 (omega arith) before (row_2_weak w w')) refl
   where
@@ -52,10 +52,10 @@ unfaulted w w' small small' zero l = in_range w small
 unfaulted w w' small small' (suc zero) l = in_range w' small'
 unfaulted w w' small small' (suc (suc h)) l = absurd (omega arith)
 
-conditions : (w w' : ℤ) → nat_abs w ≤ 1000000 → nat_abs w' ≤ 1000000 → conditions_reply (table_in (figure4 w w')) ≡ Accepted
+conditions : (w w' : ℤ) → nat_abs w ≤ 1000000 → nat_abs w' ≤ 1000000 → conditions_reply (table_in (figure4 w w')) ≡ Ok tt
 unfolding conditions_reply
 conditions w w' small small' = rw (first_none 2 _ (unfaulted w w' small small')) refl
 
-pub repeated : (w w' : ℤ) → nat_abs w ≤ 1000000 → nat_abs w' ≤ 1000000 → reply_to (figure4 w w') ≡ Refused (WeakRow 2)
+pub repeated : (w w' : ℤ) → nat_abs w ≤ 1000000 → nat_abs w' ≤ 1000000 → reply_to (figure4 w w') ≡ Err (WeakRow 2)
 unfolding first directions_reply counts_amiss differs lengths_amiss solution_reply input_reply adjust_reply
 repeated w w' small small' = rw (conditions w w' small small') (rw (rows w w' small) refl)

@@ -12,13 +12,11 @@ use lib.ListN.{replicate}
 use Rattle.exact.specs.Circle.{C}
 use Rattle.reply.specs.Numbers.{number_of, place_of}
 use Rattle.reply.specs.declared.Refusal.{Refusal}
-use Rattle.reply.specs.declared.Reply.{Reply}
-use Rattle.reply.specs.declared.Reply.TheVariants.{Accepted, Refused}
+use Rattle.reply.specs.Reply.{Reply}
 use Rattle.doolittle.specs.Solution.{N}
 use Rattle.adjustment.proofs.Figures.{Figure as Table, reply_to, table_in, answers_in, zeros, K_in, R_in, u_in, Q_in, figure_1, figure_2, figure_5, figure_6, figure_7, figure_8}
-use Rattle.listing.specs.File.{file_reply}
+use Rattle.listing.specs.File.{file_reply, listing_of}
 use Rattle.listing.specs.declared.Sheet.TheVariants.{Plain, WithErrors}
-use Rattle.listing.specs.File.{listing_of}
 use Rattle.listing.proofs.Figure3.{file, listing, errors_line, figure_3}
 use Rattle.station.specs.Sightings.{Book, book}
 use Rattle.station.specs.Table.{counts, readings}
@@ -26,6 +24,7 @@ use Rattle.station.specs.Means.{g, directions, pair_counts}
 use Rattle.station.specs.Replies.{reply_of}
 use Rattle.station.proofs.StationFigures.{figure_9, figure_10_whole, figure_10_three}
 use Rattle.figures.proofs.Repeated.{repeated}
+use Rattle.std.specs.Prelude.{Ok, Err}
 
 -- a whole number below 0
 abbrev minus : ℕ → ℤ
@@ -41,8 +40,8 @@ all count a = replicate count (pos a)
 
 -- a refusal of this number at this place
 abbrev pub Refuses : (number place : ℕ) → Reply → Type 0
-Refuses number place Accepted = ⊥
-Refuses number place (Refused why) = (number_of why ≡ number) × (place_of why ≡ place)
+Refuses number place (Ok _) = ⊥
+Refuses number place (Err why) = (number_of why ≡ number) × (place_of why ≡ place)
 
 -- four sightings of position 1: objects 1, 1, 2, 2, left and right in turn, with these readings
 abbrev pub sighted : (left₁ right₁ left₂ right₂ : ℕ) → Book
@@ -52,7 +51,7 @@ sighted left₁ right₁ left₂ right₂ =
 -- the answer for all 16 objects: object 1 at 0 and object 2 at this direction, P = 1 for both; fourteen objects never seen have 0 and 0
 abbrev pub Means : Book → ℕ → Type 0
 Means b direction =
-    (reply_of b 16 16 ≡ Accepted)
+    (reply_of b 16 16 ≡ Ok tt)
     × ((directions (counts b) (readings b) ≡ pos 0 ∷ pos direction ∷ all 14 0)
     × (pair_counts (counts b) ≡ pos 1 ∷ pos 1 ∷ all 14 0))
 
@@ -64,7 +63,7 @@ g_of b = g (readings b) 0 1
 abbrev pub One : Type 0
 One =
     let t = table 3 1 (minus 306 ∷ pos 694 ∷ minus 1058 ∷ []) (minus 79200 ∷ []) in
-    (reply_to t ≡ Accepted)
+    (reply_to t ≡ Ok tt)
     × (N (table_in t) 0 0 ≡ pos 1694636)
     × (K_in t ≡ pos 467357 ∷ [])
     × (R_in t ≡ minus 2948 ∷ [])
@@ -75,14 +74,14 @@ One =
 abbrev pub Two : Type 0
 Two =
     let t = table 4 1 (minus 100 ∷ pos 100 ∷ minus 100 ∷ pos 100 ∷ []) (pos 9300 ∷ []) in
-    (reply_to t ≡ Accepted)
+    (reply_to t ≡ Ok tt)
     × (K_in t ≡ minus 2325000 ∷ [])
     × (u_in t ≡ pos 2325 ∷ minus 2325 ∷ pos 2325 ∷ minus 2325 ∷ [])
     × (R_in t ≡ pos 0 ∷ [])
 
 -- 3. "The file below." With an E line its listing is the same and that line.
 abbrev pub Three : Type 0
-Three = (file_reply file ≡ Accepted) × (listing_of Plain file ≡ listing) × (listing_of WithErrors file ≡ listing ++ errors_line)
+Three = (file_reply file ≡ Ok tt) × (listing_of Plain file ≡ listing) × (listing_of WithErrors file ≡ listing ++ errors_line)
 
 -- 4. "Two conditions 100, 100, equal or unequal w: 6 at row 2." So it is for every w and w' in range. W-203: "figure 4 stays refused".
 abbrev pub Four : Type 0
@@ -91,7 +90,7 @@ Four = (w w' : ℤ) → nat_abs w ≤ 1000000 → nat_abs w' ≤ 1000000 → Ref
 -- 5. "a = 10, q = 1: w = 1,000 accepted with K = -100,000,000; w = 1,001 is 7."
 abbrev pub Five : Type 0
 Five =
-    (reply_to (table 1 1 (pos 10 ∷ []) (pos 1000 ∷ [])) ≡ Accepted)
+    (reply_to (table 1 1 (pos 10 ∷ []) (pos 1000 ∷ [])) ≡ Ok tt)
     × (K_in (table 1 1 (pos 10 ∷ []) (pos 1000 ∷ [])) ≡ minus 100000000 ∷ [])
     × Refuses 7 1 (reply_to (table 1 1 (pos 10 ∷ []) (pos 1001 ∷ [])))
 
@@ -99,7 +98,7 @@ Five =
 abbrev pub Six : Type 0
 Six =
     let t = table 1 1 (pos 9 ∷ []) (pos 0 ∷ []) in
-    (reply_to t ≡ Accepted) × (answers_in t ≡ zeros)
+    (reply_to t ≡ Ok tt) × (answers_in t ≡ zeros)
 
 -- 7. "Four directions, a = 2,000, q = 10, w = 200: K = -13, R = -80,000,000, so 8."
 abbrev pub Seven : Type 0
@@ -111,7 +110,7 @@ Seven =
 abbrev pub Eight : Type 0
 Eight =
     let t = table 10 10 (all 10 1000) (pos 5 ∷ []) in
-    (K_in t ≡ minus 1 ∷ []) × (R_in t ≡ minus 50000000 ∷ []) × (reply_to t ≡ Accepted)
+    (K_in t ≡ minus 1 ∷ []) × (R_in t ≡ minus 50000000 ∷ []) × (reply_to t ≡ Ok tt)
 
 -- 9. "Position 1: object 1 at 0 and 648,004,000; object 2 at 144,010,000 and 792,016,000. Object 2's direction is 144,011,000, P = 1."
 abbrev pub Nine : Type 0
@@ -124,7 +123,7 @@ Ten =
     × ((g_of (sighted 0 648000000 1 648000002) ≡ pos 3) × Means (sighted 0 648000000 1 648000002) 2)
 
 -- a refusal's number and place, from the refusal
-refuses : {why : Refusal} {reply : Reply} → reply ≡ Refused why → Refuses (number_of why) (place_of why) reply
+refuses : {why : Refusal} {reply : Reply} → reply ≡ Err why → Refuses (number_of why) (place_of why) reply
 refuses {why} is = subst (Refuses (number_of why) (place_of why)) (sym is) (refl, refl)
 
 pub ten_figures : One × Two × Three × Four × Five × Six × Seven × Eight × Nine × Ten

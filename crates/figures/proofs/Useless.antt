@@ -21,11 +21,9 @@ use Rattle.exact.proofs.Identity.{letters, polynomials, ring_by}
 use Rattle.exact.proofs.Bound.{abs_mul}
 use Rattle.reply.specs.declared.Refusal.{Refusal}
 use Rattle.reply.specs.declared.Refusal.TheVariants.{Malformed, Count, OutOfRange, Remainder, Sightings}
-use Rattle.reply.specs.declared.Reply.{Reply}
-use Rattle.reply.specs.declared.Reply.TheVariants.{Accepted, Refused}
-use Rattle.reply.specs.declared.Figure.{Figure}
-use Rattle.reply.specs.Checks.{figure_reply}
-use Rattle.reply.proofs.Checking.{never}
+use Rattle.reply.specs.Reply.{Reply, Figure}
+use Rattle.reply.specs.Checks.{figure_of, figure_reply}
+use Rattle.reply.proofs.Checking.{never, figure_replied}
 use Rattle.station.specs.Sightings.{Book, book, lengths_fit}
 use Rattle.station.specs.Replies.{Answers, reply_of}
 use Rattle.station.proofs.StationFigures.{figure_9, pair_of_objects}
@@ -40,18 +38,17 @@ use Rattle.adjustment.proofs.Figures.{Figure as Lent-table, figure1, figure7, fi
 use Rattle.precision.specs.declared.Errors.{Errors}
 use Rattle.precision.specs.Errors.{errors}
 use Rattle.precision.specs.Promise.{errors_reply, TellsErrors}
-use Rattle.page.specs.declared.Listed.{Listed}
-use Rattle.page.specs.Page.{in_room}
-use Rattle.page.proofs.Printing.{roomy}
+use Rattle.page.specs.Page.{Listed, in_room}
+use Rattle.page.proofs.Printing.{roomy, listed_reply}
 use Rattle.listing.specs.declared.Sheet.{Sheet}
 use Rattle.listing.specs.Listing.{room_of}
-use Rattle.listing.specs.File.{adjust_file_reply, AdjustsFile}
-use Rattle.listing.specs.File.{file_reply}
+use Rattle.listing.specs.File.{adjust_file_reply, AdjustsFile, file_reply}
 use Rattle.listing.proofs.Figure3.{file, figure_3}
 use Rattle.network.proofs.Figures.{broken, figures}
 use Rattle.book.specs.Lines.{book_reply}
 use Rattle.book.specs.File.{MeansOf}
 use Rattle.book.proofs.Figures.{book9, unknown, figure_9 as book-9, refusals}
+use Rattle.std.specs.Prelude.{Ok, Err}
 
 -- ---- all corrections zero
 zero_term : (a v : ℤ) → v ≡ pos 0 → a *ℤ v ≡ pos 0
@@ -68,13 +65,13 @@ zero_corrections t v u r Q d zero j l =
 
 -- ---- refusing everything, and one constant reply
 pub record ShutsOut {Input Left : Type 0} (Promise : Input → Reply → Left → Type 0) : Type 0 where
-  pub refusing : (why : Input → Refusal) (left : Input → Left) → ((x : Input) → Promise x (Refused (why x)) (left x)) → ⊥
+  pub refusing : (why : Input → Refusal) (left : Input → Left) → ((x : Input) → Promise x (Err (why x)) (left x)) → ⊥
   pub constant : (reply : Reply) (left : Input → Left) → ((x : Input) → Promise x reply (left x)) → ⊥
 
 shut_out : {Input Left : Type 0} (Promise : Input → Reply → Left → Type 0) (good bad : Input) (why : Refusal)
-    → ((reply : Reply) (left : Left) → Promise good reply left → reply ≡ Accepted) → ((reply : Reply) (left : Left) → Promise bad reply left → reply ≡ Refused why) → ShutsOut Promise
+    → ((reply : Reply) (left : Left) → Promise good reply left → reply ≡ Ok tt) → ((reply : Reply) (left : Left) → Promise bad reply left → reply ≡ Err why) → ShutsOut Promise
 shut_out Promise good bad why accepts refuses = record {
-  refusing = λ other left keeps. never (other good) (accepts (Refused (other good)) (left good) (keeps good));
+  refusing = λ other left keeps. never (other good) (accepts (Err (other good)) (left good) (keeps good));
   constant = λ reply left keeps. never why (sym (refuses reply (left bad) (keeps bad)) ∙ accepts reply (left good) (keeps good));
 }
 
@@ -82,10 +79,10 @@ shut_out Promise good bad why accepts refuses = record {
 abbrev sixteen : List ℤ
 sixteen = replicate 16 (pos 0)
 
-pub accepts_figure_9 : (reply : Reply) (d p : List ℤ) → Answers (pair_of_objects 648004000 144010000 792016000) sixteen sixteen reply d p → reply ≡ Accepted
+pub accepts_figure_9 : (reply : Reply) (d p : List ℤ) → Answers (pair_of_objects 648004000 144010000 792016000) sixteen sixteen reply d p → reply ≡ Ok tt
 accepts_figure_9 reply d p a = a.replied ∙ figure_9.0
 
-no_sightings : reply_of (book [] [] [] []) 16 16 ≡ Refused Sightings
+no_sightings : reply_of (book [] [] [] []) 16 16 ≡ Err Sightings
 unfolding reply_of lengths_fit
 no_sightings = refl
 
@@ -95,7 +92,7 @@ station_shuts_out =
     (λ reply left a. accepts_figure_9 reply left.0 left.1 a) (λ reply left a. a.replied ∙ no_sightings)
 
 -- ---- one condition
-pub accepts_side_condition : (reply : Reply) (a : List ℤ) → Coefficients side zeros reply a → reply ≡ Accepted
+pub accepts_side_condition : (reply : Reply) (a : List ℤ) → Coefficients side zeros reply a → reply ≡ Ok tt
 accepts_side_condition reply a c = c.answer ∙ side_coefficients.0
 
 pub coefficients_shut_out : ShutsOut {Input = Lent × List ℤ} {Left = List ℤ} (λ x reply left. Coefficients x.0 x.1 reply left)
@@ -119,10 +116,10 @@ lent_for f = let m = replicate f.m (pos 0) in let n = replicate (length f.misclo
 abbrev Adjusted : Lent-table → Reply → Lists → Type 0
 Adjusted f reply left = Adjusts (replicate f.m (pos 0)) (replicate f.m (pos f.q)) f.coefficients f.misclosures (lent_for f) reply left
 
-pub accepts_figure_1 : (reply : Reply) (left : Lists) → Adjusted figure1 reply left → reply ≡ Accepted
+pub accepts_figure_1 : (reply : Reply) (left : Lists) → Adjusted figure1 reply left → reply ≡ Ok tt
 accepts_figure_1 reply left a = a.answer ∙ figure_1.0
 
-pub refuses_figure_7 : (reply : Reply) (left : Lists) → Adjusted figure7 reply left → reply ≡ Refused (Remainder 1)
+pub refuses_figure_7 : (reply : Reply) (left : Lists) → Adjusted figure7 reply left → reply ≡ Err (Remainder 1)
 refuses_figure_7 reply left a = a.answer ∙ figure_7.0
 
 pub table_shuts_out : ShutsOut {Input = Lent-table} {Left = Lists} Adjusted
@@ -159,28 +156,28 @@ roomy_file : (sheet : Sheet) (f : List ℕ) → adjust_file_reply sheet f (lengt
 unfolding adjust_file_reply
 roomy_file sheet f = in_room_lem (Count 0) (room_of sheet) (file_reply f)
 
-pub accepts_figure_3 : (sheet : Sheet) (listed : Listed) (after : List ℕ) → AdjustsFile sheet file (buffer sheet) listed after → listed.reply ≡ Accepted
-accepts_figure_3 sheet listed after a = a.lists.answer ∙ roomy_file sheet file ∙ figure_3.0
+pub accepts_figure_3 : (sheet : Sheet) (listed : Listed) (after : List ℕ) → AdjustsFile sheet file (buffer sheet) listed after → figure_reply listed ≡ Ok tt
+accepts_figure_3 sheet listed after a = listed_reply a.lists ∙ roomy_file sheet file ∙ figure_3.0
 
-malformed : file_reply broken ≡ Refused (Malformed 1)
+malformed : file_reply broken ≡ Err (Malformed 1)
 unfolding file_reply
 malformed = rw figures.0
 
-pub file_shuts_out : (sheet : Sheet) → ShutsOut {Input = List ℕ × List ℕ} {Left = ℕ × List ℕ} (λ x reply left. AdjustsFile sheet x.0 x.1 (record { reply = reply; length = left.0 }) left.1)
+pub file_shuts_out : (sheet : Sheet) → ShutsOut {Input = List ℕ × List ℕ} {Left = ℕ × List ℕ} (λ x reply left. AdjustsFile sheet x.0 x.1 (figure_of reply left.0) left.1)
 file_shuts_out sheet =
     shut_out _ (file, buffer sheet) (broken, buffer sheet) (Malformed 1)
-    (λ reply left a. accepts_figure_3 sheet (record { reply = reply; length = left.0 }) left.1 a)
-    (λ reply left a. a.lists.answer ∙ roomy_file sheet broken ∙ malformed)
+    (λ reply left a. sym (figure_replied reply left.0) ∙ accepts_figure_3 sheet (figure_of reply left.0) left.1 a)
+    (λ reply left a. sym (figure_replied reply left.0) ∙ listed_reply a.lists ∙ roomy_file sheet broken ∙ malformed)
 
 -- ---- the sighting book
 abbrev small_buffer : List ℕ
 small_buffer = blank 1136
 
-pub accepts_book_9 : (listed : Listed) (after : List ℕ) → MeansOf book9 small_buffer listed after → listed.reply ≡ Accepted
-accepts_book_9 listed after a = a.lists.answer ∙ in_room_lem Sightings 1136 (book_reply book9) ∙ book-9.0
+pub accepts_book_9 : (listed : Listed) (after : List ℕ) → MeansOf book9 small_buffer listed after → figure_reply listed ≡ Ok tt
+accepts_book_9 listed after a = listed_reply a.lists ∙ in_room_lem Sightings 1136 (book_reply book9) ∙ book-9.0
 
-pub book_shuts_out : ShutsOut {Input = List ℕ × List ℕ} {Left = ℕ × List ℕ} (λ x reply left. MeansOf x.0 x.1 (record { reply = reply; length = left.0 }) left.1)
+pub book_shuts_out : ShutsOut {Input = List ℕ × List ℕ} {Left = ℕ × List ℕ} (λ x reply left. MeansOf x.0 x.1 (figure_of reply left.0) left.1)
 book_shuts_out =
     shut_out _ (book9, small_buffer) (unknown, small_buffer) (Malformed 1)
-    (λ reply left a. accepts_book_9 (record { reply = reply; length = left.0 }) left.1 a)
-    (λ reply left a. a.lists.answer ∙ in_room_lem Sightings 1136 (book_reply unknown) ∙ refusals.0)
+    (λ reply left a. sym (figure_replied reply left.0) ∙ accepts_book_9 (figure_of reply left.0) left.1 a)
+    (λ reply left a. sym (figure_replied reply left.0) ∙ listed_reply a.lists ∙ in_room_lem Sightings 1136 (book_reply unknown) ∙ refusals.0)

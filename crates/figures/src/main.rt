@@ -2,9 +2,9 @@
 // that must be, worked out by the independent program (see `answers`). The ten figures are theorems, in proofs/Ten.antt.
 #![tactic(auto)]
 
-use lister::Files;
+use lister::{Files, Kind};
 use std::process::ExitCode;
 
 fn main(rt: HostRuntime) -> ExitCode {
-    lister::list_arguments(&rt, b"figures", true, Files::Networks)
+    lister::print_arguments(&rt, "figures", true, Kind::Whole(Files::Networks))
 }

@@ -4,60 +4,59 @@ ghost use Rattle.std.specs.Prelude.{length, ◌≤◌};
 ghost use Rattle.text.specs.Written.{Wrote};
 ghost use Rattle.lister.specs.Ended.{ended_in};
 
-use crate::{Input, MOST_READS, NAME, Outcome, PART};
+use crate::{NAME, PART, Trouble};
+use reply::Verdict;
 use season::stream;
 use std::io::Read;
 use std::process::ExitCode;
 use totals::{TOTALS, report};
 
-// All bytes of an open file. Answers whether it was read to its end.
+// All bytes of an open file, to its end.
 fn feed_open(
     input: &mut impl Read,
     held: &mut [u8],
     totals: &mut [u64],
     place: &mut [u64],
-) -> bool {
+) -> Result<(), Trouble> {
     let mut bytes = [0u8; PART];
-    for _ in 0..MOST_READS {
-        let Input::Bytes(n) = crate::read_some(input, &mut bytes) else {
-            return false;
+    // More reads than any input takes: a loop that reads to the end of an input has to end.
+    for _ in 0..u64::MAX {
+        let Ok(n) = input.read(&mut bytes) else {
+            return Err(Trouble::Unread);
         };
         if n == 0 {
-            return true;
+            return Ok(());
         }
-        stream::next(&bytes[..n], held, totals, place);
+        // The stream's state is the program's own, so nothing is refused here.
+        let _ = stream::next(&bytes[..n], held, totals, place);
     }
-    false
+    Err(Trouble::Unread)
 }
 
-// All bytes of the file of that name. Answers whether it was read to its end, and says so where it was not.
+// All bytes of the file of that name. Says so where it could not be read to its end.
 fn feed_named(
     rt: &HostRuntime,
-    program: &[u8],
+    program: &str,
     name: &[u8],
     held: &mut [u8],
     totals: &mut [u64],
     place: &mut [u64],
-) -> bool {
-    let Some(mut file) = crate::open_named(rt, program, name) else {
-        return false;
-    };
-    let all = feed_open(&mut file, held, totals, place);
-    if !all {
-        crate::say(rt, program, b"read ", name);
-    }
-    all
+) -> Result<(), Trouble> {
+    let mut file = crate::open_named(rt, program, name)?;
+    let outcome = feed_open(&mut file, held, totals, place);
+    crate::report(rt, program, outcome, name);
+    outcome
 }
 
 // The same of the file that argument i names.
 fn feed_argument(
     rt: &HostRuntime,
-    program: &[u8],
+    program: &str,
     i: usize,
     held: &mut [u8],
     totals: &mut [u64],
     place: &mut [u64],
-) -> bool {
+) -> Result<(), Trouble> {
     let mut name = [0u8; NAME];
     let n = crate::name_of(rt, i, &mut name);
     feed_named(rt, program, &name[..n], held, totals, place)
@@ -66,17 +65,15 @@ fn feed_argument(
 // The same of all files that the arguments name, up to the first that cannot be read.
 fn feed_arguments(
     rt: &HostRuntime,
-    program: &[u8],
+    program: &str,
     held: &mut [u8],
     totals: &mut [u64],
     place: &mut [u64],
-) -> bool {
+) -> Result<(), Trouble> {
     for i in 1..crate::arg_count(rt) {
-        if !feed_argument(rt, program, i, held, totals, place) {
-            return false;
-        }
+        feed_argument(rt, program, i, held, totals, place)?;
     }
-    true
+    Ok(())
 }
 
 // Ends the stream, and prints its report into a lent buffer; how many bytes that has.
@@ -85,36 +82,41 @@ fn print(held: &[u8], totals: &mut [u64], place: &mut [u64], out: &mut [u8]) -> 
         (ended_in (length out.old) held.now totals.old place.old) out.new result }
     ensures within { result ≤ length out.old }
 {
-    let verdict = reply::tell(stream::end(held, totals, place));
+    let verdict = Verdict::from(stream::end(held, totals, place));
     report::print(totals, verdict.number == 30, out)
 }
 
 // Writes the report of what has come.
-fn write_report(rt: &impl Print, held: &[u8], totals: &mut [u64], place: &mut [u64]) -> Outcome {
+fn write_report(
+    rt: &impl Print,
+    held: &[u8],
+    totals: &mut [u64],
+    place: &mut [u64],
+) -> Result<(), Trouble> {
     let mut out = [0u8; report::REPORT];
     let n = print(held, totals, place, &mut out);
     crate::write(rt, &out[..n])
 }
 
 // The report of an archive that is open.
-pub fn report_open(rt: &impl Print, input: &mut impl Read) -> Outcome {
+pub fn report_open(rt: &impl Print, input: &mut impl Read) -> Result<(), Trouble> {
     let mut held = [0u8; stream::ROOM];
     let mut totals = [0u64; TOTALS];
     let mut place = [0u64; stream::PLACES];
-    stream::begin(&held, &mut totals, &mut place);
-    if !feed_open(input, &mut held, &mut totals, &mut place) {
-        return Outcome::Unread;
-    }
+    // The stream's state is the program's own, so nothing is refused here.
+    let _ = stream::begin(&held, &mut totals, &mut place);
+    feed_open(input, &mut held, &mut totals, &mut place)?;
     write_report(rt, &held, &mut totals, &mut place)
 }
 
 // The one report of all archives that the arguments name. Where one of them cannot be read there is none. Answers the program's exit status.
-pub fn report_arguments(rt: &HostRuntime, program: &[u8]) -> ExitCode {
+pub fn report_arguments(rt: &HostRuntime, program: &str) -> ExitCode {
     let mut held = [0u8; stream::ROOM];
     let mut totals = [0u64; TOTALS];
     let mut place = [0u64; stream::PLACES];
-    stream::begin(&held, &mut totals, &mut place);
-    if !feed_arguments(rt, program, &mut held, &mut totals, &mut place) {
+    // The stream's state is the program's own, so nothing is refused here.
+    let _ = stream::begin(&held, &mut totals, &mut place);
+    if feed_arguments(rt, program, &mut held, &mut totals, &mut place).is_err() {
         return ExitCode::SUCCESS;
     }
     let outcome = write_report(rt, &held, &mut totals, &mut place);

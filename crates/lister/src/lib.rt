@@ -11,9 +11,8 @@ pub mod archive;
 pub mod sheets;
 pub mod sums;
 
-ghost use Rattle.std.specs.Prelude.{◌-◌, ◌≤◌, ◌≡◌, length, take};
+ghost use Rattle.std.specs.Prelude.{◌-◌, ◌≤◌, ◌≡◌, length, take, IfOk};
 ghost use Rattle.text.specs.Written.{Wrote};
-ghost use Rattle.lister.specs.Input.{Within};
 ghost use Rattle.lister.specs.Listings.{listing_for};
 
 use book::parts;
@@ -21,6 +20,7 @@ use book::parts::Part;
 use listing::Sheet;
 use std::env::{Env, FillError};
 use std::fs::File;
+use std::io;
 use std::io::{ErrorKind, Read};
 use std::process::ExitCode;
 
@@ -32,11 +32,8 @@ const NAME: usize = 4096;
 
 const PART: usize = 65536;
 
-// More reads than any input takes: a loop that reads to the end of an input has to end.
-const MOST_READS: u64 = 18_446_744_073_709_551_615;
-
 // What the files of a call are, all of them alike, and what is listed of them: nothing in a file says it.
-#[derive(Clone, Copy)]
+#[derive(Clone, Copy, Debug, PartialEq, Eq)]
 pub enum Files {
     Networks,
     NetworksWithErrors,
@@ -46,24 +43,16 @@ pub enum Files {
 }
 
 // The same with the files that are read in parts, each by itself.
-#[derive(Clone, Copy)]
+#[derive(Clone, Copy, Debug, PartialEq, Eq)]
 pub enum Kind {
     Whole(Files),
     Archives,
     Reports,
 }
 
-// How many bytes came, or that a read failed.
-#[derive(Clone, Copy)]
-enum Input {
-    Bytes(usize),
-    Failed,
-}
-
-// What became of one file.
-#[derive(Clone, Copy)]
-pub enum Outcome {
-    Listed,
+// Why a file has no listing.
+#[derive(Clone, Copy, Debug, PartialEq, Eq)]
+pub enum Trouble {
     Unread,
     Unwritten,
     // The reader of the listing wanted no more of it.
@@ -74,40 +63,28 @@ pub enum Outcome {
 // since it runs with the signal ignored; it ends itself.
 const UNWANTED: u8 = 141;
 
-// One read.
-fn read_some(file: &mut impl Read, buf: &mut [u8]) -> Input
-    ensures { Within result (length buf.old) }
-{
-    match file.read(buf) {
-        Ok(n) => Input::Bytes(n),
-        Err(_) => Input::Failed,
-    }
-}
-
 // One read behind the bytes that have come, which stay as they were.
-fn read_after(file: &mut impl Read, buf: &mut [u8], done: usize) -> Input
+fn read_after(file: &mut impl Read, buf: &mut [u8], done: usize) -> io::Result<usize>
     requires { done ≤ length buf.old }
-    ensures room { Within result (length buf.old - done) }
+    ensures room { IfOk result (λ n. n ≤ length buf.old - done) }
     ensures kept { take done buf.new ≡ take done buf.old }
 {
-    read_some(file, &mut buf[done..])
+    file.read(&mut buf[done..])
 }
 
-// Reads until the buffer is full or the input ends. A pipe hands over what it has, so one read is not enough.
-fn read_whole(file: &mut impl Read, buf: &mut [u8]) -> Input
-    ensures { Within result (length buf.new) }
+// Reads until the buffer is full or the input ends. A pipe hands over what it has, so one read is not enough. A while loop: a read tells how far it came.
+fn read_whole(file: &mut impl Read, buf: &mut [u8]) -> io::Result<usize>
+    ensures { IfOk result (λ n. n ≤ length buf.new) }
 {
-    let mut done: usize = 0;
+    let mut done = 0;
     while done < buf.len() {
-        let Input::Bytes(n) = read_after(file, buf, done) else {
-            return Input::Failed;
-        };
+        let n = read_after(file, buf, done)?;
         if n == 0 {
             break;
         }
         done += n;
     }
-    Input::Bytes(done)
+    Ok(done)
 }
 
 // The listing of a file, into a lent buffer; how many bytes it has.
@@ -125,74 +102,61 @@ fn list(files: Files, file: &[u8], out: &mut [u8]) -> usize
 }
 
 // Writes to standard output.
-fn write(rt: &impl Print, listing: &[u8]) -> Outcome {
-    match rt.write_all(listing) {
-        Ok(()) => Outcome::Listed,
-        Err(e) if e.kind() == ErrorKind::BrokenPipe => Outcome::Unwanted,
-        Err(_) => Outcome::Unwritten,
-    }
+fn write(rt: &impl Print, listing: &[u8]) -> Result<(), Trouble> {
+    rt.write_all(listing).map_err(|e| match e.kind() {
+        ErrorKind::BrokenPipe => Trouble::Unwanted,
+        _ => Trouble::Unwritten,
+    })
 }
 
 // Writes the listing of a file. The buffer is for the longest listing of all, the kept lines of a spoiled book.
-fn write_listing(rt: &impl Print, files: Files, file: &[u8]) -> Outcome {
+fn write_listing(rt: &impl Print, files: Files, file: &[u8]) -> Result<(), Trouble> {
     let mut out = [0u8; parts::KEPT];
     let n = list(files, file, &mut out);
     write(rt, &out[..n])
 }
 
 // A file that is open. One that was read in part has no listing.
-pub fn list_open(rt: &impl Print, input: &mut impl Read, files: Files) -> Outcome {
+fn list_open(rt: &impl Print, input: &mut impl Read, files: Files) -> Result<(), Trouble> {
     let mut file = [0u8; ROOM];
-    let Input::Bytes(n) = read_whole(input, &mut file) else {
-        return Outcome::Unread;
+    let Ok(n) = read_whole(input, &mut file) else {
+        return Err(Trouble::Unread);
     };
     write_listing(rt, files, &file[..n])
 }
 
 // A line on standard error. Where that cannot be written, nothing is left to say it on.
-fn say(rt: &HostRuntime, program: &[u8], what: &[u8], name: &[u8]) {
-    let errors = rt.stderr();
-    let _ = errors.write_all(program);
-    let _ = errors.write_all(b": cannot ");
-    let _ = errors.write_all(what);
-    let _ = errors.write_all(name);
-    let _ = errors.write_all(b"\n");
-}
-
-// Whether to go on behind a file: where one listing could not be written, the next could not be either.
-fn goes_on(outcome: Outcome) -> bool {
-    match outcome {
-        Outcome::Listed | Outcome::Unread => true,
-        Outcome::Unwritten | Outcome::Unwanted => false,
-    }
+fn say(rt: &HostRuntime, program: &str, what: &str, name: &[u8]) {
+    let _ = eprint!(rt; "{program}: cannot {what} ");
+    let _ = rt.stderr().write_all(name);
+    let _ = eprintln!(rt;);
 }
 
 // The exit status of a program whose last file came to this.
-pub fn status(outcome: Outcome) -> ExitCode {
+pub fn status(outcome: Result<(), Trouble>) -> ExitCode {
     match outcome {
-        Outcome::Unwanted => ExitCode::from(UNWANTED),
-        Outcome::Listed | Outcome::Unread | Outcome::Unwritten => ExitCode::SUCCESS,
+        Err(Trouble::Unwanted) => ExitCode::from(UNWANTED),
+        _ => ExitCode::SUCCESS,
     }
 }
 
-// Says what went wrong. Answers whether to go on. Where the reader wanted no more nothing is said, as with other commands.
-pub fn report(rt: &HostRuntime, program: &[u8], outcome: Outcome, name: &[u8]) -> bool {
+// Says what went wrong. Where the reader wanted no more nothing is said, as with other commands.
+pub fn report(rt: &HostRuntime, program: &str, outcome: Result<(), Trouble>, name: &[u8]) {
     match outcome {
-        Outcome::Listed | Outcome::Unwanted => {}
-        Outcome::Unread => say(rt, program, b"read ", name),
-        Outcome::Unwritten => say(rt, program, b"write the listing of ", name),
+        Ok(()) | Err(Trouble::Unwanted) => {}
+        Err(Trouble::Unread) => say(rt, program, "read", name),
+        Err(Trouble::Unwritten) => say(rt, program, "write the listing of", name),
     }
-    goes_on(outcome)
 }
 
 // The line with a file's name.
 fn write_heading(rt: &impl Print, name: &[u8]) {
     let _ = rt.write_all(name);
-    let _ = rt.write_all(b"\n");
+    let _ = println!(rt;);
 }
 
 // A file that is open, of any kind.
-fn print_open(rt: &impl Print, input: &mut impl Read, kind: Kind) -> Outcome {
+fn print_open(rt: &impl Print, input: &mut impl Read, kind: Kind) -> Result<(), Trouble> {
     match kind {
         Kind::Whole(files) => list_open(rt, input, files),
         Kind::Archives => archive::report_open(rt, input),
@@ -207,28 +171,33 @@ fn open(rt: &HostRuntime, name: &[u8]) -> Option<File> {
 }
 
 // Opens the file of that name, or says that it cannot be opened.
-fn open_named(rt: &HostRuntime, program: &[u8], name: &[u8]) -> Option<File> {
+fn open_named(rt: &HostRuntime, program: &str, name: &[u8]) -> Result<File, Trouble> {
     let file = open(rt, name);
     if file.is_none() {
-        say(rt, program, b"open ", name);
+        say(rt, program, "open", name);
     }
-    file
+    file.ok_or(Trouble::Unread)
 }
 
 // The file of that name, under a line with the name where it is headed.
-fn print_named(rt: &HostRuntime, program: &[u8], headed: bool, kind: Kind, name: &[u8]) -> Outcome {
+fn print_named(
+    rt: &HostRuntime,
+    program: &str,
+    headed: bool,
+    kind: Kind,
+    name: &[u8],
+) -> Result<(), Trouble> {
     if headed {
         write_heading(rt, name);
     }
-    let Some(mut file) = open_named(rt, program, name) else {
-        return Outcome::Unread;
-    };
+    let mut file = open_named(rt, program, name)?;
     let outcome = print_open(rt, &mut file, kind);
     report(rt, program, outcome, name);
     outcome
 }
 
 // How many arguments there are, the program's own name among them.
+// A bound and no `loop`: a loop has to end, and no program has so many arguments.
 pub fn arg_count(rt: &impl Env) -> usize {
     let mut first = [0u8; 1];
     for i in 0..usize::MAX {
@@ -241,6 +210,7 @@ pub fn arg_count(rt: &impl Env) -> usize {
 
 // The name that is argument i, from the start of a lent buffer; how many bytes it has. A name that the buffer cannot hold is longer than any
 // file's: its first bytes fill the buffer, and they do not open either.
+// A name of no bytes and no Option: callers ask only for arguments that there are.
 fn name_of(rt: &impl Env, i: usize, name: &mut [u8]) -> usize
     ensures { result ≤ length name.new }
 {
@@ -252,24 +222,36 @@ fn name_of(rt: &impl Env, i: usize, name: &mut [u8]) -> usize
 }
 
 // The file that argument i names.
-fn print_argument(rt: &HostRuntime, program: &[u8], headed: bool, kind: Kind, i: usize) -> Outcome {
+fn print_argument(
+    rt: &HostRuntime,
+    program: &str,
+    headed: bool,
+    kind: Kind,
+    i: usize,
+) -> Result<(), Trouble> {
     let mut name = [0u8; NAME];
     let n = name_of(rt, i, &mut name);
     print_named(rt, program, headed, kind, &name[..n])
 }
 
-// The files that the arguments name, in turn. Argument 0 is the program's own name. Answers the program's exit status.
-pub fn print_arguments(rt: &HostRuntime, program: &[u8], headed: bool, kind: Kind) -> ExitCode {
+// The files that the arguments name, in turn. Argument 0 is the program's own name. A file that cannot be read is passed over; where one listing could not
+// be written, the next could not be either. Answers the program's exit status.
+pub fn print_arguments(rt: &HostRuntime, program: &str, headed: bool, kind: Kind) -> ExitCode {
     for i in 1..arg_count(rt) {
-        let outcome = print_argument(rt, program, headed, kind, i);
-        if !goes_on(outcome) {
-            return status(outcome);
+        match print_argument(rt, program, headed, kind, i) {
+            Ok(()) | Err(Trouble::Unread) => {}
+            outcome => return status(outcome),
         }
     }
     ExitCode::SUCCESS
 }
 
-// The same of files that are read whole.
-pub fn list_arguments(rt: &HostRuntime, program: &[u8], headed: bool, files: Files) -> ExitCode {
-    print_arguments(rt, program, headed, Kind::Whole(files))
+// What a program does: with no argument the file is standard input; otherwise each argument names a file, and the listings follow each other.
+pub fn run(rt: &HostRuntime, program: &str, files: Files) -> ExitCode {
+    if 1 < arg_count(rt) {
+        return print_arguments(rt, program, false, Kind::Whole(files));
+    }
+    let outcome = list_open(rt, &mut rt.stdin(), files);
+    report(rt, program, outcome, b"standard input");
+    status(outcome)
 }

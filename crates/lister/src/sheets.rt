@@ -1,24 +1,28 @@
 // Other offices' sheets: a net and a listing, each read by its name, and the line that answers whether they agree.
-ghost use Rattle.std.specs.Prelude.{◌≡◌, List, ℕ, ◌≤◌, length, take};
+ghost use Rattle.std.specs.Prelude.{◌≡◌, List, ℕ, ◌≤◌, length, take, IfOk};
 ghost use Rattle.text.specs.Written.{Wrote};
 ghost use Rattle.sheet.specs.Answer.{answer_in};
-ghost use Rattle.lister.specs.Input.{Within};
 
-use crate::{Input, NAME, Outcome, ROOM};
+use crate::{NAME, ROOM, Trouble};
 use std::process::ExitCode;
 
 // The file of that name, as much of it as the buffer holds. What cannot be opened or read is said.
-fn read_named(rt: &HostRuntime, program: &[u8], name: &[u8], file: &mut [u8]) -> Input
-    ensures { Within result (length file.new) }
+fn read_named(
+    rt: &HostRuntime,
+    program: &str,
+    name: &[u8],
+    file: &mut [u8],
+) -> Result<usize, Trouble>
+    ensures { IfOk result (λ n. n ≤ length file.new) }
 {
-    let Some(mut input) = crate::open_named(rt, program, name) else {
-        return Input::Failed;
-    };
-    let came = crate::read_whole(&mut input, file);
-    if let Input::Failed = came {
-        crate::say(rt, program, b"read ", name);
+    let mut input = crate::open_named(rt, program, name)?;
+    match crate::read_whole(&mut input, file) {
+        Ok(n) => Ok(n),
+        Err(_) => {
+            crate::say(rt, program, "read", name);
+            Err(Trouble::Unread)
+        }
     }
-    came
 }
 
 // The answer to a net and to as much of a listing as has been read, all of it or at least its first 65,536 bytes, into a lent buffer; how many bytes it
@@ -32,25 +36,21 @@ fn print(net: &[u8], listing: &[u8], out: &mut [u8]) -> usize
 }
 
 // Writes the answer.
-fn write_answer(rt: &impl Print, net: &[u8], listing: &[u8]) -> Outcome {
+fn write_answer(rt: &impl Print, net: &[u8], listing: &[u8]) -> Result<(), Trouble> {
     let mut out = [0u8; sheet::ANSWER];
     let n = print(net, listing, &mut out);
     crate::write(rt, &out[..n])
 }
 
 // The net and the sheet of these names. Where one of them cannot be read there is no answer.
-fn check_named(rt: &HostRuntime, program: &[u8], net: &[u8], sheet: &[u8]) -> Outcome {
+fn check_named(rt: &HostRuntime, program: &str, net: &[u8], sheet: &[u8]) -> Result<(), Trouble> {
     let mut file = [0u8; ROOM];
     let mut listing = [0u8; ROOM];
-    let Input::Bytes(n) = read_named(rt, program, net, &mut file) else {
-        return Outcome::Unread;
-    };
-    let Input::Bytes(m) = read_named(rt, program, sheet, &mut listing) else {
-        return Outcome::Unread;
-    };
+    let n = read_named(rt, program, net, &mut file)?;
+    let m = read_named(rt, program, sheet, &mut listing)?;
     let outcome = write_answer(rt, &file[..n], &listing[..m]);
-    if let Outcome::Unwritten = outcome {
-        crate::say(rt, program, b"write the answer to ", sheet);
+    if outcome == Err(Trouble::Unwritten) {
+        crate::say(rt, program, "write the answer to", sheet);
     }
     outcome
 }
@@ -58,11 +58,11 @@ fn check_named(rt: &HostRuntime, program: &[u8], net: &[u8], sheet: &[u8]) -> Ou
 // The net and the sheet that two arguments name, under a line with the sheet's name where it is headed.
 pub fn check_pair(
     rt: &HostRuntime,
-    program: &[u8],
+    program: &str,
     headed: bool,
     net: usize,
     sheet: usize,
-) -> Outcome {
+) -> Result<(), Trouble> {
     let mut net_name = [0u8; NAME];
     let mut sheet_name = [0u8; NAME];
     let n = crate::name_of(rt, net, &mut net_name);
@@ -75,16 +75,12 @@ pub fn check_pair(
 
 // The nets and sheets that the arguments name by turns, each pair under the sheet's name. A net at the end, with no sheet behind it, is left out.
 // Where one answer could not be written, the next could not be either. Answers the program's exit status.
-pub fn check_arguments(rt: &HostRuntime, program: &[u8]) -> ExitCode {
-    let mut left = crate::arg_count(rt);
-    let mut i: usize = 1;
-    while 2 < left {
-        let outcome = check_pair(rt, program, true, i, i + 1);
-        if !crate::goes_on(outcome) {
-            return crate::status(outcome);
+pub fn check_arguments(rt: &HostRuntime, program: &str) -> ExitCode {
+    for i in (2..crate::arg_count(rt)).step_by(2) {
+        match check_pair(rt, program, true, i - 1, i) {
+            Ok(()) | Err(Trouble::Unread) => {}
+            outcome => return crate::status(outcome),
         }
-        i += 2;
-        left -= 2;
     }
     ExitCode::SUCCESS
 }

@@ -5,10 +5,6 @@
 
 ghost use Rattle.std.specs.Prelude.{◌≤◌};
 
-const LEAST: i64 = -9_223_372_036_854_775_808;
-
-const MOST: i64 = 9_223_372_036_854_775_807;
-
 const MINUTE: i64 = 60_000;
 
 // The reply, and what the two lent numbers hold.
@@ -16,28 +12,16 @@ fn show(rt: &impl Print, u: &[i64], q: &[i64], n: usize) {
     let mut mean: i64 = 7;
     let mut probable: i64 = 8;
     let reply = precision::probable_error(u, q, n, &mut mean, &mut probable);
-    vectors::text(rt, b": ");
+    let _ = print!(rt; ": ");
     vectors::told(rt, reply);
-    vectors::text(rt, b";");
-    vectors::signed(rt, mean);
-    vectors::signed(rt, probable);
-    vectors::text(rt, b"\n");
-}
-
-fn count(rt: &impl Print, n: usize) {
-    vectors::text(rt, b" ");
-    vectors::natural(rt, n as u64);
+    let _ = println!(rt; "; {mean} {probable}");
 }
 
 // So many u and so many q, all alike, with n conditions.
 fn alike(rt: &impl Print, us: usize, qs: usize, n: usize, u: i64, q: i64)
     requires { (us ≤ 65) × (qs ≤ 65) }
 {
-    vectors::text(rt, b"alike");
-    count(rt, us);
-    count(rt, qs);
-    count(rt, n);
-    vectors::list(rt, &[u, q]);
+    let _ = print!(rt; "alike {us} {qs} {n} {u} {q}");
     let corrections = [u; 65];
     let weights = [q; 65];
     show(rt, &corrections[..us], &weights[..qs], n);
@@ -45,9 +29,7 @@ fn alike(rt: &impl Print, us: usize, qs: usize, n: usize, u: i64, q: i64)
 
 // 64 directions with n conditions: 63 with this correction and q = 1, and the last.
 fn last(rt: &impl Print, n: usize, others: i64, u: i64, q: i64) {
-    vectors::text(rt, b"last");
-    count(rt, n);
-    vectors::list(rt, &[others, u, q]);
+    let _ = print!(rt; "last {n} {others} {u} {q}");
     let mut corrections = [others; 64];
     let mut weights = [1i64; 64];
     corrections[63] = u;
@@ -57,9 +39,7 @@ fn last(rt: &impl Print, n: usize, others: i64, u: i64, q: i64) {
 
 // Two directions with n conditions, each by u and q.
 fn two(rt: &impl Print, n: usize, u: i64, p: i64, v: i64, q: i64) {
-    vectors::text(rt, b"two");
-    count(rt, n);
-    vectors::list(rt, &[u, p, v, q]);
+    let _ = print!(rt; "two {n} {u} {p} {v} {q}");
     show(rt, &[u, v], &[p, q], n);
 }
 
@@ -80,9 +60,7 @@ fn six(
     u6: i64,
     q6: i64,
 ) {
-    vectors::text(rt, b"six");
-    count(rt, n);
-    vectors::list(rt, &[u1, q1, u2, q2, u3, q3, u4, q4, u5, q5, u6, q6]);
+    let _ = print!(rt; "six {n} {u1} {q1} {u2} {q2} {u3} {q3} {u4} {q4} {u5} {q5} {u6} {q6}");
     show(rt, &[u1, u2, u3, u4, u5, u6], &[q1, q2, q3, q4, q5, q6], n);
 }
 
@@ -114,7 +92,7 @@ fn of_lengths(rt: &impl Print) {
     alike(rt, 65, 64, 1, 1, 1);
     alike(rt, 2, 1, 1, 60001, 0);
     alike(rt, 2, 2, 3, 60001, 11);
-    alike(rt, 2, 2, 0, LEAST, LEAST);
+    alike(rt, 2, 2, 0, i64::MIN, i64::MIN);
 }
 
 // 3: a correction past one minute, of either sign.
@@ -124,8 +102,8 @@ fn of_corrections(rt: &impl Print) {
     two(rt, 1, 0, 1, 60001, 1);
     two(rt, 1, -60001, 1, 0, 1);
     two(rt, 1, 0, 1, -60001, 1);
-    two(rt, 1, MOST, 1, 0, 1);
-    two(rt, 1, 0, 1, LEAST, 1);
+    two(rt, 1, i64::MAX, 1, 0, 1);
+    two(rt, 1, 0, 1, i64::MIN, 1);
     last(rt, 24, MINUTE, 60001, 1);
 }
 
@@ -137,8 +115,8 @@ fn of_weights(rt: &impl Print) {
     two(rt, 1, 100, 11, 100, 1);
     two(rt, 1, 100, 1, 100, 11);
     two(rt, 1, 100, -1, 100, 1);
-    two(rt, 1, 0, LEAST, 0, 1);
-    two(rt, 1, 0, 1, 0, MOST);
+    two(rt, 1, 0, i64::MIN, 0, 1);
+    two(rt, 1, 0, 1, 0, i64::MAX);
     last(rt, 24, MINUTE, MINUTE, 11);
 }
 

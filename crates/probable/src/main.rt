@@ -6,12 +6,5 @@ use lister::Files;
 use std::process::ExitCode;
 
 fn main(rt: HostRuntime) -> ExitCode {
-    if lister::arg_count(&rt) < 2 {
-        let mut input = rt.stdin();
-        let outcome = lister::list_open(&rt, &mut input, Files::NetworksWithErrors);
-        lister::report(&rt, b"probable", outcome, b"standard input");
-        lister::status(outcome)
-    } else {
-        lister::list_arguments(&rt, b"probable", false, Files::NetworksWithErrors)
-    }
+    lister::run(&rt, "probable", Files::NetworksWithErrors)
 }

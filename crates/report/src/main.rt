@@ -9,9 +9,9 @@ fn main(rt: HostRuntime) -> ExitCode {
     if lister::arg_count(&rt) < 2 {
         let mut input = rt.stdin();
         let outcome = archive::report_open(&rt, &mut input);
-        lister::report(&rt, b"report", outcome, b"standard input");
+        lister::report(&rt, "report", outcome, b"standard input");
         lister::status(outcome)
     } else {
-        archive::report_arguments(&rt, b"report")
+        archive::report_arguments(&rt, "report")
     }
 }

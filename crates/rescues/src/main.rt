@@ -2,10 +2,10 @@
 // each with the list of its dropped sightings. `stdout` has what that must be, worked out by the independent program (see `answers`).
 #![tactic(auto)]
 
-use lister::Files;
+use lister::{Files, Kind};
 use std::process::ExitCode;
 
 fn main(rt: HostRuntime) -> ExitCode {
-    lister::list_arguments(&rt, b"rescues", true, Files::Rescued);
-    lister::list_arguments(&rt, b"rescues", true, Files::Dropped)
+    lister::print_arguments(&rt, "rescues", true, Kind::Whole(Files::Rescued));
+    lister::print_arguments(&rt, "rescues", true, Kind::Whole(Files::Dropped))
 }

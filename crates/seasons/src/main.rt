@@ -6,5 +6,5 @@ use lister::Kind;
 use std::process::ExitCode;
 
 fn main(rt: HostRuntime) -> ExitCode {
-    lister::print_arguments(&rt, b"seasons", true, Kind::Archives)
+    lister::print_arguments(&rt, "seasons", true, Kind::Archives)
 }

@@ -5,5 +5,5 @@
 use std::process::ExitCode;
 
 fn main(rt: HostRuntime) -> ExitCode {
-    lister::sheets::check_arguments(&rt, b"sheets")
+    lister::sheets::check_arguments(&rt, "sheets")
 }

@@ -5,13 +5,9 @@
 
 ghost use Rattle.std.specs.Prelude.{◌≤◌};
 
-const LEAST: i64 = -9_223_372_036_854_775_808;
-
-const MOST: i64 = 9_223_372_036_854_775_807;
-
 // An answer list, with the places behind what was lent of it.
 fn numbers(rt: &impl Print, xs: &[i64; 17]) {
-    vectors::text(rt, b";");
+    let _ = print!(rt; ";");
     vectors::list(rt, xs);
 }
 
@@ -49,7 +45,7 @@ fn lend(
     vectors::told(rt, reply);
     numbers(rt, &direction);
     numbers(rt, &pairs);
-    vectors::text(rt, b"\n");
+    let _ = println!(rt;);
 }
 
 fn main(rt: HostRuntime) {
@@ -70,14 +66,14 @@ fn main(rt: HostRuntime) {
     lend(&rt, 1, 1, 1, 1, 648000000, 2, 2, 2, 2, 17, 17);
     lend(&rt, 1, 1, 1, 1, 648000000, 2, 2, 2, 2, 0, 0);
     // 22: the least and the greatest number, in each field.
-    lend(&rt, 1, LEAST, 1, 1, 648000000, 2, 2, 2, 2, 16, 16);
-    lend(&rt, 1, MOST, 1, 1, 648000000, 2, 2, 2, 2, 16, 16);
-    lend(&rt, LEAST, 1, 1, 1, 648000000, 2, 2, 2, 2, 16, 16);
-    lend(&rt, 1, 1, MOST, 1, 648000000, 2, 2, 2, 2, 16, 16);
-    lend(&rt, 1, 1, 1, LEAST, 648000000, 2, 2, 2, 2, 16, 16);
-    lend(&rt, 1, 1, 1, MOST, 648000000, 2, 2, 2, 2, 16, 16);
-    lend(&rt, 1, 1, 1, 1, LEAST, 2, 2, 2, 2, 16, 16);
-    lend(&rt, 1, 1, 1, 1, MOST, 2, 2, 2, 2, 16, 16);
+    lend(&rt, 1, i64::MIN, 1, 1, 648000000, 2, 2, 2, 2, 16, 16);
+    lend(&rt, 1, i64::MAX, 1, 1, 648000000, 2, 2, 2, 2, 16, 16);
+    lend(&rt, i64::MIN, 1, 1, 1, 648000000, 2, 2, 2, 2, 16, 16);
+    lend(&rt, 1, 1, i64::MAX, 1, 648000000, 2, 2, 2, 2, 16, 16);
+    lend(&rt, 1, 1, 1, i64::MIN, 648000000, 2, 2, 2, 2, 16, 16);
+    lend(&rt, 1, 1, 1, i64::MAX, 648000000, 2, 2, 2, 2, 16, 16);
+    lend(&rt, 1, 1, 1, 1, i64::MIN, 2, 2, 2, 2, 16, 16);
+    lend(&rt, 1, 1, 1, 1, i64::MAX, 2, 2, 2, 2, 16, 16);
     // 23, 24 and 25 leave the answer lists alone too.
     lend(&rt, 1, 1, 1, 0, 648000000, 2, 2, 2, 2, 16, 16);
     lend(&rt, 2, 1, 2, 1, 648000000, 2, 2, 2, 2, 16, 16);

@@ -6,5 +6,5 @@ use lister::Kind;
 use std::process::ExitCode;
 
 fn main(rt: HostRuntime) -> ExitCode {
-    lister::print_arguments(&rt, b"sums", true, Kind::Reports)
+    lister::print_arguments(&rt, "sums", true, Kind::Reports)
 }

@@ -1,57 +1,43 @@
 // Runs the line reader and the numbers on chosen inputs and prints what they answer. What it must print was worked out apart from it.
 #![tactic(auto)]
 
+ghost use Rattle.std.specs.Prelude.{◌≤◌};
+
 use text::line::LineStatus;
-use text::number::Number;
 use text::{LF, MOST_DIGITS, line, number};
 
 // A start's status and line.
 fn show_line(rt: &impl Print, file: &[u8], start: usize) {
-    vectors::natural(rt, start as u64);
-    let status = line::line_status(file, start);
-    match status {
-        LineStatus::Whole => {
-            vectors::text(rt, b" line [");
-        }
-        LineStatus::NoneLeft => {
-            vectors::text(rt, b" none left [");
-        }
-        LineStatus::LfMissing => {
-            vectors::text(rt, b" LF missing [");
-        }
-    }
-    vectors::text(rt, line::line(file, start));
-    vectors::text(rt, b"]\n");
+    let status = match line::line_status(file, start) {
+        LineStatus::Whole => "line",
+        LineStatus::NoneLeft => "none left",
+        LineStatus::LfMissing => "LF missing",
+    };
+    let _ = print!(rt; "{start} {status} [");
+    let _ = rt.write_all(line::line(file, start));
+    let _ = println!(rt; "]");
 }
 
-// A line, and the number that it was read as.
-fn show_read(rt: &impl Print, text: &[u8], n: Number) {
-    vectors::text(rt, b"[");
-    vectors::text(rt, line::line(text, 0));
-    vectors::text(rt, b"] ");
-    match n {
-        Number::Value(v) => {
-            vectors::number(rt, v);
-        }
-        Number::Malformed => {
-            vectors::text(rt, b"malformed");
-        }
-    }
-    vectors::text(rt, b"\n");
+// A line, and the number of so many digits at most that it is read as.
+fn show(rt: &impl Print, most: usize, text: &[u8])
+    requires { most ≤ 18 }
+{
+    let _ = print!(rt; "[");
+    let _ = rt.write_all(line::line(text, 0));
+    let _ = match number::read_to(most, text, 0, LF) {
+        Some(read) => println!(rt; "] {}", read.value),
+        None => println!(rt; "] malformed"),
+    };
 }
 
 // The number that a line is, of at most 11 digits.
 fn show_number(rt: &impl Print, text: &[u8]) {
-    let read = number::read_to(MOST_DIGITS, text, 0, LF);
-    let n = read.number;
-    show_read(rt, text, n);
+    show(rt, MOST_DIGITS, text);
 }
 
 // The same, of at most 18.
 fn show_long(rt: &impl Print, text: &[u8]) {
-    let read = number::read_to(18, text, 0, LF);
-    let n = read.number;
-    show_read(rt, text, n);
+    show(rt, 18, text);
 }
 
 fn lines(rt: &impl Print) {
