@@ -1,6 +1,6 @@
 /* Molsadriu: adjustment of observed directions by the method of conditions, for programs in C (C99) and C++.
  *
- * Link with the archive of the crate office: `tools/native` makes target/native/liboffice.a for this computer. Of the C library it asks
+ * Link with the archive of the crate office_c: `tools/native` makes target/native/liboffice.a for this computer. Of the C library it asks
  * memcpy, memmove and memset at most.
  *
  * LISTS. A list is lent as two arguments, a pointer to its first number and how many numbers it has. An empty list may be a null
