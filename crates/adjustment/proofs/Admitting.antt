@@ -1,4 +1,5 @@
--- What the input checks of a lent table leave known where they accept. Assumes nothing.
+-- What the input checks of a lent table reply, and leave known where they accept. Assumes nothing.
+--   by_counts, by_lengths, by_directions, by_conditions      the reply of the input checks, each where those before it have accepted
 --   Counts, counts_known          from the counts
 --   Lengths, lengths_known        from the lengths
 --   weight_known                  the range of an inverse weight
@@ -8,7 +9,7 @@
 --   told_checked                  the same of a reply that is theirs
 --   admits                        what `table::check` cites
 use mathlib.Core.Path.{◌≡◌, refl, sym, ◌∙◌, ap, subst}
-use mathlib.Core.Bool.{Bool, false, ◌||◌, not, cond}
+use mathlib.Core.Bool.{Bool, true, false, ◌||◌, not, cond}
 use mathlib.Core.List.{List, [], ◌∷◌}
 use Prim.Native.Nat.{ℕ, ◌+◌, ◌*◌, ◌≤◌, ◌<◌}
 use native.Mathlib.Omega.{arith}
@@ -22,6 +23,7 @@ use Rattle.exact.specs.Outside.{outside}
 use Rattle.exact.proofs.Linear.{unknowns, orders, one_sided}
 use Rattle.exact.proofs.Order.{lt_false}
 use Rattle.exact.proofs.Searching.{all_failed, neither}
+use Rattle.reply.specs.declared.Refusal.{Refusal}
 use Rattle.reply.specs.declared.Refusal.TheVariants.{Count, OutOfRange, Coefficient, Misclosure}
 use Rattle.reply.specs.Reply.{Reply}
 use Rattle.reply.specs.Checks.{refuse_if, ◌and_then◌}
@@ -32,6 +34,29 @@ use Rattle.adjustment.specs.Refusals.{counts_amiss, differs, lengths_amiss, coef
 use Rattle.doolittle.specs.Inner.{Sound}
 use Rattle.std.specs.Prelude.{Ok, Err, OnOk}
 use Rattle.adjustment.specs.Inner.{Checked}
+
+-- ---- the reply; the six numbers are the lengths of the answer lists
+module _ (ds qs cs ws : List ℤ) (v u adjusted k r Q : ℕ) where
+  abbrev lengths_amiss_lem : Bool
+  lengths_amiss_lem = lengths_amiss (length ds) (length ws) (length qs) (length cs) v u adjusted k r Q
+
+  pub by_counts : counts_amiss (length ds) (length ws) ≡ true → input_reply ds qs cs ws v u adjusted k r Q ≡ Err (Count 0)
+  unfolding input_reply
+  by_counts e = rw e
+
+  module _ (a : counts_amiss (length ds) (length ws) ≡ false) where
+    pub by_lengths : lengths_amiss_lem ≡ true → input_reply ds qs cs ws v u adjusted k r Q ≡ Err (Count 0)
+    unfolding input_reply
+    by_lengths e = rw (a, e)
+
+    module _ (b : lengths_amiss_lem ≡ false) where
+      pub by_directions : {why : Refusal} → directions_reply ds qs ≡ Err why → input_reply ds qs cs ws v u adjusted k r Q ≡ Err why
+      unfolding input_reply
+      by_directions e = rw (a, b, e)
+
+      pub by_conditions : directions_reply ds qs ≡ Ok tt → input_reply ds qs cs ws v u adjusted k r Q ≡ conditions_reply (table_of qs cs ws)
+      unfolding input_reply
+      by_conditions e = rw (a, b, e)
 
 -- ---- what is known where they accept
 pub record Counts (m n : ℕ) : Type 0 where

@@ -3,6 +3,8 @@
 --   place_after, before_le                 it ends at or after its start, and no byte is counted that is not there
 --   parts_more                             the parts from a start: the one there, and those after the byte that ends it
 --   parts_dropped, parts_last              the parts of a text without the byte: none, or the text itself
+--   begins_all, begins_short               a text begins with no word's end; and with no word that goes on behind it
+--   begins_more, begins_other              one byte more of the word, by what stands there in the text
 --   begins_is                              a text begins with a word, as std's test says it
 --   starts_from, starts_so, led, unled     such a test of a text from a start on, and the byte there
 --   begins_length, begins_split            a word is no longer than a text that begins with it, which is the word and what is left
@@ -102,6 +104,25 @@ module _ (byte : ℕ) where
   parts_last (x ∷ xs) l = last_step x xs (eqb x byte) (parts_last xs) l
 
 -- ---- a word that a text begins with
+module _ (word text : List ℕ) (i : ℕ) where
+  pub begins_all : length word ≤ i → begins (drop i word) (drop i text) ≡ true
+  unfolding begins
+  begins_all l = rw (drop_of_length-le word l)
+
+  module _ (w : i < length word) where
+    pub begins_short : length text ≤ i → begins (drop i word) (drop i text) ≡ false
+    unfolding begins
+    begins_short l = rw (drop-cons word i 0 w, drop_of_length-le text l)
+
+    module _ (l : i < length text) where
+      pub begins_other : (get_or text i 0 ≡ get_or word i 0 → ⊥) → begins (drop i word) (drop i text) ≡ false
+      unfolding begins
+      begins_other e = rw (drop-cons word i 0 w, drop-cons text i 0 l, ne_eqb (get_or text i 0) (get_or word i 0) e)
+
+      pub begins_more : get_or text i 0 ≡ get_or word i 0 → begins (drop i word) (drop i text) ≡ begins (drop (i + 1) word) (drop (i + 1) text)
+      unfolding begins
+      begins_more e = rw (drop-cons word i 0 w, drop-cons text i 0 l, eq-eqb (get_or text i 0) (get_or word i 0) e, add-one i)
+
 begins_step : (x y : ℕ) (b c d : Bool) → eqb x y ≡ b → eqb y x ≡ c → (b && d) ≡ cond c d false
 begins_step x y true true d e f = refl
 begins_step x y false false d e f = refl

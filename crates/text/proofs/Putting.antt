@@ -1,7 +1,7 @@
 -- Bytes written one part after another. Assumes nothing.
 --   then                                    what was written, and what was written after it, are written together
 --   wrote_length, rewrote, one_wrote        the buffer keeps its length; the same bytes; the same bytes at the same place leave one buffer
---   copied                                  a word, as a slice takes it
+--   word_more, copied                       a word: one byte more of it, and as a slice takes it
 --   wrote_start                             what was written from the start of a buffer stands there
 --   digits_most, count_most, written_most   a number takes at most 20 digits, and a minus
 --   puts, puts_then, puts_most, puts_as     what a writer puts; and more after it; at most so many bytes; the same bytes
@@ -9,18 +9,19 @@
 --   lines_more, lines_on_lem                one more line
 --   puts_start, puts_line                   a writer's lines: none so far, and one more
 --   lines_within, lines_most                lines of at most so many bytes: those below n, and all
+--   room_within, lines_room                 room for one more
 use mathlib.Core.Path.{◌≡◌, refl, sym, ◌∙◌, ap, subst}
 use mathlib.Core.Bool.{Bool, true, false, cond}
 use mathlib.Core.List.{List, [], ◌∷◌, ◌++◌}
 use Prim.Native.Nat.{ℕ, zero, suc, ◌+◌, ◌*◌, ◌/◌, ◌%◌, ◌≤◌, ◌<◌}
-use native.Mathlib.Nat.{suc-mul}
+use native.Mathlib.Nat.{suc-mul, mul-le-mul_right}
 use native.Mathlib.Numerals.{add-one}
 use native.Mathlib.Omega.{arith}
 use Rattle.std.proofs.Common.{append_assoc}
 use lib.Dec.{ltb}
-use lib.ListN.{length, take, drop, length-append}
+use lib.ListN.{length, get_or, take, drop, length-append}
 use borrow.Rule.Slice.PartMut.{put_mid}
-use lib.Seq.{drop-drop, sets, length-sets, sets-eq, take-append-le, take_all}
+use lib.Seq.{drop-drop, sets, length-sets, sets-eq, take-suc, take-append-le, take_all}
 use lib.IntN.{ℤ, pos, negsuc}
 use Rattle.exact.proofs.Filling.{sets_append}
 use Rattle.text.specs.Decimal.{digits, digits_of, written}
@@ -43,7 +44,11 @@ rewrote {a} {b} {at} {p} h w = subst (λ (zs : List ℕ). Wrote a at zs b p) h w
 pub one_wrote : {a b b' : List ℕ} {at p p' : ℕ} {xs : List ℕ} → Wrote a at xs b p → Wrote a at xs b' p' → (p ≡ p') × (b ≡ b')
 one_wrote w w' = (w.place ∙ sym w'.place, w.buffer ∙ sym w'.buffer)
 
--- a word, as a slice takes it
+-- ---- a word: one byte more of it, and as a slice takes it
+pub word_more : {a b c : List ℕ} {at p q : ℕ} (word : List ℕ) (i : ℕ) → i < length word → Wrote a at (take i word) b p → Wrote b p (get_or word i 0 ∷ []) c q
+    → Wrote a at (take (i + 1) word) c q
+word_more word i l f g = rewrote (sym (ap (λ (n : ℕ). take n word) (add-one i) ∙ take-suc word i 0 l)) (then f g)
+
 pub copied : (a word part : List ℕ) (at k : ℕ) → at + length word ≤ length a → k ≡ length word → part ≡ word
     → Wrote a at word (put_mid at k a part) (at + length word)
 copied a word part at k l e p = record { buffer = rw (e, p, sets-eq word a at l, drop-drop, append_assoc); place = refl }
@@ -128,6 +133,18 @@ lines_within (suc n) most line h =
 
 pub lines_most : (n most : ℕ) (line : ℕ → List ℕ) → ((i : ℕ) → length (line i) ≤ most) → length (in_order n line) ≤ n * most
 lines_most n most line h = lines_within n most line (λ i l. h i)
+
+-- room for one more line
+pub room_within :
+    {a b : List ℕ} {at p : ℕ} (n i most : ℕ) (line : ℕ → List ℕ) → ((j : ℕ) → j < n → length (line j) ≤ most) → at + n * most ≤ length a → i < n →
+    Wrote a at (in_order i line) b p → p + most ≤ length b
+room_within n i most line small room h w =
+    omega (arith, room, w.place, wrote_length w, lines_within i most line (λ j l. small j (omega arith)), mul-le-mul_right most h, suc-mul i most)
+
+pub lines_room :
+    {a b : List ℕ} {at p : ℕ} (n i most : ℕ) (line : ℕ → List ℕ) → ((j : ℕ) → length (line j) ≤ most) → at + n * most ≤ length a → i < n →
+    Wrote a at (in_order i line) b p → p + most ≤ length b
+lines_room n i most line small = room_within n i most line (λ j l. small j)
 
 -- what a writer's fields cite
 pub ruleset fields = (then, wrote_length, count_most, written_most, puts)
