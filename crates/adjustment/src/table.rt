@@ -1,7 +1,6 @@
 // Input checks of a lent condition table, `check` all of them in their order: 2 for counts and lengths, 3 by direction, 4 and 5 by condition.
 // (2 for counts is in `lib`, 3 in `direction`.)
-ghost use Rattle.std.specs.Prelude.{◌≡◌, ℕ, ◌+◌, ◌<◌, ◌*◌, ◌≤◌, length, get_or, pos, nat_abs, ltb, OnOk};
-ghost use Rattle.std.specs.List.{list_any};
+ghost use Rattle.std.specs.Prelude.{◌≡◌, ℕ, ◌+◌, ◌<◌, ◌*◌, ◌≤◌, length, get_or, pos, OnOk};
 ghost use Rattle.doolittle.specs.Table.{table_of};
 ghost use Rattle.adjustment.specs.Inner.{Checked};
 ghost use Rattle.adjustment.specs.Refusals.{differs, lengths_amiss, conditions_reply, input_reply};
@@ -47,20 +46,13 @@ fn lengths_amiss(
     q != m || a != n * m || differ(m, v, u, adjusted) || differ(n, k, r, s)
 }
 
-// Some coefficient of a condition is beyond 2,000.
-fn coefficient_fault(row: &[i64]) -> bool
-    ensures { result ≡ list_any (λ x. ltb 2000 (nat_abs x)) row.now }
-{
-    row.iter().any(|x| 2000 < exact::magnitude(*x))
-}
-
 // Refuses the first condition with a coefficient or a misclosure beyond its range, the coefficients first.
 fn check_conditions(q: &[i64], a: &[i64], w: &[i64]) -> Result<(), Refusal>
     requires { length a.now ≡ length w.now * length q.now }
     ensures { result ≡ conditions_reply (table_of q.now a.now w.now) }
 {
     for (j, x) in w.iter().enumerate() {
-        if coefficient_fault(row(a, j, q.len())) {
+        if exact::some_beyond(2000, row(a, j, q.len())) {
             return Err(Refusal::Coefficient(j as u64 + 1));
         }
         if 1_000_000 < exact::magnitude(*x) {

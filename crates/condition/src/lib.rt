@@ -57,7 +57,7 @@ pub fn coefficients(
     tally::add_terms(&mut tally, terms);
     // Number 0 is the fixed initial, and what it gets is dropped.
     let found = &tally[1..=directions.len()];
-    if tally::beyond(found) {
+    if exact::some_beyond(2000, found) {
         return Err(Refusal::Coefficient(1));
     }
     a.copy_from_slice(found);

@@ -1,7 +1,6 @@
 // The coefficients: a tally by direction number, 0 to 64, to which each term adds. Number 0 is the fixed initial, and what it gets is dropped.
 // The tally stands once, with `coefficients`, and is lent to what is here: 65 numbers are too many to copy for each term.
-ghost use Rattle.std.specs.Prelude.{◌≡◌, ℕ, ◌<◌, ◌≤◌, ltb, pos, nat_abs, ◌+ℤ◌, length, get_or};
-ghost use Rattle.std.specs.List.{list_any};
+ghost use Rattle.std.specs.Prelude.{◌≡◌, ℕ, ◌<◌, ◌≤◌, pos, nat_abs, ◌+ℤ◌, length, get_or};
 ghost use Rattle.exact.specs.Sum.{sum};
 ghost use Rattle.condition.specs.Terms.{placed, turned, share};
 ghost use Rattle.condition.specs.Listed.{count, listed};
@@ -60,11 +59,4 @@ pub fn add_terms(tally: &mut [i64], terms: Terms)
     for j in 0..terms.count() {
         add_term(tally, terms.at(j));
     }
-}
-
-// Whether one of the coefficients is beyond 2,000.
-pub fn beyond(coefficients: &[i64]) -> bool
-    ensures { result ≡ list_any (λ a. ltb 2000 (nat_abs a)) coefficients.now }
-{
-    coefficients.iter().any(|a| 2000 < exact::magnitude(*a))
 }

@@ -116,14 +116,6 @@ fn reduced(row: Row, rows: &[Row; 24], j: usize, n: usize) -> Row
     next
 }
 
-// Some coefficient of row j, from place j to place n, is larger than 2,560,000,000.
-fn some_large(row: &[i64], j: usize, n: usize) -> bool
-    requires { (j ≤ n) × (n ≤ length row.now) }
-    ensures { result ≡ some_below n (λ k. leb j k && ltb 2560000000 (nat_abs (at row.now k))) }
-{
-    (j..n).any(|k| 2560000000 < exact::magnitude(row[k]))
-}
-
 // nearest(-factor*x / D(j,j)): a multiplier, or a row's own part of its correlate.
 pub fn by_pivot(factor: i64, x: i64, pivot: i64) -> i64
     requires { (nat_abs factor ≤ 1000000) × (nat_abs x ≤ 4000000000) × (pos 0 <ℤ pivot) }
@@ -167,7 +159,7 @@ fn is_weak(row: Row, entry: i64, j: usize, n: usize, rows: &mut [Row; 24]) -> bo
     ensures multiplied { result ≡ false → From (suc j) n (λ k. cell rows.new k j ≡ multiplier (at row k) (at row j)) }
     ensures kept { Kept j rows.old rows.new }
 {
-    if some_large(&row, j, n)
+    if exact::some_beyond(2560000000, &row[j..n])
         || 4000000000 < exact::magnitude(row[CONSTANT])
         || is_low(row[j], entry)
     {

@@ -8,7 +8,7 @@
 --   first_either        of one test or another, where the first of the other is known
 --   from_failed, from_test, from_ext, from_none      a search that begins at j: whatever lies before j fails, from j on the test decides
 --   Failed, failed_none, failed_more       the loop's invariant: all below i fail
---   some_in_range, some_in_range_from, some_in_list     `some_below` is what std's `any` answers over `0..n`, over `j..n`, and over a list
+--   some_in_range, some_in_list, some_in_slice     `some_below` is what std's `any` answers over `0..n`, over a list, and over its places from j to n
 --   not_both            a test does not both hold and fail
 --   neither, either     where one test or the other does not hold, neither does; where the second holds, one or the other does
 use mathlib.Core.Path.{◌≡◌, refl, sym, ◌∙◌, ap, subst}
@@ -20,6 +20,8 @@ use borrow.Author.Tests.{lt-ltb, le-ltb, le-leb, lt-leb, ltb-false}
 use borrow.Author.Count.{below_more}
 use lib.Dec.{T, leb, ltb}
 use lib.ListN.{length, get_or}
+use Rattle.std.proofs.Common.{take, drop}
+use Rattle.std.proofs.lemmas.List.{length-take-le, length-drop, get_or-take, get_or-drop}
 use mathlib.Core.List.{List, [], ◌∷◌}
 use Rattle.std.specs.List.{list_any, range_with_len}
 use Rattle.std.proofs.lemmas.Bool.Decides.{nat_tests}
@@ -205,9 +207,6 @@ from_shifted (suc j) (suc n) p =
     ∙ from_shifted j n (λ k. p (suc k)) ∙ some_ext (n - j) (λ i. p (suc (j + i))) (λ i. p (suc j + i)) (λ i l. ap p (omega arith))
     ∙ ap (λ (m : ℕ). some_below m (λ i. p (suc j + i))) e
 
-pub some_in_range_from : (j n : ℕ) (p : ℕ → Bool) → some_below n (λ k. leb j k && p k) ≡ list_any p (range_with_len j (n - j))
-some_in_range_from j n p = from_shifted j n p ∙ some_from j (n - j) p
-
 pub some_in_list : {A : Type 0} (xs : List A) (p : A → Bool) (d : A) → some_below (length xs) (λ i. p (get_or xs i d)) ≡ list_any p xs
 unfolding first
 some_in_list [] p d = refl
@@ -219,3 +218,13 @@ some_in_list (x ∷ xs) p d = by_test (p x) (some_in_list xs p d)
     by_test : (b : Bool) → ltb rest (length xs) ≡ list_any p xs → ltb (cond b 0 (suc rest)) (suc (length xs)) ≡ (b || list_any p xs)
     by_test true r = lt-ltb 0 (suc (length xs)) (omega arith)
     by_test false r = ltb_suc rest (length xs) ∙ r
+
+pub some_in_slice : {A : Type 0} (xs : List A) (j n : ℕ) (p : A → Bool) (d : A) → j ≤ n → n ≤ length xs
+    → list_any p (take (n - j) (drop j xs)) ≡ some_below n (λ k. leb j k && p (get_or xs k d))
+some_in_slice xs j n p d a b =
+    let part = take (n - j) (drop j xs) in
+    let long : length part ≡ n - j = length-take-le (n - j) (drop j xs) (omega (arith, length-drop j xs)) in
+    sym (some_in_list part p d) ∙ ap (λ (m : ℕ). some_below m (λ i. p (get_or part i d))) long
+    ∙ some_ext (n - j) (λ i. p (get_or part i d)) (λ i. p (get_or xs (j + i) d))
+    (λ i l. ap p (get_or-take (n - j) (drop j xs) i d l ∙ get_or-drop j xs i d))
+    ∙ sym (from_shifted j n (λ k. p (get_or xs k d)))

@@ -1,7 +1,8 @@
 // Whole numbers, exactly: the steps on 64-bit numbers that every layer shares. Each says its value in ℤ; none can overflow.
 #![tactic(auto)]
 
-ghost use Rattle.std.specs.Prelude.{◌≡◌, ℤ, pos, nat_abs, ◌<ℤ◌};
+ghost use Rattle.std.specs.Prelude.{◌≡◌, ltb, ℤ, pos, nat_abs, ◌<ℤ◌};
+ghost use Rattle.std.specs.List.{list_any};
 ghost use Rattle.exact.specs.Nearest.{nearest};
 ghost use Rattle.exact.specs.Circle.{floor, modulo};
 ghost use Rattle.exact.specs.Outside.{outside};
@@ -51,4 +52,11 @@ pub fn outside(low: i64, high: i64, z: i64) -> bool
     ensures { result ≡ outside low high z }
 {
     !(low..=high).contains(&z)
+}
+
+// Some number of a list is larger than `most` in size.
+pub fn some_beyond(most: u64, xs: &[i64]) -> bool
+    ensures { result ≡ list_any (λ x. ltb most (nat_abs x)) xs.now }
+{
+    xs.iter().any(|x| most < magnitude(*x))
 }

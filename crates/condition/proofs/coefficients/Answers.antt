@@ -8,7 +8,7 @@ use Rattle.condition.proofs.Accepting.{Accepts, accepted}
 use Rattle.condition.proofs.Shares.{tally_none, tally_of, any_below, sound_among}
 use Rattle.condition.proofs.Answering.{no_room, not_checked, too_large, all_right, refused_kept, filled_kept}
 use Rattle.condition.proofs.coefficients.Goals as goal
-use Rattle.condition.proofs.coefficients.Goals.{In_ok-all, After-beyond}
+use Rattle.condition.proofs.coefficients.Goals.{In_ok-all, After-some_beyond}
 
 pub returns-then-a-directions : goal.returns-then-a-directions
 returns-then-a-directions c = refused_kept refl (no_room _ _ c.if-a-directions.true)
@@ -46,7 +46,7 @@ pub slice_bounds-found-end : goal.slice_bounds-found-end
 slice_bounds-found-end c = let m = few c.before.before.before.before in grind (arith, common_steps)
 
 -- ---- the tally, and its test
-module _ (c : After-beyond) where
+module _ (c : After-some_beyond) where
   abbrev s : In_ok-all
   s = c.before.before.before.before.before.before
 
@@ -54,12 +54,12 @@ module _ (c : After-beyond) where
   unfolding coefficient
   found = tally_of c.add_terms.new.tally _ _ (omega (arith, few s)) c.add_terms.ensures
 
-  test : c.beyond.result ≡ beyond (l s)
-  test = c.beyond.ensures ∙ rw found (any_below _ _ _)
+  test : c.some_beyond.result ≡ beyond (l s)
+  test = c.some_beyond.ensures ∙ rw found (any_below _ _ _)
 
-pub returns-then-beyond : goal.returns-then-beyond
-returns-then-beyond c =
-    let b = c.before in refused_kept refl (too_large (l (s b)) _ c.if-a-directions.false (passed (s b)) (sym (test b) ∙ c.if-beyond.true))
+pub returns-then-some_beyond : goal.returns-then-some_beyond
+returns-then-some_beyond c =
+    let b = c.before in refused_kept refl (too_large (l (s b)) _ c.if-a-directions.false (passed (s b)) (sym (test b) ∙ c.if-some_beyond.true))
 
 pub copy_from_slice-requires : goal.copy_from_slice-requires
 copy_from_slice-requires c = rw (found c.before.before, tabulate_length) c.if-a-directions.false
@@ -67,4 +67,4 @@ copy_from_slice-requires c = rw (found c.before.before, tabulate_length) c.if-a-
 pub returns : goal.returns
 returns c =
     let b = c.before.before.before.before in
-    filled_kept (all_right (l (s b)) _ c.if-a-directions.false (passed (s b)) (sym (test b) ∙ c.if-beyond.false)) (c.copy_from_slice.ensures.after ∙ found b)
+    filled_kept (all_right (l (s b)) _ c.if-a-directions.false (passed (s b)) (sym (test b) ∙ c.if-some_beyond.false)) (c.copy_from_slice.ensures.after ∙ found b)
