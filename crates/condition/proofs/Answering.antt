@@ -4,7 +4,7 @@
 --   kept, filled                        what the list holds after a refusal, and after acceptance
 --   coefficients_kept, misclosure_kept  the answers of the rules keep the promises
 --   refused_kept, filled_kept           so do a refusal that leaves the list as it was, and an acceptance with the coefficients in it
---   misclosed                           and past the checks w, judged by its range
+--   misclosure_refused, misclosed       so do a refusal by the checks, and past them w, judged by its range
 --   refusal_leaves_list                 and a refusal that keeps the promise leaves the lent list as it was
 use mathlib.Core.Path.{◌≡◌, sym, ◌∙◌, ap}
 use mathlib.Core.Bool.{true, false}
@@ -70,6 +70,10 @@ refused_kept {l} {before} {reply} {why} r e = coefficients_kept (r ∙ sym e) (s
 pub filled_kept : {l : Lent} {before after : List ℤ} → coefficients_reply l (length before) ≡ Ok tt
     → after ≡ tabulate (length l.directions) (λ h. coefficient l (h + 1)) → Coefficients l before (Ok tt) after
 filled_kept {l} {before} e f = coefficients_kept (sym e) (f ∙ sym (filled l before e))
+
+pub misclosure_refused : {l : Lent} {figure : Figure} {why : Refusal} → figure ≡ Err why → checks l ≡ Err why → Misclosed l figure
+unfolding misclosure_figure
+misclosure_refused r e = misclosure_kept (rw e r)
 
 -- past the checks: w of the rule, and its range
 pub misclosed : {l : Lent} {figure : Figure} {kind : Kind} {total : ℤ} → checks l ≡ Ok tt → l.kind ≡ kind

@@ -6,7 +6,9 @@
 --   share_sum                             over all directions, number 0 counted in, a term adds nothing
 --   coefficients_sum                      and so do the coefficients of a whole condition
 --   sound_among                           a term that is sound among m directions is sound among more
-use mathlib.Core.Path.{◌≡◌, refl, sym, ◌∙◌, subst}
+--   passed_sound, passed_sum              the terms that the checks answer are sound, and are those that were lent
+--   passed_coefficients, passed_test      what their tally holds of directions 1 to m, and the test of it
+use mathlib.Core.Path.{◌≡◌, refl, sym, ◌∙◌, ap, subst}
 use mathlib.Core.Bool.{Bool, true, false, cond, ◌||◌}
 use mathlib.Core.List.{List}
 use Prim.Native.Nat.{ℕ, zero, suc, ◌<◌, ◌≤◌}
@@ -23,14 +25,16 @@ use Rattle.std.proofs.lemmas.Bool.Decides.{nat_tests}
 use Rattle.exact.specs.First.{first, some_below}
 use Rattle.exact.specs.Tabulate.{tabulate}
 use Rattle.exact.specs.Sum.{sum}
-use Rattle.exact.proofs.Filling.{tabulate_is}
+use Rattle.exact.proofs.Filling.{tabulate_is, tabulate_ext}
 use Rattle.exact.proofs.Bound.{abs_add, abs_neg}
 use Rattle.exact.proofs.Sum.{sum_ext, sum_add, sum_zero, sum_only, sum_swap, sum_abs}
 use Rattle.condition.specs.declared.term.Letter.{Letter}
 use Rattle.condition.specs.declared.term.Letter.TheVariants.{P, F, L, R}
 use Rattle.condition.specs.declared.term.Term.{Term}
 use Rattle.condition.specs.Terms.{placed, turned, share_of, share}
-use Rattle.condition.specs.Rules.{Lent, term, checks, coefficient}
+use Rattle.condition.specs.declared.terms.Terms.{Terms}
+use Rattle.condition.specs.Rules.{Lent, term, checks, coefficient, beyond}
+use Rattle.condition.specs.Listed.{count, listed, Passed}
 use Rattle.condition.specs.Sound.{Number, Ends, SideTerm, SoundOf, Sound, AllSound}
 use Rattle.condition.proofs.Accepting.{accepted}
 use Rattle.std.specs.Prelude.{Ok, Option, Some, None}
@@ -149,3 +153,21 @@ module _ (m r : ℕ) (t : Term) (more : m ≤ r) where
 
   pub sound_among : Sound m t → Sound r t
   sound_among s = wider_of_kind t.letter s
+
+-- ---- the terms that the checks answer
+module _ {l : Lent} {t : Terms} (p : Passed l t) where
+  pub passed_sound : AllSound (length l.directions) (count t) (listed t)
+  passed_sound j k =
+      subst (λ (f : ℕ → Term). Sound (length l.directions) (f j)) (sym p.listed) ((accepted l p.checked).terms j (omega (arith, p.count)))
+
+  pub passed_sum : (f : Term → ℤ) → sum (count t) (λ j. f (listed t j)) ≡ sum (length l.kinds) (λ j. f (term l j))
+  passed_sum f = λ i. sum (p.count i) (λ j. f (p.listed i j))
+
+  module _ (sums found : List ℤ) where
+    pub passed_coefficients : ((n : ℕ) → get_or sums n (pos 0) ≡ sum (count t) (λ j. share (listed t j) n))
+        → found ≡ tabulate (length l.directions) (λ h. get_or sums (h + 1) (pos 0)) → found ≡ tabulate (length l.directions) (λ h. coefficient l (h + 1))
+    unfolding coefficient
+    passed_coefficients s e = e ∙ tabulate_ext (length l.directions) _ _ (λ h k. s (h + 1) ∙ passed_sum (λ t. share t (h + 1)))
+
+    pub passed_test : found ≡ tabulate (length l.directions) (λ h. coefficient l (h + 1)) → list_any (λ x. ltb 2000 (nat_abs x)) found ≡ beyond l
+    passed_test e = ap (list_any (λ x. ltb 2000 (nat_abs x))) e ∙ any_below _ _ _

@@ -1,7 +1,7 @@
 // The checks that both operations make, in the order of the rules.
 ghost use Rattle.std.specs.Prelude.{◌≡◌};
-ghost use Rattle.condition.specs.Rules.{lent, directions_miscounted, terms_miscounted, target_check, terms_check, checks};
-ghost use Rattle.condition.specs.Listed.{count, listed};
+ghost use Rattle.condition.specs.Rules.{lent, directions_miscounted, terms_miscounted, target_check, terms_check};
+ghost use Rattle.condition.specs.Listed.{count, listed, Checked};
 
 use crate::terms::Terms;
 use crate::{Kind, term};
@@ -45,22 +45,22 @@ fn terms_check(kind: Kind, m: i64, terms: Terms) -> Result<(), Refusal>
     Ok(())
 }
 
-// All checks, in the order of the rules. Both operations make them, and these alone decide refusals 1 to 3.
+// All checks, in the order of the rules; and what they accept, the terms as one. Both operations make them, and these alone decide refusals 1 to 3.
 #[tactic(auto, using(crate::proofs::Accepting::as_many_q, crate::proofs::Accepting::terms_counted), unfolding(crate::specs::Rules::checks))]
-pub fn all(
+pub fn all<'a>(
     directions: &[i64],
     q: &[i64],
     kind: Kind,
     target: i64,
-    kinds: &[i64],
-    values: &[i64],
-    d: &[i64],
-    i: &[i64],
-    k: &[i64],
-) -> Result<(), Refusal>
-    ensures { result ≡ checks
+    kinds: &'a [i64],
+    values: &'a [i64],
+    d: &'a [i64],
+    i: &'a [i64],
+    k: &'a [i64],
+) -> Result<Terms<'a>, Refusal>
+    ensures { Checked
         (lent directions.now q.now kind target
-        kinds.now values.now d.now i.now k.now) }
+        kinds.now values.now d.now i.now k.now) result }
 {
     if directions_miscounted(directions.len(), q.len())
         || terms_miscounted(kinds.len(), values.len(), d.len(), i.len(), k.len())
@@ -76,5 +76,6 @@ pub fn all(
         i,
         k,
     };
-    terms_check(kind, directions.len() as i64, terms)
+    terms_check(kind, directions.len() as i64, terms)?;
+    Ok(terms)
 }

@@ -12,58 +12,61 @@ use crate::term::{Letter, Term};
 use crate::terms::Terms;
 use reply::Refusal;
 
-// The value of a direction number: number 0 is the fixed initial, 1 to m stand in the list.
-fn direction(directions: &[i64], number: i64) -> i64
-    requires { Number (length directions.now) number }
-    ensures { result ≡ direction_at directions.now (nat_abs number) }
-{
-    if number == 0 {
-        0
-    } else {
-        directions[number as usize - 1]
-    }
+// The directions 1 to m of a net, each within the circle.
+#[derive(Clone, Copy)]
+pub struct Directions<'a> {
+    pub values: &'a [i64],
+    ghost small: { Within 1296000000 values.now },
 }
 
-// The angle from direction i to direction k.
-#[tactic(auto, unfolding(crate::specs::Terms::angle))]
-fn angle(directions: &[i64], t: Term) -> i64
-    requires ends { Ends (length directions.now) t }
-    requires small { Within 1296000000 directions.now }
-    ensures { result ≡ angle directions.now t }
-{
-    exact::modulo(
-        direction(directions, t.k) - direction(directions, t.i),
-        direction::CIRCLE,
-    )
-}
-
-// What one term adds: an angle, a fixed angle, or a logarithm, on the right with its sign turned.
-#[tactic(auto, unfolding(crate::specs::Terms::part))]
-fn part(directions: &[i64], t: Term) -> i64
-    requires term { Sound (length directions.now) t }
-    requires small { Within 1296000000 directions.now }
-    ensures { result ≡ part directions.now t }
-{
-    match t.letter {
-        Some(Letter::P) => angle(directions, t),
-        Some(Letter::F | Letter::L) => t.value,
-        Some(Letter::R) => -t.value,
-        None => 0,
+impl<'a> Directions<'a> {
+    // The value of a direction number: number 0 is the fixed initial, 1 to m stand in the list.
+    fn at(self, number: i64) -> i64
+        requires { Number (length self.values.now) number }
+        ensures { result ≡ direction_at self.entry.values.now (nat_abs number) }
+    {
+        if number == 0 {
+            0
+        } else {
+            self.values[number as usize - 1]
+        }
     }
-}
 
-// What all terms add.
-#[tactic(auto, using(exact::proofs::Sum::sum_none))]
-pub fn total(directions: &[i64], terms: Terms) -> i64
-    requires small { Within 1296000000 directions.now }
-    requires sound { AllSound (length directions.now) (count terms) (listed terms) }
-    ensures { result ≡ sum (count terms.entry) (λ j. part directions.now (listed terms.entry j)) }
-{
-    let mut total = 0;
-    for j in 0..terms.count() {
-        total += part(directions, terms.at(j));
+    // The angle from direction i to direction k.
+    #[tactic(auto, unfolding(crate::specs::Terms::angle))]
+    fn angle(self, t: Term) -> i64
+        requires { Ends (length self.values.now) t }
+        ensures { result ≡ angle self.entry.values.now t }
+    {
+        exact::modulo(self.at(t.k) - self.at(t.i), direction::CIRCLE)
     }
-    total
+
+    // What one term adds: an angle, a fixed angle, or a logarithm, on the right with its sign turned.
+    #[tactic(auto, unfolding(crate::specs::Terms::part))]
+    fn part(self, t: Term) -> i64
+        requires { Sound (length self.values.now) t }
+        ensures { result ≡ part self.entry.values.now t }
+    {
+        match t.letter {
+            Some(Letter::P) => self.angle(t),
+            Some(Letter::F | Letter::L) => t.value,
+            Some(Letter::R) => -t.value,
+            None => 0,
+        }
+    }
+
+    // What all terms add.
+    #[tactic(auto, using(exact::proofs::Sum::sum_none))]
+    pub fn total(self, terms: Terms) -> i64
+        requires { AllSound (length self.values.now) (count terms) (listed terms) }
+        ensures { result ≡ sum (count terms.entry) (λ j. part self.entry.values.now (listed terms.entry j)) }
+    {
+        let mut total = 0;
+        for j in 0..terms.count() {
+            total += self.part(terms.at(j));
+        }
+        total
+    }
 }
 
 // The answer for a misclosure w, which is refused beyond its range.

@@ -6,8 +6,9 @@ ghost use Rattle.condition.specs.Rules.{lent, target_fault};
 ghost use Rattle.condition.specs.Promise.{Coefficients, Misclosed};
 ghost use Rattle.condition.specs.Terms.{term_fault};
 
+use crate::closing::Directions;
+use crate::tally::{NUMBERS, Tally};
 use crate::term::Term;
-use crate::terms::Terms;
 use reply::Refusal;
 
 mod checks;
@@ -45,18 +46,10 @@ pub fn coefficients(
     if a.len() != directions.len() {
         return Err(Refusal::Count(0));
     }
-    checks::all(directions, q, kind, target, kinds, values, d, i, k)?;
-    let terms = Terms {
-        kinds,
-        values,
-        d,
-        i,
-        k,
-    };
-    let mut tally = [0; 65];
-    tally::add_terms(&mut tally, terms);
-    // Number 0 is the fixed initial, and what it gets is dropped.
-    let found = &tally[1..=directions.len()];
+    let terms = checks::all(directions, q, kind, target, kinds, values, d, i, k)?;
+    let mut tally = Tally { sums: [0; NUMBERS] };
+    tally.add_terms(terms);
+    let found = tally.coefficients(directions.len());
     if exact::some_beyond(2000, found) {
         return Err(Refusal::Coefficient(1));
     }
@@ -108,15 +101,9 @@ pub fn misclosure(
         (lent directions.now q.now kind target
         kinds.now values.now d.now i.now k.now) result }
 {
-    checks::all(directions, q, kind, target, kinds, values, d, i, k)?;
-    let terms = Terms {
-        kinds,
-        values,
-        d,
-        i,
-        k,
-    };
-    let total = closing::total(directions, terms);
+    let terms = checks::all(directions, q, kind, target, kinds, values, d, i, k)?;
+    let directions = Directions { values: directions };
+    let total = directions.total(terms);
     match kind {
         Kind::Angle => closing::judged(total - target),
         Kind::Side => closing::judged(100 * total),

@@ -1,7 +1,8 @@
 // The coefficients: a tally by direction number, 0 to 64, to which each term adds. Number 0 is the fixed initial, and what it gets is dropped.
 // The tally stands once, with `coefficients`, and is lent to what is here: 65 numbers are too many to copy for each term.
-ghost use Rattle.std.specs.Prelude.{◌≡◌, ℕ, ◌<◌, ◌≤◌, pos, nat_abs, ◌+ℤ◌, length, get_or};
+ghost use Rattle.std.specs.Prelude.{◌≡◌, ℕ, ◌+◌, ◌<◌, ◌≤◌, pos, nat_abs, ◌+ℤ◌, get_or};
 ghost use Rattle.exact.specs.Sum.{sum};
+ghost use Rattle.exact.specs.Tabulate.{tabulate};
 ghost use Rattle.condition.specs.Terms.{placed, turned, share};
 ghost use Rattle.condition.specs.Listed.{count, listed};
 ghost use Rattle.condition.specs.Sound.{Ends, Sound, AllSound};
@@ -10,53 +11,69 @@ ghost use Rattle.exact.specs.Within.{Within};
 use crate::term::{Letter, Term};
 use crate::terms::Terms;
 
-// x more at the number h.
-#[tactic(auto, using(crate::proofs::Shares::placed_more))]
-fn add(tally: &mut [i64], h: usize, x: i64)
-    requires place { h < length tally.old }
-    requires small { (Within 50000 tally.old) × (nat_abs x ≤ 2000) }
-    ensures { (n : ℕ) → get_or tally.new n (pos 0) ≡ get_or tally.old n (pos 0) +ℤ placed h x n }
-{
-    tally[h] += x;
+// The direction numbers of the largest net.
+pub const NUMBERS: usize = 65;
+
+// What stands at each direction number. The bounds of its sums change from step to step, and are asked where they are needed.
+#[derive(Drop)]
+pub struct Tally {
+    pub sums: [i64; NUMBERS],
 }
 
-// An angle from i to k with the factor x: x less at i, x more at k.
-#[tactic(auto, using(crate::proofs::Shares::placed_size))]
-fn turn(tally: &mut [i64], x: i64, t: Term)
-    requires ends { Ends 64 t }
-    requires whole { length tally.old ≡ 65 }
-    requires small { (Within 48000 tally.old) × (nat_abs x ≤ 2000) }
-    ensures { (n : ℕ) → get_or tally.new n (pos 0) ≡ get_or tally.old n (pos 0) +ℤ turned x t n }
-{
-    add(tally, t.i as usize, -x);
-    add(tally, t.k as usize, x);
-}
-
-// What one term adds. A fixed angle adds nothing, and its i and k are not read.
-#[tactic(auto, unfolding(crate::specs::Terms::share))]
-fn add_term(tally: &mut [i64], t: Term)
-    requires term { Sound 64 t }
-    requires whole { length tally.old ≡ 65 }
-    requires small { Within 48000 tally.old }
-    ensures { (n : ℕ) → get_or tally.new n (pos 0) ≡ get_or tally.old n (pos 0) +ℤ share t n }
-{
-    match t.letter {
-        Some(Letter::P) => turn(tally, 100, t),
-        Some(Letter::L) => turn(tally, t.d, t),
-        Some(Letter::R) => turn(tally, -t.d, t),
-        Some(Letter::F) | None => {}
+impl Tally {
+    // x more at the number h.
+    #[tactic(auto, using(crate::proofs::Shares::placed_more))]
+    fn add(&mut self, h: usize, x: i64)
+        requires place { h < 65 }
+        requires small { (Within 50000 self.old.sums) × (nat_abs x ≤ 2000) }
+        ensures { (n : ℕ) → get_or self.new.sums n (pos 0) ≡ get_or self.old.sums n (pos 0) +ℤ placed h x n }
+    {
+        self.sums[h] += x;
     }
-}
 
-// All terms, into a tally of zeros.
-#[tactic(auto, using(exact::proofs::Sum::sum_none, exact::proofs::Sum::sum_more))]
-pub fn add_terms(tally: &mut [i64], terms: Terms)
-    requires whole { length tally.old ≡ 65 }
-    requires zeros { (n : ℕ) → get_or tally.old n (pos 0) ≡ pos 0 }
-    requires sound { AllSound 64 (count terms) (listed terms) }
-    ensures { (n : ℕ) → get_or tally.new n (pos 0) ≡ sum (count terms.entry) (λ j. share (listed terms.entry j) n) }
-{
-    for j in 0..terms.count() {
-        add_term(tally, terms.at(j));
+    // An angle from i to k with the factor x: x less at i, x more at k.
+    #[tactic(auto, using(crate::proofs::Shares::placed_size))]
+    fn turn(&mut self, x: i64, t: Term)
+        requires ends { Ends 64 t }
+        requires small { (Within 48000 self.old.sums) × (nat_abs x ≤ 2000) }
+        ensures { (n : ℕ) → get_or self.new.sums n (pos 0) ≡ get_or self.old.sums n (pos 0) +ℤ turned x t n }
+    {
+        self.add(t.i as usize, -x);
+        self.add(t.k as usize, x);
+    }
+
+    // What one term adds. A fixed angle adds nothing, and its i and k are not read.
+    #[tactic(auto, unfolding(crate::specs::Terms::share))]
+    fn add_term(&mut self, t: Term)
+        requires term { Sound 64 t }
+        requires small { Within 48000 self.old.sums }
+        ensures { (n : ℕ) → get_or self.new.sums n (pos 0) ≡ get_or self.old.sums n (pos 0) +ℤ share t n }
+    {
+        match t.letter {
+            Some(Letter::P) => self.turn(100, t),
+            Some(Letter::L) => self.turn(t.d, t),
+            Some(Letter::R) => self.turn(-t.d, t),
+            Some(Letter::F) | None => {}
+        }
+    }
+
+    // All terms, into a tally of zeros.
+    #[tactic(auto, using(exact::proofs::Sum::sum_none, exact::proofs::Sum::sum_more))]
+    pub fn add_terms(&mut self, terms: Terms)
+        requires zeros { (n : ℕ) → get_or self.old.sums n (pos 0) ≡ pos 0 }
+        requires sound { AllSound 64 (count terms) (listed terms) }
+        ensures { (n : ℕ) → get_or self.new.sums n (pos 0) ≡ sum (count terms.entry) (λ j. share (listed terms.entry j) n) }
+    {
+        for j in 0..terms.count() {
+            self.add_term(terms.at(j));
+        }
+    }
+
+    // The coefficients of directions 1 to m.
+    pub fn coefficients(&self, m: usize) -> &[i64]
+        requires { m ≤ 64 }
+        ensures { result.now ≡ tabulate m (λ h. get_or self.now.sums (h + 1) (pos 0)) }
+    {
+        &self.sums[1..=m]
     }
 }

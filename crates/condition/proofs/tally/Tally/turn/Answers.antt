@@ -1,8 +1,8 @@
--- `condition::tally::turn`: x less at i, and x more at k.
+-- `condition::tally::Tally::turn`: x less at i, and x more at k.
 use Rattle.std.proofs.Common.{◌≡◌, ◌-ℤ◌, pos, to_z, of_z, w64, FitsSigned, arith, rules}
 use Rattle.std.specs.Prelude.{neg_ℤ}
 use Rattle.std.proofs.lemmas.Int.{ints, to_z-of_z}
-use Rattle.condition.proofs.tally.turn.Goals as goal
+use Rattle.condition.proofs.tally.Tally.turn.Goals as goal
 
 pub returns : goal.returns
 returns c n =

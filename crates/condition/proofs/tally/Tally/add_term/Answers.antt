@@ -1,9 +1,9 @@
--- `condition::tally::add_term`: a right side term turns the other way.
+-- `condition::tally::Tally::add_term`: a right side term turns the other way.
 use Rattle.std.proofs.Common.{◌≡◌, ◌≤◌, ◌-ℤ◌, pos, to_z, of_z, w64, arith, rules}
 use Rattle.std.specs.Prelude.{neg_ℤ, nat_abs}
 use Rattle.std.proofs.lemmas.Int.{ints}
 use Rattle.condition.specs.Terms.{share}
-use Rattle.condition.proofs.tally.add_term.Goals as goal
+use Rattle.condition.proofs.tally.Tally.add_term.Goals as goal
 
 pub returns-in-Some-R : goal.returns-in-Some-R
 unfolding share

@@ -1,9 +1,0 @@
--- `condition::tally::add_terms`: the tally holds what the terms passed add.
-use Rattle.std.specs.Prelude.{◌≡◌, ℕ, length, get_or, pos}
-use Rattle.exact.specs.Sum.{sum}
-use Rattle.condition.specs.Terms.{share}
-use Rattle.condition.specs.Listed.{listed}
-use Rattle.condition.proofs.tally.add_terms.Given as goal
-
-abbrev pub invariant-loop-j : goal.invariant-loop-j
-invariant-loop-j l = (length l.tally ≡ 65) × ((n : ℕ) → get_or l.tally n (pos 0) ≡ sum l.j (λ j. share (listed l.terms j) n))
