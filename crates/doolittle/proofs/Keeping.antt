@@ -1,25 +1,24 @@
 -- The rows in their one table, as one row after another is written. Assumes nothing.
---   zero_rows                       the rows before anything is written
 --   row_put                         the rows, one of them replaced
 --   kept_none, kept_put, kept_then  what a function leaves as it was: nothing written, one row replaced, one step after another
 --   column_more                     a column of the rows, written downwards, one number more
 --   rows_kept                       the first rows of a table stay its first rows
-use mathlib.Core.Path.{◌≡◌, refl, sym, ◌∙◌, ap, subst}
+use mathlib.Core.Path.{◌≡◌, refl, sym, ◌∙◌, subst}
 use mathlib.Core.List.{List, []}
 use Prim.Native.Nat.{ℕ, suc, ◌+◌, ◌≤◌, ◌<◌}
 use native.Mathlib.Decide.{ℕ_discrete}
 use native.Mathlib.Omega.{arith}
 use borrow.Author.Count.{below_more}
-use lib.ListN.{length, set, replicate, length-set, length-replicate, get_or-replicate}
+use lib.ListN.{length, set, length-set}
 use lib.Seq.{get_or-set_same, get_or-set_other}
 use lib.IntN.{ℤ, pos}
 use Rattle.doolittle.specs.Table.{Table, at}
-use Rattle.doolittle.specs.Inner.{From, Before, Shaped, Kept, Rows, row_at, cell}
+use Rattle.doolittle.specs.Inner.{From, Before, Kept, Rows, row_at, cell}
 
-module _ (rows : List (List ℤ)) (shape : Shaped rows) where
-  module _ (g : ℕ) (row : List ℤ) (l : g < 24) where
+module _ (rows : List (List ℤ)) where
+  module _ (g : ℕ) (row : List ℤ) (l : g < length rows) where
     pub row_put : row_at (set rows g row) g ≡ row
-    row_put = get_or-set_same rows g row [] (omega (arith, shape.long))
+    row_put = get_or-set_same rows g row [] l
 
     -- what holds of a row as it was, and of the new row at its place, holds of it now
     row_cases : (P : ℕ → List ℤ → Type 0) → P g row → (h : ℕ) → P h (row_at rows h) → P h (row_at (set rows g row) h)
@@ -29,15 +28,15 @@ module _ (rows : List (List ℤ)) (shape : Shaped rows) where
         pick (yes e) = subst (λ (i : ℕ). P i (row_at (set rows g row) i)) (sym e) (rw row_put new)
         pick (no n) = rw (get_or-set_other rows g h row [] n) old
 
-    pub kept_put : (j : ℕ) → j ≤ g → length row ≡ 25 → Before j (row_at rows g) row → Kept j rows (set rows g row)
-    kept_put j b w e = record {
-      shape = record { long = length-set rows g row ∙ shape.long; wide = λ h k. row_cases (λ h r. length r ≡ 25) w h (shape.wide h k) };
+    pub kept_put : (j : ℕ) → j ≤ g → Before j (row_at rows g) row → Kept j rows (set rows g row)
+    kept_put j b e = record {
+      long = length-set rows g row;
       above = λ h k. get_or-set_other rows g h row [] (λ f. omega arith);
       left = λ h k m. row_cases (λ h r. at r k ≡ cell rows h k) (e k m) h refl;
     }
 
   -- place j of the rows from j + 1 on
-  module _ (j k : ℕ) (f : ℕ → ℤ) (x : ℤ) (w : j < 25) (l : k < 24) where
+  module _ (j k : ℕ) (f : ℕ → ℤ) (x : ℤ) (w : j < length (row_at rows k)) (l : k < length rows) where
     abbrev next : List (List ℤ)
     next = set rows k (set (row_at rows k) j x)
 
@@ -45,22 +44,15 @@ module _ (rows : List (List ℤ)) (shape : Shaped rows) where
     column_more c e h b a =
         below_more (λ h. suc j ≤ h → cell next h j ≡ f h) k
         (λ h m b. rw (get_or-set_other rows k h (set (row_at rows k) j x) [] (λ e. omega arith)) (c h b m))
-        (λ b. rw (row_put k (set (row_at rows k) j x) l) (get_or-set_same (row_at rows k) j x (pos 0) (omega (arith, shape.wide k l)) ∙ e))
+        (λ b. rw (row_put k (set (row_at rows k) j x) l) (get_or-set_same (row_at rows k) j x (pos 0) w ∙ e))
         h a b
 
   pub kept_none : (j : ℕ) → Kept j rows rows
-  kept_none j = record { shape = shape; above = λ h l. refl; left = λ h k l. refl }
-
--- the rows before anything is written
-pub zero_rows : Shaped (replicate 24 (replicate 25 (pos 0)))
-zero_rows = record {
-  long = length-replicate 24 (replicate 25 (pos 0));
-  wide = λ h l. ap length (get_or-replicate 24 h (replicate 25 (pos 0)) [] l) ∙ length-replicate 25 (pos 0);
-}
+  kept_none j = record { long = refl; above = λ h l. refl; left = λ h k l. refl }
 
 pub kept_then : {j : ℕ} {rows next last : List (List ℤ)} → Kept j rows next → Kept j next last → Kept j rows last
 kept_then a b = record {
-  shape = b.shape;
+  long = b.long ∙ a.long;
   above = λ h l. b.above h l ∙ a.above h l;
   left = λ h k l. b.left h k l ∙ a.left h k l;
 }

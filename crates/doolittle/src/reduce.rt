@@ -1,12 +1,12 @@
 // The normals and the reduced rows. A row is formed direction by direction; every row above it adds its part, each product once; then it is tested, and its
 // multipliers go into the rows below it.
-ghost use Rattle.std.specs.Prelude.{◌≡◌, false, ◌&&◌, ℕ, suc, ◌≤◌, ◌<◌, length, pos, neg_ℤ, nat_abs, ◌+ℤ◌, ◌*ℤ◌, ◌<ℤ◌, ltb, leb};
+ghost use Rattle.std.specs.Prelude.{◌≡◌, false, ◌&&◌, ℕ, suc, ◌≤◌, ◌<◌, length, pos, neg_ℤ, nat_abs, ◌+ℤ◌, ◌*ℤ◌, ◌<ℤ◌, ltb, leb, set};
 ghost use Rattle.exact.specs.Nearest.{nearest};
 ghost use Rattle.exact.specs.First.{some_below};
 ghost use Rattle.doolittle.specs.Table.{at};
 ghost use Rattle.doolittle.specs.Solution.{N, carried, multiplier, low_pivot, weak_row};
 ghost use Rattle.doolittle.specs.Lent.{table_in};
-ghost use Rattle.doolittle.specs.Inner.{CONSTANT, From, Before, RowWithin, Holds, Shaped, Kept, Reduced, share, with_above, row_at, cell};
+ghost use Rattle.doolittle.specs.Inner.{CONSTANT, From, Before, RowWithin, Holds, Kept, Reduced, share, with_above, row_at, cell};
 
 use crate::SoundTable;
 
@@ -100,16 +100,29 @@ fn with_above(x: i64, rows: &[Row; 24], j: usize, k: usize) -> i64
     s
 }
 
+// x at a place of a row. That the row has 25 places is said here, by its type: of an array of rows the checker knows how many there are, and not how long.
+fn put(row: &mut Row, place: usize, x: i64)
+    requires { place < 25 }
+    ensures long { length row.old ≡ 25 }
+    ensures stored { row.new ≡ set row.old place x }
+{
+    row[place] = x;
+}
+
 // Row j with all rows above it taken, behind their multipliers.
 fn reduced(row: Row, rows: &[Row; 24], j: usize, n: usize) -> Row
-    requires places { (j < n) × (n ≤ 24) × Shaped rows.now }
+    requires places { (j < n) × (n ≤ 24) }
     requires own { RowWithin 2560000000 j n row }
     requires above { (i : ℕ) → i < j → (nat_abs (cell rows.now j i) ≤ 1000000000) × RowWithin 4000000000 j n (row_at rows.now i) }
     ensures holds { Holds j n (λ k. with_above (at row k) rows.now j k) (with_above (at row CONSTANT) rows.now j CONSTANT) result }
     ensures before { Before j (row_at rows.now j) result }
 {
     let mut next = rows[j];
-    next[CONSTANT] = with_above(row[CONSTANT], rows, j, CONSTANT);
+    put(
+        &mut next,
+        CONSTANT,
+        with_above(row[CONSTANT], rows, j, CONSTANT),
+    );
     for k in j..n {
         next[k] = with_above(row[k], rows, j, k);
     }
@@ -127,7 +140,7 @@ pub fn by_pivot(factor: i64, x: i64, pivot: i64) -> i64
 // The multipliers M(j,k) of row j, each into its place in row k, up to the first that is larger than 10^9; whether one is.
 // A bool and no Result: the rules' test of a row is one yes or no, of which this is the last part.
 fn multiply(row: Row, j: usize, n: usize, rows: &mut [Row; 24]) -> bool
-    requires places { (j < n) × (n ≤ 24) × Shaped rows.old }
+    requires places { (j < n) × (n ≤ 24) }
     requires own { From j n (λ k. nat_abs (at row k) ≤ 2560000000) × (pos 0 <ℤ at row j) }
     ensures value { result ≡ some_below n (λ k. ltb j k && ltb 1000000000 (nat_abs (multiplier (at row k) (at row j)))) }
     ensures multiplied { result ≡ false → From (suc j) n (λ k. cell rows.new k j ≡ multiplier (at row k) (at row j)) }
@@ -138,7 +151,7 @@ fn multiply(row: Row, j: usize, n: usize, rows: &mut [Row; 24]) -> bool
         if 1000000000 < exact::magnitude(m) {
             return true;
         }
-        rows[k][j] = m;
+        put(&mut rows[k], j, m);
     }
     false
 }
@@ -154,7 +167,7 @@ fn is_low(pivot: i64, entry: i64) -> bool
 // The one test of row j, each part as soon as what it tests is complete. `entry` is its N(j,j). The multipliers of a row that is not weak go into the rows
 // below it.
 fn is_weak(row: Row, entry: i64, j: usize, n: usize, rows: &mut [Row; 24]) -> bool
-    requires { (j < n) × (n ≤ 24) × Shaped rows.old }
+    requires { (j < n) × (n ≤ 24) }
     ensures value { result ≡ weak_row n j entry (at row) (at row CONSTANT) }
     ensures multiplied { result ≡ false → From (suc j) n (λ k. cell rows.new k j ≡ multiplier (at row k) (at row j)) }
     ensures kept { Kept j rows.old rows.new }
@@ -170,7 +183,6 @@ fn is_weak(row: Row, entry: i64, j: usize, n: usize, rows: &mut [Row; 24]) -> bo
 
 // All rows in their order, up to the first weak one, into the triangle, with their multipliers; or the first weak one, counted from 0.
 pub fn reduce(table: SoundTable, rows: &mut [Row; 24]) -> Result<(), usize>
-    requires { Shaped rows.old }
     ensures { Reduced (table_in table.entry) rows.new result }
 {
     let n = table.w.len();
