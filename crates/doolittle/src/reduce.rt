@@ -38,9 +38,8 @@ pub fn plus_product(s: i64, x: i64, y: i64) -> i64
 
 // What direction i adds to row j: q(i)*a(j,i)*a(k,i) to the entry at each place k from j on; nothing where the condition does not touch the direction.
 #[tactic(auto, using(std::proofs::lemmas::Nat::rows))]
-fn add_direction(table: SoundTable, j: usize, i: usize, row: &mut [i64])
+fn add_direction(table: SoundTable, j: usize, i: usize, row: &mut Row)
     requires touched { (j < length table.w.now) × (i < length table.q.now) }
-    requires room { CONSTANT < length row.old }
     requires entries { From j (length table.w.now) (λ k. nat_abs (at row.old k) ≤ 2560000000) }
     ensures { Holds j (length table.entry.w.now)
         (λ k. at row.old k +ℤ share (table_in table.entry) j k i)

@@ -3,8 +3,9 @@
 --   word_fits              the touched directions of a condition fit one 64-bit number
 --   shares_three_lem           two conditions share three or more directions where two of their words have three or more ones in common
 --   word_below, word_none, word_more    the word of n directions is below 2^n; of none; with one direction more
+--   word_row               the word of a condition is that of its row of coefficients
 use mathlib.Core.Path.{◌≡◌, refl, ◌∙◌, ap, ap₂}
-use mathlib.Core.Bool.{Bool, true, false, ◌&&◌}
+use mathlib.Core.Bool.{Bool, true, false, not, ◌&&◌}
 use mathlib.Core.List.{List}
 use Prim.Native.Nat.{ℕ, zero, suc, ◌+◌, ◌*◌, ◌^◌, ◌≤◌, ◌<◌}
 use native.Mathlib.Nat.{add_comm, pow-suc, lt_of_lt_of_le}
@@ -13,13 +14,16 @@ use native.Mathlib.Omega.{arith}
 use lib.Bits.{bit_and, and_block, and_lt}
 use lib.Count.{ones, ones_cat}
 use lib.Dec.{leb, lit<}
-use lib.ListN.{get_or}
+use lib.ListN.{length, get_or}
 use lib.Pow.{pow_mono}
-use lib.IntN.{ℤ}
+use lib.IntN.{ℤ, pos}
 use Rattle.exact.specs.First.{some_below}
+use Rattle.std.proofs.Common.{take, drop, ◌-◌}
+use Rattle.std.proofs.lemmas.List.{length-take-le, length-drop, get_or-take, get_or-drop}
+use Rattle.exact.specs.Same.{same}
 use Rattle.exact.proofs.Searching.{some_ext}
 use Rattle.touched.specs.Shared.{one_if, touches, count, shared_by, shares_three}
-use Rattle.touched.specs.Inner.{word, word_of, shared_ones, shares_before, WordsOf}
+use Rattle.touched.specs.Inner.{word, word_of, touches_in, word_in, shared_ones, shares_before, WordsOf}
 
 -- a digit fills its place, and no more
 digit_below : (b : Bool) {p w : ℕ} → w < p → one_if b * p + w < p * 2
@@ -38,6 +42,20 @@ word_none p = refl
 pub word_more : (n : ℕ) (p : ℕ → Bool) → word (n + 1) p ≡ one_if (p n) * 2 ^ n + word n p
 unfolding word
 word_more n p = ap (λ (k : ℕ). word k p) (add-one n)
+
+word_ext : (n : ℕ) (p r : ℕ → Bool) → ((i : ℕ) → i < n → p i ≡ r i) → word n p ≡ word n r
+unfolding word
+word_ext zero p r e = refl
+word_ext (suc n) p r e =
+    ap₂ (λ (b : Bool) (w : ℕ). one_if b * 2 ^ n + w) (e n (omega arith)) (word_ext n p r (λ i l. e i (omega arith)))
+
+pub word_row : (a : List ℤ) (m j : ℕ) → j * m + m ≤ length a → word_in (take (j * m + m - j * m) (drop (j * m) a)) ≡ word_of a m j
+word_row a m j l =
+    let s = j * m in let row = take (s + m - s) (drop s a) in
+    let long : length row ≡ m = length-take-le (s + m - s) (drop s a) (omega (arith, length-drop s a)) ∙ omega arith in
+    ap (λ (n : ℕ). word n (touches_in row)) long
+    ∙ word_ext m (touches_in row) (touches a m j)
+    (λ i k. ap (λ (x : ℤ). not (same x (pos 0))) (get_or-take (s + m - s) (drop s a) i (pos 0) (omega arith) ∙ get_or-drop s a i (pos 0)))
 
 -- a digit that both words have
 one_digit : (a b : Bool) → ones (bit_and (one_if a) (one_if b)) ≡ one_if (a && b)

@@ -5,7 +5,7 @@
 ghost use Rattle.std.specs.Prelude.{◌≡◌, not, ◌+◌, ◌*◌, ◌^◌, ◌≤◌, ◌<◌, length, pos};
 ghost use Rattle.exact.specs.Same.{same};
 ghost use Rattle.touched.specs.Shared.{one_if, shares_three};
-ghost use Rattle.touched.specs.Inner.{word_of, shared_ones, shares_before, WordsOf};
+ghost use Rattle.touched.specs.Inner.{word_in, shared_ones, shares_before, WordsOf};
 
 // So many directions two conditions share that a report counts them.
 const MANY: u32 = 3;
@@ -21,14 +21,13 @@ fn with_direction(word: u64, i: usize, x: i64) -> u64
     if x == 0 { word } else { word | (1 << i) }
 }
 
-// The directions that condition j touches.
-fn touched(a: &[i64], m: usize, j: usize) -> u64
-    requires { (m ≤ 64) × (j * m + m ≤ length a.now) }
-    ensures { result ≡ word_of a.now m j }
+// The directions that a condition touches, by the row of its coefficients.
+fn touched(row: &[i64]) -> u64
+    requires { length row.now ≤ 64 }
+    ensures { result ≡ word_in row.now }
 {
-    let start = j * m;
     let mut word = 0;
-    for (i, x) in a[start..start + m].iter().enumerate() {
+    for (i, x) in row.iter().enumerate() {
         word = with_direction(word, i, *x);
     }
     word
@@ -41,7 +40,7 @@ fn words(a: &[i64], m: usize, n: usize) -> [u64; MOST]
 {
     let mut all = [0; MOST];
     for j in 0..n {
-        all[j] = touched(a, m, j);
+        all[j] = touched(&a[j * m..j * m + m]);
     }
     all
 }

@@ -31,7 +31,7 @@ loop-k-preserved c =
     let r : FitsSigned w64 c.plus_product.result = search rules in
     let gx : c.weighted-gx.result ≡ t.q a.i *ℤ t.a a.j a.i = simp to_z-of_z at c.weighted-gx.ensures in
     let sum : c.plus_product.result ≡ at c.loop-k.row k +ℤ c.weighted-gx.result *ℤ t.a k a.i = simp to_z-of_z at c.plus_product.ensures in
-    filled_more (pos 0) (added t a.j a.i a.row.now) a.j k a.row.now c.loop-k.row (to_z w64 (of_z w64 c.plus_product.result)) (omega arith) w
+    filled_more (pos 0) (added t a.j a.i a.row.now) a.j k a.row.now c.loop-k.row (to_z w64 (of_z w64 c.plus_product.result)) (omega (arith, c.told-row, a.table.sound.n_most)) w
     (to_z-of_z w64 c.plus_product.result r ∙ sum ∙ (λ d. w.rest k (le_refl k) d +ℤ gx d *ℤ t.a k a.i))
 
 pub returns : goal.returns
