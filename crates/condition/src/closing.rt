@@ -12,7 +12,7 @@ use crate::term::{Letter, Term};
 use crate::terms::Terms;
 use reply::Refusal;
 
-// The directions 1 to m of a net, each within the circle.
+// The directions 1 to m of a net, each within the circle. Nothing prints or compares them.
 #[derive(Clone, Copy)]
 pub struct Directions<'a> {
     pub values: &'a [i64],
@@ -20,7 +20,8 @@ pub struct Directions<'a> {
 }
 
 impl<'a> Directions<'a> {
-    // The value of a direction number: number 0 is the fixed initial, 1 to m stand in the list.
+    // The value of a direction number: number 0 is the fixed initial, 1 to m stand in the list. No Option: the rules call the initial 0, and C lends it so.
+    // What is asked of a number, of a term's ends and of a term is asked here and in tally.rt: a type for it would have m as a field, beside each term.
     fn at(self, number: i64) -> i64
         requires { Number (length self.values.now) number }
         ensures { result ≡ direction_at self.entry.values.now (nat_abs number) }

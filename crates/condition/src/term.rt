@@ -7,7 +7,7 @@ ghost use Rattle.condition.specs.Rules.{term_check};
 use crate::Kind;
 use reply::Refusal;
 
-// The codes of the letters by which kinds of terms are lent.
+// The codes of the letters by which C lends kinds of terms.
 const P: i64 = b'P' as i64;
 
 const F: i64 = b'F' as i64;
@@ -25,7 +25,8 @@ pub enum Letter {
     R,
 }
 
-// A term that has no letter suits no condition.
+// A term that has no letter suits no condition. All its numbers stand beside the letter, as they are lent, and not under each kind those that it uses:
+// that the others change nothing is a theorem (`angle_unread`, `fixed_angle_unread`), and speaks of them.
 #[derive(Clone, Copy, Debug, PartialEq, Eq)]
 pub struct Term {
     pub letter: Option<Letter>,
@@ -35,8 +36,7 @@ pub struct Term {
     pub k: i64,
 }
 
-// A match and no TryFrom: a code that is no letter is no error, and None is what a term then has.
-// The kind of a term, by the code of its letter.
+// The kind of a term, by the code of its letter. A match and no TryFrom: a code that is no letter is no error, and None is what a term then has.
 #[tactic(auto, unfolding(crate::specs::Terms::letter_of))]
 pub fn read(code: i64) -> Option<Letter>
     ensures { result ≡ letter_of code }

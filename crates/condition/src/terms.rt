@@ -1,11 +1,11 @@
-// The terms of one condition as they are lent: by their fields, a list for each.
+// The terms of one condition as C lends them: by their fields, a list for each.
 ghost use Rattle.std.specs.Prelude.{◌≡◌, ◌<◌};
 ghost use Rattle.condition.specs.Sound.{Fields};
 
 use crate::term;
 use crate::term::Term;
 
-// The field lists are of one length, which is that of `kinds`.
+// The field lists are of one length, which is that of `kinds`. Nothing prints or compares them.
 #[derive(Clone, Copy)]
 pub struct Terms<'a> {
     pub kinds: &'a [i64],
@@ -26,7 +26,7 @@ impl<'a> Terms<'a> {
         self.kinds.len()
     }
 
-    // The term at place j.
+    // The term at place j. By its place and no iterator: one over five lists would be an `impl` of our own, with laws that this one line does not need.
     pub fn at(self, j: usize) -> Term
         requires { j < count self }
         ensures { result ≡ listed self.entry j }

@@ -7,6 +7,7 @@ pub mod correlate;
 pub mod reduce;
 
 // A condition table that has passed its input checks, in lent lists: the inverse weights q of m directions, n rows of m coefficients a, and n misclosures w.
+// They lie side by side, as C lends them; nothing prints or compares them.
 #[derive(Clone, Copy)]
 pub struct SoundTable<'a> {
     pub q: &'a [i64],

@@ -70,7 +70,8 @@ fn normal_row(table: SoundTable, j: usize) -> Row
     row
 }
 
-// nearest(M*x / 10^6): what a row above adds.
+// nearest(M*x / 10^6): what a row above adds. The bounds of M and of x are asked by each step that multiplies: a type for such a number would be made at
+// each read of a row, only to be multiplied.
 fn carried(m: i64, x: i64) -> i64
     requires { (nat_abs m ≤ 1000000000) × (nat_abs x ≤ 4000000000) }
     ensures { result ≡ carried m x }
@@ -108,7 +109,8 @@ fn put(row: &mut Row, place: usize, x: i64)
     row[place] = x;
 }
 
-// Row j with all rows above it taken, behind their multipliers.
+// Row j with all rows above it taken, behind their multipliers. That j is below n, and n at most 24, is asked here and below: a type for the two would be
+// made in `reduce` alone, and opened at every index.
 fn reduced(row: Row, rows: &[Row; 24], j: usize, n: usize) -> Row
     requires places { (j < n) × (n ≤ 24) }
     requires own { RowWithin 2560000000 j n row }
@@ -175,12 +177,14 @@ fn is_weak(row: Row, entry: i64, j: usize, n: usize, rows: &mut [Row; 24]) -> bo
         || 4000000000 < exact::magnitude(row[CONSTANT])
         || is_low(row[j], entry)
     {
+        // no `||` before the last test, since that one also writes
         return true;
     }
     multiply(row, j, n, rows)
 }
 
-// All rows in their order, up to the first weak one, into the triangle, with their multipliers; or the first weak one, counted from 0.
+// All rows in their order, up to the first weak one, into the triangle, with their multipliers; or the first weak one, counted from 0: it is the whole error,
+// since no refusal is known here.
 pub fn reduce(table: SoundTable, rows: &mut [Row; 24]) -> Result<(), usize>
     ensures { Reduced (table_in table.entry) rows.new result }
 {

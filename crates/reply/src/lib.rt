@@ -10,6 +10,7 @@ use std::error::Error;
 use std::fmt;
 
 // Why an input is refused. Lines, ordinals, directions, rows and conditions count from 1; 0 is a place seen only at the end or from the length.
+// It is a place of the rules like any other, so that a place is a number and no Option.
 #[derive(Clone, Copy, Debug, PartialEq, Eq)]
 pub enum Refusal {
     // A line is malformed, unknown or under the wrong heading; a term's kind doesn't fit: its line or ordinal.
@@ -50,7 +51,7 @@ pub enum Refusal {
     NothingLeft,
 }
 
-// What a caller is told: 0 and 0 where the input is accepted, else the rules' number and place of the refusal.
+// What a caller is told: 0 and 0 where the input is accepted, else the rules' number and place of the refusal. Two numbers and no Result, since C reads them.
 #[repr(C)]
 #[derive(Clone, Copy, Debug, PartialEq, Eq)]
 pub struct Verdict {

@@ -10,7 +10,7 @@ ghost use Rattle.touched.specs.Inner.{word_in, shared_ones, shares_before, Words
 // So many directions two conditions share that a report counts them.
 const MANY: u32 = 3;
 
-// So many conditions a table has at most.
+// So many conditions a table has at most. (`doolittle` has as many rows; neither crate uses the other.)
 const MOST: usize = 24;
 
 // The word of the directions before direction i, with direction i where its coefficient x is not zero.
@@ -60,7 +60,8 @@ fn shares_before(words: &[u64], j: usize) -> bool
     (0..j).any(|k| MANY <= shared(words[j], words[k]))
 }
 
-// Two of the n conditions share three or more of the m directions. The coefficients stand row by row, m to a row.
+// Two of the n conditions share three or more of the m directions. The coefficients stand row by row, m to a row. m and n stand beside them, and are asked to be
+// a table's: no table is known here.
 pub fn shares_three(a: &[i64], m: usize, n: usize) -> bool
     requires { (m ≤ 64) × (n ≤ 24) × (n * m ≤ length a.now) }
     ensures { result ≡ shares_three a.now m n }
