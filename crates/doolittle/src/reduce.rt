@@ -119,11 +119,8 @@ fn reduced(row: Row, rows: &[Row; 24], j: usize, n: usize) -> Row
     ensures before { Before j (row_at rows.now j) result }
 {
     let mut next = rows[j];
-    put(
-        &mut next,
-        CONSTANT,
-        with_above(row[CONSTANT], rows, j, CONSTANT),
-    );
+    let constant = with_above(row[CONSTANT], rows, j, CONSTANT);
+    put(&mut next, CONSTANT, constant);
     for k in j..n {
         next[k] = with_above(row[k], rows, j, k);
     }
