@@ -7,5 +7,6 @@ pub mod Answering
 pub mod Finding
 pub mod Admitting
 pub mod Promising
+pub mod Fitting
 pub mod Lone
 pub mod Multiple

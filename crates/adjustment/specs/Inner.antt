@@ -1,13 +1,17 @@
 -- What the inner functions hand each other, and `adjust_own` the crate above. No part of the promise.
-use Rattle.std.specs.Prelude.{◌≡◌, List, ℕ, ◌<◌, length, get_or, ℤ, pos, ◌+ℤ◌, ◌*ℤ◌, Ok}
+use Rattle.std.specs.Prelude.{◌≡◌, List, ℕ, ◌<◌, length, get_or, ℤ, pos, ◌+ℤ◌, ◌*ℤ◌, Result, Ok}
 use Rattle.exact.specs.Nearest.{nearest}
+use Rattle.exact.specs.Tabulate.{tabulate}
+use Rattle.reply.specs.declared.Refusal.{Refusal}
 use Rattle.reply.specs.Reply.{Reply}
+use Rattle.reply.specs.Checks.{figure_reply}
 use Rattle.doolittle.specs.Table.{Table, at, table_of}
 use Rattle.doolittle.specs.Solution.{K}
 use Rattle.doolittle.specs.Inner.{Small, Sound}
 use Rattle.adjustment.specs.Corrections.{V_of, R_of, u_of}
 use Rattle.adjustment.specs.Demand.{seen}
-use Rattle.adjustment.specs.Promise.{Answers, adjust_reply, answers_of, WithinMinute}
+use Rattle.adjustment.specs.declared.lists.Adjusted.{Adjusted}
+use Rattle.adjustment.specs.Promise.{Answers, lists, adjust_reply, answers_of, WithinMinute}
 
 -- a lent table that has passed its input checks; the last six numbers are the lengths of the lent answer lists
 pub record Checked (ds qs cs ws : List ℤ) (v u adjusted k r Q : ℕ) : Type 0 where
@@ -37,3 +41,17 @@ pub record Solved (t : Table) (ks vs us rs : List ℤ) : Type 0 where
 pub record AdjustsOwn (ds qs cs ws : List ℤ) (lent : Answers) (reply : Reply) (left : Answers) : Type 0 where
   pub answer : reply ≡ adjust_reply ds qs cs ws lent
   pub lists : reply ≡ Ok tt → left ≡ answers_of (table_of qs cs ws) (K (table_of qs cs ws)) (at ds)
+
+-- answer lists that are as long as m directions and n conditions ask; what stands in them is never read
+unfoldable pub fitting : (m n : ℕ) → Answers
+fitting m n =
+    let blank : ℕ → List ℤ = λ count. tabulate count (λ i. pos 0) in
+    lists (blank m) (blank m) (blank m) (blank n) (blank n) (blank n)
+
+abbrev pub answers_in : Adjusted → Answers
+answers_in x = lists x.corrections.now x.printed.now x.adjusted.now x.correlates.now x.remainders.now x.misses.now
+
+-- the reply to a lent table where the answer lists are as long as they must be, and the answers of an accepted one
+pub record GivesAnswers (ds qs cs ws : List ℤ) (given : Result Adjusted Refusal) : Type 0 where
+  pub reply : figure_reply given ≡ adjust_reply ds qs cs ws (fitting (length ds) (length ws))
+  pub answers : (x : Adjusted) → given ≡ Ok x → answers_in x ≡ answers_of (table_of qs cs ws) (K (table_of qs cs ws)) (at ds)

@@ -1,9 +1,11 @@
 // Adjustment of a condition table: the one public operation, `adjust`. It checks the lent table, solves it, and only then writes the lent answer lists.
-// `adjust_own` is for `listing` and `season` alone, whose answer lists are their own: there a refusal may leave anything, and no second set of lists is needed.
+// `adjust_own` is for a caller whose answer lists are its own: there a refusal may leave anything, and no second set of lists is needed. `AnswerLists` are
+// such lists for any table, for `listing` and `season`.
 // `correct` is for `sheet` too: what follows from a table that has passed its checks and any correlates within 10^8.
 #![tactic(auto)]
 
 pub mod correct;
+mod lists;
 mod table;
 
 ghost use Rattle.std.specs.Prelude.{◌≡◌, ◌≤◌, length};
@@ -13,6 +15,7 @@ ghost use Rattle.adjustment.specs.Promise.{Adjusts, lists};
 ghost use Rattle.adjustment.specs.Inner.{Solved, AdjustsOwn};
 
 use doolittle::SoundTable;
+pub use lists::{Adjusted, AnswerLists};
 use reply::Refusal;
 
 // The largest printed correction that is no blunder, one minute.
@@ -62,6 +65,7 @@ fn solve(
 
 // Adjusts a lent condition table: m directions with their inverse weights q, n rows of m coefficients, n misclosures. The answers V, u, adjusted
 // directions, K, R and Q go into the lent lists; a refusal leaves them as they were, so the solution is worked out in lists of its own.
+// Not one with `adjust_own`, which needs no second lists: its refusals leave anything (`AdjustsOwn`), these nothing (`Adjusts`).
 pub fn adjust(
     directions: &[i64],
     q: &[i64],

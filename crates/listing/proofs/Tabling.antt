@@ -1,11 +1,10 @@
 -- Laws of the reply to a condition table and to a net, and of their listings, by what `adjustment` and the conditions have answered. Assumes nothing.
---   Lent                                        answer lists as long as they must be
 --   answers_errors_lem                              the errors of a table's answers
 --   answered, errors_accepted, table_accepted   the reply to a table; that an accepted one's errors are not refused; and its listing
 --   misclosures_length                          a misclosure for each condition
 --   file_refused, file_reply_lem, file_listing_lem      the reply to a file whose table is refused, and to one whose is not; its listing
 --   answers_most                                the ADJ, V and K lines have no more than 6,560 bytes
-use mathlib.Core.Path.{◌≡◌, refl, sym, ◌∙◌, ap, ap₂, subst}
+use mathlib.Core.Path.{◌≡◌, refl, sym, ◌∙◌, ap, subst}
 use mathlib.Core.List.{List, [], ◌∷◌, ◌++◌}
 use Prim.Native.Nat.{ℕ, suc, ◌≤◌}
 use native.Mathlib.Omega.{arith}
@@ -15,14 +14,14 @@ use Rattle.exact.specs.Tabulate.{tabulate}
 use Rattle.exact.proofs.Filling.{tabulate_length}
 use Rattle.reply.specs.declared.Refusal.{Refusal}
 use Rattle.reply.specs.Reply.{Reply}
-use Rattle.reply.specs.Checks.{◌and_then◌}
+use Rattle.reply.specs.Checks.{◌and_then◌, figure_reply}
 use Rattle.reply.proofs.Checking.{never}
 use Rattle.doolittle.specs.Table.{Table, at, table_of}
 use Rattle.doolittle.specs.Solution.{K}
 use Rattle.adjustment.specs.Corrections.{u_of}
 use Rattle.adjustment.specs.Promise.{Answers, adjust_reply, answers_of}
-use Rattle.adjustment.specs.Inner.{AdjustsOwn}
-use Rattle.precision.specs.declared.Errors.{Errors}
+use Rattle.adjustment.specs.declared.lists.Adjusted.{Adjusted}
+use Rattle.adjustment.specs.Inner.{fitting, answers_in, GivesAnswers}
 use Rattle.precision.specs.Errors.{errors_of}
 use Rattle.precision.specs.Promise.{errors_reply}
 use Rattle.precision.proofs.Adjusting.{table_admitted}
@@ -31,19 +30,10 @@ use Rattle.network.specs.Scan.{scan_reply}
 use Rattle.network.specs.Net.{Condition, Net, net_of, zeros, formed_reply, rows_of, misclosures_of, table_reply, Tabled}
 use Rattle.network.specs.declared.lists.NetTable.{NetTable}
 use Rattle.listing.specs.declared.Sheet.{Sheet}
-use Rattle.listing.specs.Listing.{accepted_listing, on_sheet}
+use Rattle.listing.specs.Listing.{on_sheet}
 use Rattle.listing.specs.File.{table_in, room, net_reply, net_answers, file_reply, answers_listing, answers_errors, answers_on, table_listing, net_listing, file_listing}
 use Rattle.listing.proofs.Composing.{accepted_most, ended_by}
-use Rattle.std.specs.Prelude.{Ok, Err}
-
--- the lengths of lent answer lists, m by direction and n by condition
-pub record Lent (m n : ℕ) (lent : Answers) : Type 0 where
-  pub corrections : length lent.corrections ≡ m
-  pub printed : length lent.printed ≡ m
-  pub adjusted : length lent.adjusted ≡ m
-  pub correlates : length lent.correlates ≡ n
-  pub remainders : length lent.remainders ≡ n
-  pub misses : length lent.misses ≡ n
+use Rattle.std.specs.Prelude.{Result, Ok, Err}
 
 -- ---- a condition table
 -- its errors, by its own counts
@@ -51,36 +41,29 @@ pub answers_errors_lem : (q : List ℤ) (t : Table) (k direction : ℕ → ℤ) 
 unfolding answers_errors
 answers_errors_lem q t k direction = ap (errors_of (tabulate t.m (u_of t k)) q) (tabulate_length t.n k)
 
-module _ (ds q a w : List ℤ) {lent : Answers} (l : Lent (length ds) (length w) lent) where
-  -- the reply depends on the lengths alone
-  by_room : adjust_reply ds q a w (room (length ds) (length w)) ≡ adjust_reply ds q a w lent
-  unfolding adjust_reply room zeros
-  by_room =
-      rw (l.corrections, l.printed, l.adjusted, l.correlates, l.remainders, l.misses, tabulate_length (length ds), tabulate_length (length w))
+module _ (ds q a w : List ℤ) {given : Result Adjusted Refusal} (p : GivesAnswers ds q a w given) where
+  pub answered : adjust_reply ds q a w (room (length ds) (length w)) ≡ figure_reply given
+  unfolding fitting room zeros
+  answered = sym p.reply
 
   abbrev answers : Answers
   answers = answers_of (table_of q a w) (K (table_of q a w)) (at ds)
 
-  module _ {reply : Reply} {left : Answers} (p : AdjustsOwn ds q a w lent reply left) where
-    pub answered : adjust_reply ds q a w (room (length ds) (length w)) ≡ reply
-    answered = by_room ∙ sym p.answer
+  module _ {x : Adjusted} (e : given ≡ Ok x) where
+    answers_are : answers_in x ≡ answers
+    answers_are = p.answers x e
 
-    module _ (e : reply ≡ Ok tt) where
-      left_is : left ≡ answers
-      left_is = p.lists e
+    -- its errors are not refused
+    pub errors_accepted : errors_reply x.printed.now q (length x.correlates.now) ≡ Ok tt
+    errors_accepted =
+        subst (λ (y : Answers). errors_reply y.printed q (length y.correlates) ≡ Ok tt) (sym answers_are)
+        (rw (tabulate_length (length w) (K (table_of q a w))) (table_admitted ds q a w (room (length ds) (length w)) (answered ∙ ap figure_reply e)))
 
-      -- its errors are not refused
-      pub errors_accepted : errors_reply left.printed q (length w) ≡ Ok tt
-      errors_accepted = subst (λ (x : Answers). errors_reply x.printed q (length w) ≡ Ok tt) (sym left_is) (table_admitted ds q a w lent (sym p.answer ∙ e))
-
-      pub table_accepted : (sheet : Sheet)
-          → accepted_listing (length left.printed) (length left.correlates) left.printed left.adjusted left.correlates left.remainders left.misses ++ on_sheet sheet [] (errors_of left.printed q (length w))
-          ≡ table_listing sheet ds q a w
-      unfolding table_listing answers_on answers_listing
-      table_accepted sheet =
-          ap₂ (λ (x : List ℕ) (y : Errors). x ++ on_sheet sheet [] y) (ap answers_listing left_is)
-          (ap (λ (x : Answers). errors_of x.printed q (length w)) left_is ∙ sym (answers_errors_lem q (table_of q a w) (K (table_of q a w)) (at ds)))
-          ∙ ended_by sheet (answers_listing answers) (answers_errors q answers)
+    pub table_accepted : (sheet : Sheet) → answers_listing (answers_in x) ++ on_sheet sheet [] (errors_of x.printed.now q (length x.correlates.now)) ≡ table_listing sheet ds q a w
+    unfolding table_listing answers_on answers_errors
+    table_accepted sheet =
+        ap (λ (y : Answers). answers_listing y ++ on_sheet sheet [] (errors_of y.printed q (length y.correlates))) answers_are
+        ∙ ended_by sheet (answers_listing answers) (answers_errors q answers)
 
 -- ---- the net
 pub misclosures_length : (directions q : List ℤ) (cs : List Condition) → length (misclosures_of directions q cs) ≡ length cs

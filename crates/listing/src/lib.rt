@@ -45,7 +45,7 @@ pub fn adjust(sheet: Sheet, file: &[u8], out: &mut [u8]) -> Result<usize, Refusa
     }
     let mut lists = Lists::new();
     let net = network::table(file, &mut lists)?;
-    solve::solve(sheet, net.directions, net.q, net.a, net.w, out)
+    solve::solve(sheet, net, out)
 }
 
 // The listing of any file, an accepted one's or the line of its refusal; how many bytes it has. A buffer without room for the longest stays as it was,

@@ -5,6 +5,7 @@ ghost use Rattle.adjustment.specs.Promise.{adjust_reply};
 ghost use Rattle.listing.specs.File.{room};
 ghost use Rattle.season.specs.Share.{counted_under, sum_to, most_to, size_at, figures, no_figures, share_with, share_of, left_share, long_share};
 
+use adjustment::AnswerLists;
 use network::{Lists, NetTable};
 use reply::Refusal;
 
@@ -95,26 +96,9 @@ fn reply_to(net: NetTable) -> Result<(), Refusal>
     ensures { result ≡ adjust_reply net.entry.directions.now net.entry.q.now net.entry.a.now net.entry.w.now
         (room (length net.entry.directions.now) (length net.entry.w.now)) }
 {
-    let m = net.directions.len();
-    let n = net.w.len();
-    let mut v = [0i64; 64];
-    let mut u = [0i64; 64];
-    let mut adjusted = [0i64; 64];
-    let mut k = [0i64; 24];
-    let mut r = [0i64; 24];
-    let mut misses = [0i64; 24];
-    adjustment::adjust_own(
-        net.directions,
-        net.q,
-        net.a,
-        net.w,
-        &mut v[..m],
-        &mut u[..m],
-        &mut adjusted[..m],
-        &mut k[..n],
-        &mut r[..n],
-        &mut misses[..n],
-    )
+    let mut lists = AnswerLists::new();
+    lists.adjust(net.directions, net.q, net.a, net.w)?;
+    Ok(())
 }
 
 // The share of a net by its condition table.

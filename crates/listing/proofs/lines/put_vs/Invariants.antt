@@ -5,4 +5,4 @@ use Rattle.listing.specs.Listing.{v_line_of}
 use Rattle.listing.proofs.lines.put_vs.Given as goal
 
 abbrev pub invariant-loop-i : goal.invariant-loop-i
-invariant-loop-i l = Puts l.initial.w (in_order l.i (v_line_of l.u l.adjusted)) (l.i * 68) l.w
+invariant-loop-i l = Puts l.initial.w (in_order l.i (v_line_of l.answers.printed.now l.answers.adjusted.now)) (l.i * 68) l.w
