@@ -1,8 +1,10 @@
--- What the operation on lent lists promises for every input: its reply, what the two lent numbers then hold, and what the mean error is.
-use Rattle.std.specs.Prelude.{◌≡◌, Bool, ◌||◌, not, List, ℕ, ◌+◌, ◌*◌, eqb, length, ℤ, pos, ◌+ℤ◌, ◌*ℤ◌, ◌≤ℤ◌, ◌<ℤ◌, Ok}
+-- What the operation on lent lists promises for every input: its reply, both errors, and what the mean error is; and the same as a caller is told it who
+-- lends two numbers.
+use Rattle.std.specs.Prelude.{◌≡◌, Bool, ◌||◌, not, List, ℕ, ◌+◌, ◌*◌, eqb, length, ℤ, pos, ◌+ℤ◌, ◌*ℤ◌, ◌≤ℤ◌, ◌<ℤ◌, Result, Ok}
+use Rattle.reply.specs.declared.Refusal.{Refusal}
 use Rattle.reply.specs.declared.Refusal.TheVariants.{Count, OutOfRange}
 use Rattle.reply.specs.Reply.{Reply}
-use Rattle.reply.specs.Checks.{refuse_if, refuse_first, ◌and_then◌, leaves}
+use Rattle.reply.specs.Checks.{refuse_if, refuse_first, ◌and_then◌, leaves, figure_of, figure_reply}
 use Rattle.reply.specs.Verdicts.{verdict_of}
 use Rattle.direction.specs.Ranges.{weight_out_of_range}
 use Rattle.doolittle.specs.Table.{at}
@@ -35,6 +37,13 @@ pub record MeanError (n : ℕ) (S e : ℤ) : Type 0 where
   pub largest : (x : ℤ) → square n x ≤ℤ S → x ≤ℤ e
   pub only : (x : ℤ) → pos 0 ≤ℤ x → square n x ≤ℤ S → S <ℤ square n (x +ℤ pos 1) → x ≡ e
 
+pub record FindsErrors (us qs : List ℤ) (n : ℕ) (found : Result Errors Refusal) : Type 0 where
+  pub answer : found ≡ figure_of (errors_reply us qs n) (errors_of us qs n)
+  -- in the rules' numbers: number and place
+  pub verdict : verdict_of (figure_reply found) ≡ verdict_of (errors_reply us qs n)
+  pub mean_error : (e : Errors) → found ≡ Ok e → MeanError n (S_of us qs) e.mean
+
+-- where two numbers are lent for the errors: what they then hold
 pub record TellsErrors (us qs : List ℤ) (n : ℕ) (lent : Errors) (reply : Reply) (left : Errors) : Type 0 where
   pub answer : reply ≡ errors_reply us qs n
   -- in the rules' numbers: number and place

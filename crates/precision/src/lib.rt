@@ -6,8 +6,8 @@ mod root;
 mod squares;
 
 ghost use Rattle.std.specs.Prelude.{◌≡◌, length};
-ghost use Rattle.precision.specs.Errors.{errors, errors_of};
-ghost use Rattle.precision.specs.Promise.{ranges_reply, errors_reply, TellsErrors};
+ghost use Rattle.precision.specs.Errors.{errors_of};
+ghost use Rattle.precision.specs.Promise.{ranges_reply, errors_reply, FindsErrors};
 
 use adjustment::MINUTE;
 use reply::Refusal;
@@ -47,23 +47,13 @@ pub fn estimate(u: &[i64], q: &[i64], n: usize) -> Errors
 }
 
 // The mean and the probable error of lent lists: of the printed corrections u of all directions, their q, and how many conditions there were.
-// They go into two lent numbers, which a refusal leaves as they were.
-pub fn probable_error(
-    u: &[i64],
-    q: &[i64],
-    n: usize,
-    mean: &mut i64,
-    probable: &mut i64,
-) -> Result<(), Refusal>
-    ensures { TellsErrors u.now q.now n
-        (errors mean.old probable.old) result (errors mean.new probable.new) }
+// n is the number of conditions, which is the length of neither list.
+pub fn probable_error(u: &[i64], q: &[i64], n: usize) -> Result<Errors, Refusal>
+    ensures { FindsErrors u.now q.now n result }
 {
     if adjustment::counts_amiss(u.len(), n) || q.len() != u.len() {
         return Err(Refusal::Count(0));
     }
     check(u, q)?;
-    let found = estimate(u, q, n);
-    *mean = found.mean;
-    *probable = found.probable;
-    Ok(())
+    Ok(estimate(u, q, n))
 }
