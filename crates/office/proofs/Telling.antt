@@ -1,7 +1,7 @@
 -- What the library promises of a reply is what C is promised of the verdict on it. Assumes nothing.
 --   means_told           of station means
 --   table_told           of the adjustment of a table
---   errors_told          of the mean and the probable error of lent lists
+--   errors_told, found_told      of the mean and the probable error of lent lists
 --   listed_told          of any file that has been listed, and the length that was lent
 --   book_told, part_told, file_told      of a sighting book, of a part of a spoiled one, and of a network file
 --   rescue_told          of a spoiled list of sightings
@@ -24,7 +24,8 @@ use Rattle.station.specs.Rescue.{Lent as Places, kept, ordinals, rooms, rescue_r
 use Rattle.adjustment.specs.Promise.{Answers as Lists, Adjusts}
 use Rattle.page.specs.Page.{Listed, ListedBy}
 use Rattle.precision.specs.declared.Errors.{Errors}
-use Rattle.precision.specs.Promise.{TellsErrors}
+use Rattle.precision.specs.Promise.{FindsErrors, TellsErrors}
+use Rattle.precision.proofs.Promising.{finds_tells}
 use Rattle.listing.specs.declared.Sheet.{Sheet}
 use Rattle.listing.specs.File.{AdjustsFile}
 use Rattle.book.specs.File.{MeansOf}
@@ -33,10 +34,12 @@ use Rattle.book.specs.Rescue.{RescuedOf}
 use Rattle.totals.specs.Promise.{Adds}
 use Rattle.season.specs.Promise.{Reports, Begins, Feeds, Ends}
 use Rattle.reply.specs.declared.Refusal.{Refusal}
-use Rattle.std.specs.Prelude.{Result, Ok, Err, IsOk}
+use Rattle.std.specs.Prelude.{Result, Ok, Err, IsOk, IsOkAnd, MatchResult}
 use Rattle.sheet.specs.declared.Opinion.{Opinion}
+use Rattle.sheet.specs.declared.Opinion.TheVariants.{Yes, No}
 use Rattle.sheet.specs.Promise.{opinion_leaves, Checks}
 use Rattle.reply.proofs.Checking.{figure_replied, figure_left, figure_ok}
+use Rattle.office.specs.Statuses.{line_told}
 use Rattle.office.specs.Promises.{Means, SightingsRescued, Table, DirectionErrors, ToldBy, SightingBook, BookParted, File, SeasonReport, SeasonBegun, SeasonNext, SeasonEnded, ReportSum, SheetChecked}
 
 module _ (v : Verdict) (r : Reply) (told : v ≡ verdict_of r) where
@@ -71,6 +74,12 @@ module _ (v : Verdict) (r : Reply) (told : v ≡ verdict_of r) where
   pub sum_told : (first second lent left : List ℕ) → Adds first second lent r left → ReportSum first second lent v left
   sum_told first second lent left a =
       record { verdict = told ∙ ap verdict_of a.answer; list = subst (λ (r : Reply). Adds first second lent r left) a.answer a }
+
+-- both errors, in two lent numbers
+pub found_told : {us qs : List ℤ} {n : ℕ} {found : Result Errors Refusal} {lent left : Errors} {v : Verdict} → v ≡ verdict_of (figure_reply found) → left ≡ figure_leaves found lent
+    → FindsErrors us qs n found → DirectionErrors us qs n lent v left
+found_told {us} {qs} {n} {found} {lent} {left} {v} told held a =
+    errors_told v (figure_reply found) told us qs n lent left (subst (λ (left : Errors). TellsErrors us qs n lent (figure_reply found) left) (sym held) (finds_tells us qs n a))
 
 -- where the rule accepts a file, the library gives its length
 accepted : {listed : Listed} {before after : List ℕ} {rule : Reply} {listing : List ℕ} → ListedBy rule listing before listed after → rule ≡ Ok tt → IsOk listed
@@ -119,11 +128,20 @@ rescue_told {b} {before} {rescued = rescued} {k = k} {d = d} told numbers a =
     count_left (Ok _) count given before = refl
     count_left (Err why) count given before = refl
 
-pub sheet_told : {net listing : List ℕ} {o answer : Result Opinion Refusal} {before after : ℕ} {v : Verdict} → o ≡ answer → v ≡ verdict_of (figure_reply answer)
-    → after ≡ opinion_leaves answer before → Checks net listing o → SheetChecked net listing before v after
-sheet_told {net} {listing} {before = before} e told left a =
-    let f = sym e ∙ a.answer in record {
-      verdict = told ∙ ap (λ (o : Result Opinion Refusal). verdict_of (figure_reply o)) f;
-      number = left ∙ ap (λ (o : Result Opinion Refusal). opinion_leaves o before) f;
-      sheet = subst (λ (o : Result Opinion Refusal). Checks net listing o) a.answer a;
-    }
+-- the line that C is told, of an opinion or of a refusal
+pub sheet_told : {net listing : List ℕ} {o : Result Opinion Refusal} (given : Result ℕ Refusal) {before after : ℕ} {v : Verdict}
+    → MatchResult o (λ x. IsOkAnd given (λ line. line ≡ line_told x)) (λ why. given ≡ Err why) → v ≡ verdict_of (figure_reply given)
+    → after ≡ figure_leaves given before → Checks net listing o → SheetChecked net listing before v after
+sheet_told {net} {listing} {o} given {before} {after} {v} m told left a = record {
+  verdict = told ∙ (by_opinion o given m).0 ∙ ap (λ (o : Result Opinion Refusal). verdict_of (figure_reply o)) a.answer;
+  number = left ∙ (by_opinion o given m).1 ∙ ap (λ (o : Result Opinion Refusal). opinion_leaves o before) a.answer;
+  sheet = subst (λ (o : Result Opinion Refusal). Checks net listing o) a.answer a;
+}
+  where
+    by_opinion : (o : Result Opinion Refusal) (given : Result ℕ Refusal) → MatchResult o (λ x. IsOkAnd given (λ line. line ≡ line_told x)) (λ why. given ≡ Err why)
+        → (verdict_of (figure_reply given) ≡ verdict_of (figure_reply o)) × (figure_leaves given before ≡ opinion_leaves o before)
+    by_opinion (Ok Yes) (Ok line) m = (refl, m)
+    by_opinion (Ok (No first)) (Ok line) m = (refl, m)
+    by_opinion (Ok Yes) (Err why) m = absurd m
+    by_opinion (Ok (No first)) (Err why) m = absurd m
+    by_opinion (Err why) given m = rw m (refl, refl)

@@ -18,11 +18,12 @@ ghost use Rattle.book.specs.declared.parts.Part.TheVariants.{Kept, Dropped};
 ghost use Rattle.office.specs.Promises.{Means, SightingBook, SightingsRescued, BookParted, Coefficients, Misclosed, Table, DirectionErrors, File};
 ghost use Rattle.office.specs.Promises.{SeasonReport, SeasonBegun, SeasonNext, SeasonEnded, ReportSum, SheetChecked};
 ghost use Rattle.office.specs.Terms.{heading_of, terms_of};
-ghost use Rattle.office.specs.Statuses.{status_number};
+ghost use Rattle.office.specs.Statuses.{status_number, line_told};
 
 use book::parts::Part;
 use condition::Kind;
 use listing::Sheet;
+use precision::Errors;
 use reply::{Refusal, Verdict};
 use sheet::Opinion;
 use station::Rescued;
@@ -50,6 +51,16 @@ fn tell_given<T: Copy>(given: Result<T, Refusal>, place: &mut T) -> Verdict
             Verdict::from(Ok(()))
         }
         Err(why) => Verdict::from(why),
+    }
+}
+
+// What C is told of an opinion on a sheet: 0 where it agrees, else the line of the first test that fails.
+fn line_told(opinion: Opinion) -> u64
+    ensures { result ≡ line_told opinion }
+{
+    match opinion {
+        Opinion::Yes => 0,
+        Opinion::No(line) => line,
     }
 }
 
@@ -152,6 +163,7 @@ pub fn molsadriu_coefficients(
         kinds.now values.now d.now i.now k.now)
         a.old result a.new }
 {
+    // No `ok_or(..)?`: the answer is a Verdict.
     let Some(kind) = kind_named(letter) else {
         return Verdict::from(Refusal::Malformed(0));
     };
@@ -176,6 +188,7 @@ pub fn molsadriu_misclosure(
         kinds.now values.now d.now i.now k.now)
         w.old result w.new }
 {
+    // No `ok_or(..)?`: the answer is a Verdict.
     let Some(kind) = kind_named(letter) else {
         return Verdict::from(Refusal::Malformed(0));
     };
@@ -228,7 +241,14 @@ pub fn molsadriu_probable_error(
     ensures { DirectionErrors u.now q.now n
         (errors mean.old probable.old) result (errors mean.new probable.new) }
 {
-    Verdict::from(precision::probable_error(u, q, n, mean, probable))
+    let mut errors = Errors {
+        mean: *mean,
+        probable: *probable,
+    };
+    let told = tell_given(precision::probable_error(u, q, n), &mut errors);
+    *mean = errors.mean;
+    *probable = errors.probable;
+    told
 }
 
 // Adjusts a network file: the listing of an accepted one, into a lent buffer of at least 6,560 bytes, and its length, into one lent number.
@@ -328,15 +348,5 @@ pub fn molsadriu_add_reports(first: &[u64], second: &[u64], sum: &mut [u64]) -> 
 pub fn molsadriu_check_sheet(net: &[u8], listing: &[u8], line: &mut u64) -> Verdict
     ensures { SheetChecked net.now listing.now line.old result line.new }
 {
-    match sheet::check(net, listing) {
-        Ok(Opinion::Yes) => {
-            *line = 0;
-            Verdict::from(Ok(()))
-        }
-        Ok(Opinion::No(first)) => {
-            *line = first;
-            Verdict::from(Ok(()))
-        }
-        Err(why) => Verdict::from(why),
-    }
+    tell_given(sheet::check(net, listing).map(line_told), line)
 }

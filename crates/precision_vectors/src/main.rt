@@ -1,19 +1,23 @@
 // Lends `precision::probable_error` what no network file can say: lists of unequal length, counts out of range, numbers out of range, and
-// corrections that no adjustment gives. It prints the reply and the two lent numbers as they are left, which held 7 and 8. What it must print
+// corrections that no adjustment gives. It prints the reply and both errors, 7 and 8 where it is refused. What it must print
 // was worked out apart from it. What a file can say is run by `cards`.
 #![tactic(auto)]
 
 ghost use Rattle.std.specs.Prelude.{◌≤◌};
 
+use precision::Errors;
+
 const MINUTE: i64 = 60_000;
 
-// The reply, and what the two lent numbers hold.
+// The reply, and both errors.
 fn show(rt: &impl Print, u: &[i64], q: &[i64], n: usize) {
-    let mut mean: i64 = 7;
-    let mut probable: i64 = 8;
-    let reply = precision::probable_error(u, q, n, &mut mean, &mut probable);
+    let found = precision::probable_error(u, q, n);
     let _ = print!(rt; ": ");
-    vectors::told(rt, reply);
+    vectors::told(rt, found.map(|_| ()));
+    let Errors { mean, probable } = found.unwrap_or(Errors {
+        mean: 7,
+        probable: 8,
+    });
     let _ = println!(rt; "; {mean} {probable}");
 }
 
