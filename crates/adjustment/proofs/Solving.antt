@@ -1,5 +1,6 @@
 -- The refusals of the solution, from what the code has found. Assumes nothing.
 --   V_size, V_ext                    the corrections of correlates within 10^8, and of equal correlates; u_ext, adjusted_ext, R_ext, Q_ext: so all that follows
+--   head_stored, head_first          what is printed of the head of a list of corrections, and the first beyond one minute there
 --   same_first, each_within          of numbers tested against a limit in their order: equal ones have the same first beyond it; where none is refused, each is within it
 --   closing_is, rounding_is          of any correlates: the remainders of a list that holds their corrections are R, and its numbers rounded are u
 --   first_open, first_past           and the first beyond its limit is the same
@@ -15,7 +16,9 @@ use Prim.Native.Nat.{ℕ, suc, ◌+◌, ◌-◌, ◌≤◌, ◌<◌}
 use native.Mathlib.Omega.{arith}
 use lib.Dec.{ltb}
 use borrow.Author.Tests.{ltb-false}
-use lib.ListN.{length}
+use lib.ListN.{length, take}
+use lib.Seq.{length-take-le}
+use Rattle.std.proofs.lemmas.List.{get_or-take}
 use lib.IntN.{ℤ, pos, nat_abs, ◌+ℤ◌, ◌*ℤ◌}
 use Rattle.exact.specs.Sum.{sum}
 use Rattle.exact.specs.First.{first}
@@ -74,6 +77,16 @@ module _ (t : Table) (k k' : ℕ → ℤ) (e : (j : ℕ) → j < t.n → k j ≡
   Q_ext j =
       ap (λ (z : ℤ). pos 100000 *ℤ z +ℤ pos 10000000 *ℤ t.w j)
       (sum_ext t.m (λ i. t.a j i *ℤ u_of t k i) (λ i. t.a j i *ℤ u_of t k' i) (λ i l. ap (λ (z : ℤ). t.a j i *ℤ z) (u_ext i)))
+
+-- ---- the corrections of m directions, at the head of a longer list
+module _ (m : ℕ) (vs : List ℤ) (l : m ≤ length vs) where
+  pub head_stored : (i : ℕ) → i < m → rounding (at (take m vs)) i ≡ rounding (at vs) i
+  head_stored i h = ap (λ (z : ℤ). nearest z (pos 100000)) (get_or-take m vs i (pos 0) h)
+
+  pub head_first : first (length (take m vs)) (λ i. ltb 60000 (nat_abs (rounding (at (take m vs)) i))) ≡ first m (λ i. ltb 60000 (nat_abs (rounding (at vs) i)))
+  head_first =
+      ap (λ (n : ℕ). first n (λ i. ltb 60000 (nat_abs (rounding (at (take m vs)) i)))) (length-take-le m vs l)
+      ∙ first_ext m _ _ (λ i h. ap (λ (z : ℤ). ltb 60000 (nat_abs z)) (head_stored i h))
 
 -- ---- numbers tested against a limit, in their order
 abbrev pub beyond : ℕ → (ℕ → ℤ) → ℕ → Bool

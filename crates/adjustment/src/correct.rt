@@ -1,5 +1,6 @@
 // What follows from a table and its correlates alone, whoever found them: corrections V, remainders R, printed corrections u, adjusted directions
 // and printed remainders Q. R is formed as the sum of a*V, which equals the sum of N*K, so no entry of N is formed twice.
+// The bounds of K, V and u stand in the clauses, and in no type: docs/PROMISES.md names these functions for lists with them, and a type would ask more.
 ghost use Rattle.std.specs.Prelude.{◌≡◌, ℕ, ◌≤◌, ◌<◌, ltb, length, get_or, pos, nat_abs, ◌+ℤ◌, ◌*ℤ◌};
 ghost use Rattle.exact.specs.Sum.{sum};
 ghost use Rattle.exact.specs.Circle.{C, modulo};
@@ -80,20 +81,20 @@ pub fn remainders(table: SoundTable, v: &[i64], r: &mut [i64]) -> usize
     table.w.len()
 }
 
-// u = nearest(V / 10^5) of m directions, up to the first beyond 60,000; which that is, or m: a count, as that of `remainders`.
-pub fn print_corrections(v: &[i64], m: usize, u: &mut [i64]) -> usize
-    requires { (m ≤ length v.now) × (m ≤ length u.old) }
-    ensures value { result ≡ first m (λ i. ltb 60000 (nat_abs (rounding (at v.now) i))) }
+// u = nearest(V / 10^5), up to the first beyond 60,000, into a lent list; which that is, or how many there are: a count, as that of `remainders`.
+pub fn print_corrections(v: &[i64], u: &mut [i64]) -> usize
+    requires { length v.now ≤ length u.old }
+    ensures value { result ≡ first (length v.now) (λ i. ltb 60000 (nat_abs (rounding (at v.now) i))) }
     ensures stored { (i : ℕ) → i < result → get_or u.new i (pos 0) ≡ rounding (at v.now) i }
 {
-    for i in 0..m {
-        let y = exact::nearest(v[i], 100_000);
+    for (i, x) in v.iter().enumerate() {
+        let y = exact::nearest(*x, 100_000);
         if MINUTE < exact::magnitude(y) {
             return i;
         }
         u[i] = y;
     }
-    m
+    v.len()
 }
 
 // The adjusted directions, into a lent list.

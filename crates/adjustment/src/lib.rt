@@ -56,7 +56,7 @@ fn solve(
     if close < n {
         return Err(Refusal::Remainder(close as u64 + 1));
     }
-    let within = correct::print_corrections(v, m, u);
+    let within = correct::print_corrections(&v[..m], u);
     if within < m {
         return Err(Refusal::Correction(within as u64 + 1));
     }

@@ -67,7 +67,7 @@ fn first_direction(
     ensures corrected { length table.entry.q.now ≤ result → Corrected (table_in table.entry) (at k.now) v.new u.new }
 {
     correct::corrections(table, k, v);
-    let within = correct::print_corrections(v, table.q.len(), u);
+    let within = correct::print_corrections(&v[..table.q.len()], u);
     correct::adjust_directions(directions, u, &mut adjusted[..within]);
     first_unlike(x, 1, u, adjusted, within)
 }

@@ -13,7 +13,8 @@ use Rattle.exact.proofs.Searching.{first_before, first_found}
 use Rattle.doolittle.specs.Table.{Table, at}
 use Rattle.doolittle.specs.Lent.{table_in}
 use Rattle.adjustment.specs.Corrections.{V_of, u_of}
-use Rattle.adjustment.proofs.Solving.{beyond, V_ext, rounding_is, first_past, turned_is}
+use Rattle.adjustment.specs.Inner.{rounding}
+use Rattle.adjustment.proofs.Solving.{beyond, V_ext, rounding_is, first_past, turned_is, head_stored, head_first}
 use Rattle.sheet.specs.Form.{own_k}
 use Rattle.sheet.proofs.Comparing.{v_differs}
 use Rattle.sheet.proofs.compare.first_direction.Goals.{After-adjust_directions, After-corrections, After-print_corrections-within, Start}
@@ -45,8 +46,15 @@ module _ (c : After-print_corrections-within) where
   abbrev within : ℕ
   within = c.print_corrections-within.result
 
+  v_room : t.m ≤ length v
+  v_room = omega (arith, corrected.corrections.auto.v, start.args.table.sound.m_most, start.requires.lists_long.1)
+
+  -- of the corrections of all directions, which stand at the head of their list
+  value : within ≡ first t.m (beyond 60000 (rounding (at v)))
+  value = c.print_corrections-within.ensures.value ∙ head_first t.m v v_room
+
   few : within ≤ t.m
-  few = first_found _ c.print_corrections-within.ensures.value
+  few = first_found _ value
 
   u_long : length u ≡ length start.args.u.now
   u_long = c.print_corrections-within.auto.u
@@ -60,10 +68,10 @@ module _ (c : After-print_corrections-within) where
     v_is i l = corrected.corrections.ensures i l ∙ V_ext t (at start.args.k.now) k same i
 
     past : within ≡ first t.m (beyond 60000 (u_of t k))
-    past = first_past t k v v_is within c.print_corrections-within.ensures.value
+    past = first_past t k v v_is within value
 
     u_is : (i : ℕ) → i < within → at u i ≡ u_of t k i
-    u_is i l = c.print_corrections-within.ensures.stored i l ∙ rounding_is t k v v_is i (omega (arith, few))
+    u_is i l = c.print_corrections-within.ensures.stored i l ∙ head_stored t.m v v_room i (omega (arith, few)) ∙ rounding_is t k v v_is i (omega (arith, few))
 
     u_most : (i : ℕ) → i < within → nat_abs (u_of t k i) ≤ 60000
     u_most i l = ltb-false 60000 (nat_abs (u_of t k i)) (first_before t.m (beyond 60000 (u_of t k)) i (omega (arith, past)))
