@@ -3,11 +3,15 @@
 --   written           what has been written into the first places of a list stands there
 --   fitting_reply     the reply to a table reads their lengths alone
 --   refused_gives, accepted_gives      `AnswerLists::adjust` keeps its promise by `adjust_own`: where it refuses, and where it accepts
+--   one_given         two answers that keep that promise are equal: the replies, and the answers of an accepted table
 use Rattle.std.proofs.Common.{◌≡◌, sym, ◌∙◌, ap, ℕ, ℤ, List, ◌++◌, length, take, Ok, Err}
 use Rattle.std.proofs.Math.Seq.{take-append_seam}
+use Rattle.std.specs.Prelude.{Result}
 use Rattle.exact.proofs.Filling.{tabulate_length}
+use Rattle.exact.proofs.Unique.{only}
 use Rattle.reply.specs.declared.Refusal.{Refusal}
 use Rattle.reply.specs.Reply.{Reply}
+use Rattle.reply.specs.Checks.{figure_reply}
 use Rattle.adjustment.specs.declared.lists.Adjusted.{Adjusted}
 use Rattle.adjustment.specs.Promise.{Answers, lists, adjust_reply}
 use Rattle.adjustment.specs.Inner.{AdjustsOwn, fitting, answers_in, GivesAnswers}
@@ -39,3 +43,7 @@ module _ (ds q a w : List ℤ) {lent : Answers} (l : Lent (length ds) (length w)
     accepted_gives e {x} v u adjusted k r misses =
         let left_is : answers_in x ≡ left = λ i. lists (v i) (u i) (adjusted i) (k i) (r i) (misses i) in
         record { reply = sym e ∙ p.answer ∙ sym fitting_reply; answers = λ y f. let same : x ≡ y = cc in ap answers_in (sym same) ∙ left_is ∙ p.lists e }
+
+pub one_given : (ds q a w : List ℤ) {g h : Result Adjusted Refusal} → GivesAnswers ds q a w g → GivesAnswers ds q a w h
+    → (figure_reply g ≡ figure_reply h) × ((x y : Adjusted) → g ≡ Ok x → h ≡ Ok y → answers_in x ≡ answers_in y)
+one_given ds q a w f g = (only f.reply g.reply, λ x y e d. only (f.answers x e) (g.answers y d))

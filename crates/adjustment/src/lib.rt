@@ -1,6 +1,7 @@
 // Adjustment of a condition table: the one public operation, `adjust`. It checks the lent table, solves it, and only then writes the lent answer lists.
 // `adjust_own` is for a caller whose answer lists are its own: there a refusal may leave anything, and no second set of lists is needed. `AnswerLists` are
 // such lists for any table, for `listing` and `season`.
+// Directions, q, a, w and the six answer lists come one by one, as C lends them; once checked, q, a and w are a `SoundTable`.
 // `correct` is for `sheet` too: what follows from a table that has passed its checks and any correlates within 10^8.
 #![tactic(auto)]
 
@@ -30,6 +31,7 @@ pub fn counts_amiss(m: usize, n: usize) -> bool
 }
 
 // 6 by row, 7 in back order, 8 by condition, 9 by direction; else the corrections, printed corrections, correlates and remainders are in the four lists.
+// They come one by one, since `adjust` has them beside the lent lists, `adjust_own` among them.
 fn solve(
     table: SoundTable,
     v: &mut [i64],

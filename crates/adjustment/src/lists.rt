@@ -1,4 +1,4 @@
-// Answer lists for a caller whose lists are its own, and the answers in them.
+// Answer lists for a caller whose lists are its own, and the answers in them. Neither type has Debug or PartialEq: nothing prints or compares them.
 ghost use Rattle.std.specs.Prelude.{◌≡◌, ◌≤◌, length};
 
 use crate::adjust_own;

@@ -27,6 +27,7 @@ fn differ(count: usize, x: usize, y: usize, z: usize) -> bool
 }
 
 // Some length disagrees with the counts: q and the coefficients, the three answers by direction (V, u, adjusted), the three by condition (K, R, Q).
+// Lengths and no lists, since the answer lists are lent to be written; and no other crate tests these lists.
 #[tactic(auto, unfolding(crate::specs::Refusals::lengths_amiss))]
 fn lengths_amiss(
     m: usize,

@@ -14,6 +14,7 @@ use network::Lists;
 use reply::Refusal;
 
 // What a listing holds: the adjustment alone, or at its end also the mean and the probable error of a direction, on an E line.
+// It is matched where the two differ, since `on_sheet` and `room_of` say by these cases what is done.
 #[derive(Clone, Copy, Debug, PartialEq, Eq)]
 pub enum Sheet {
     Plain,

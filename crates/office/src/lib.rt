@@ -1,5 +1,6 @@
 // The public operations for programs in C, C++ and Rust. Each calls the library's own operation and tells its reply in numbers; nothing is worked
 // out here. The crate office_c exports these functions, and include/molsadriu.h declares them.
+// Lists side by side, counts beside them, numbers to be filled and numbers for what is told are as C lends and reads them.
 #![tactic(auto)]
 
 ghost use Rattle.std.specs.Prelude.{◌≡◌, ◌≤◌, length, take, drop};
@@ -291,6 +292,7 @@ pub fn molsadriu_line(file: &[u8], start: usize) -> usize
 }
 
 // What stands at `start`: 0 a line, 1 none left, 2 bytes whose LF is missing.
+// A `match` and no `From`, since these numbers are C's alone.
 pub fn molsadriu_line_status(file: &[u8], start: usize) -> u64
     ensures { result ≡ status_number (status_at file.now start) }
 {

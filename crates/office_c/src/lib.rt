@@ -1,5 +1,6 @@
 // The archive for programs in C, C++ and Rust: each function of the crate office under its name as C's own, with its clauses. A lent list comes as a
 // pointer and a length. include/molsadriu.h declares these functions. Nothing is worked out here.
+// The clauses stand here again, since each function that C calls has its own.
 #![tactic(auto)]
 
 ghost use Rattle.std.specs.Prelude.{◌≡◌, ◌≤◌, length, take, drop};

@@ -1,5 +1,5 @@
 // Mean and probable error of a direction, from printed corrections u, their inverse weights q and the number n of conditions: the public
-// operation on lent lists, `probable_error`, and `estimate`, for lists that it accepts.
+// operation on lent lists, `probable_error`, and `estimate`, for lists that it accepts. u, q and n come one by one, as C lends them.
 #![tactic(auto)]
 
 mod root;
@@ -20,6 +20,7 @@ pub struct Errors {
 }
 
 // Refuses the first direction whose u is past one minute or whose q is out of range, by its number.
+// Not one with `direction::check`, which says why.
 fn check(u: &[i64], q: &[i64]) -> Result<(), Refusal>
     requires { length q.now ≡ length u.now }
     ensures { result ≡ ranges_reply u.now q.now }

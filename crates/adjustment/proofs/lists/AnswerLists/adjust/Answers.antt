@@ -30,6 +30,6 @@ returns-in_err-adjust_own c =
 
 pub returns : goal.returns
 returns c =
-    let l = lent (goal.at.returns c).After-adjust_own in let kept = c.adjust_own.auto in
-    accepted_gives _ _ _ _ l c.adjust_own.ensures c.in_ok-adjust_own.was (written _ _ _ (kept.v ∙ l.corrections)) (written _ _ _ (kept.u ∙ l.printed))
+    let l = lent (goal.at.returns c).After-adjust_own in let kept = c.adjust_own.auto in let new = c.adjust_own.new in
+    accepted_gives _ _ _ _ l {left = lists new.v new.u new.adjusted new.k new.r new.misses} c.adjust_own.ensures c.in_ok-adjust_own.was (written _ _ _ (kept.v ∙ l.corrections)) (written _ _ _ (kept.u ∙ l.printed))
     (written _ _ _ (kept.adjusted ∙ l.adjusted)) (written _ _ _ (kept.k ∙ l.correlates)) (written _ _ _ (kept.r ∙ l.remainders)) (written _ _ _ (kept.misses ∙ l.misses))
