@@ -87,6 +87,21 @@ fn read_whole(file: &mut impl Read, buf: &mut [u8]) -> io::Result<usize>
     Ok(done)
 }
 
+// Reads an input to its end, however long it is, and hands on each part.
+fn read_parts<F: FnMut(&[u8])>(input: &mut impl Read, mut take: F) -> Result<(), Trouble>
+    requires { F.IsAlwaysCallable take }
+{
+    let mut bytes = [0u8; PART];
+    // More reads than any input takes: a loop that reads to the end of an input has to end.
+    for _ in 0..u64::MAX {
+        match input.read(&mut bytes).map_err(|_| Trouble::Unread)? {
+            0 => return Ok(()),
+            n => take(&bytes[..n]),
+        }
+    }
+    Err(Trouble::Unread)
+}
+
 // The listing of a file, into a lent buffer; how many bytes it has.
 fn list(files: Files, file: &[u8], out: &mut [u8]) -> usize
     ensures listing { Wrote out.old 0 (listing_for files file.now (length out.old)) out.new result }
@@ -119,9 +134,7 @@ fn write_listing(rt: &impl Print, files: Files, file: &[u8]) -> Result<(), Troub
 // A file that is open. One that was read in part has no listing.
 fn list_open(rt: &impl Print, input: &mut impl Read, files: Files) -> Result<(), Trouble> {
     let mut file = [0u8; ROOM];
-    let Ok(n) = read_whole(input, &mut file) else {
-        return Err(Trouble::Unread);
-    };
+    let n = read_whole(input, &mut file).map_err(|_| Trouble::Unread)?;
     write_listing(rt, files, &file[..n])
 }
 

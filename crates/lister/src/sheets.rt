@@ -16,13 +16,10 @@ fn read_named(
     ensures { IfOk result (λ n. n ≤ length file.new) }
 {
     let mut input = crate::open_named(rt, program, name)?;
-    match crate::read_whole(&mut input, file) {
-        Ok(n) => Ok(n),
-        Err(_) => {
-            crate::say(rt, program, "read", name);
-            Err(Trouble::Unread)
-        }
-    }
+    crate::read_whole(&mut input, file).map_err(|_| {
+        crate::say(rt, program, "read", name);
+        Trouble::Unread
+    })
 }
 
 // The answer to a net and to as much of a listing as has been read, all of it or at least its first 65,536 bytes, into a lent buffer; how many bytes it
