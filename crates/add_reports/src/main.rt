@@ -1,12 +1,9 @@
 // The program that adds up season reports: those that come on standard input, one after another.
 #![tactic(auto)]
 
-use lister::sums;
+use lister::{Kind, Program};
 use std::process::ExitCode;
 
 fn main(rt: HostRuntime) -> ExitCode {
-    let mut input = rt.stdin();
-    let outcome = sums::add_open(&rt, &mut input);
-    lister::report(&rt, "add_reports", outcome, b"standard input");
-    lister::status(outcome)
+    Program::new(&rt, "add_reports").print_input(Kind::Reports)
 }

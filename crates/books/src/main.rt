@@ -2,9 +2,9 @@
 // that must be, worked out by the independent program (see `answers`).
 #![tactic(auto)]
 
-use lister::{Files, Kind};
+use lister::{Files, Kind, Program};
 use std::process::ExitCode;
 
 fn main(rt: HostRuntime) -> ExitCode {
-    lister::print_arguments(&rt, "books", true, Kind::Whole(Files::Books))
+    Program::new(&rt, "books").print_arguments(true, Kind::Whole(Files::Books))
 }

@@ -2,9 +2,9 @@
 // listing with its E line. `stdout` has what that must be, worked out by the independent program (see `answers`).
 #![tactic(auto)]
 
-use lister::{Files, Kind};
+use lister::{Files, Kind, Program};
 use std::process::ExitCode;
 
 fn main(rt: HostRuntime) -> ExitCode {
-    lister::print_arguments(&rt, "cards", true, Kind::Whole(Files::NetworksWithErrors))
+    Program::new(&rt, "cards").print_arguments(true, Kind::Whole(Files::NetworksWithErrors))
 }

@@ -2,9 +2,9 @@
 // names a file, and the lists follow each other.
 #![tactic(auto)]
 
-use lister::Files;
+use lister::{Files, Program};
 use std::process::ExitCode;
 
 fn main(rt: HostRuntime) -> ExitCode {
-    lister::run(&rt, "dropped", Files::Dropped)
+    Program::new(&rt, "dropped").run(Files::Dropped)
 }

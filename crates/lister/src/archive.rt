@@ -5,7 +5,7 @@ ghost use Rattle.reply.specs.Verdicts.{verdict_of};
 ghost use Rattle.text.specs.Written.{Wrote};
 ghost use Rattle.lister.specs.Ended.{ended_in};
 
-use crate::{NAME, Trouble};
+use crate::{NAME, Program, Trouble};
 use reply::Refusal;
 use season::stream;
 use std::io::Read;
@@ -50,24 +50,24 @@ impl Archive {
     }
 
     // All bytes of the file of that name. Says so where it could not be read to its end.
-    fn feed_named(&mut self, rt: &HostRuntime, program: &str, name: &[u8]) -> Result<(), Trouble> {
-        let mut file = crate::open_named(rt, program, name)?;
+    fn feed_named(&mut self, program: Program, name: &[u8]) -> Result<(), Trouble> {
+        let mut file = program.open(name)?;
         let outcome = self.feed(&mut file);
-        crate::report(rt, program, outcome, name);
+        program.report(outcome, name);
         outcome
     }
 
     // The same of the file that argument i names.
-    fn feed_argument(&mut self, rt: &HostRuntime, program: &str, i: usize) -> Result<(), Trouble> {
+    fn feed_argument(&mut self, program: Program, i: usize) -> Result<(), Trouble> {
         let mut name = [0u8; NAME];
-        let n = crate::name_of(rt, i, &mut name);
-        self.feed_named(rt, program, &name[..n])
+        let n = crate::name_of(program.rt, i, &mut name);
+        self.feed_named(program, &name[..n])
     }
 
     // The same of all files that the arguments name, up to the first that cannot be read.
-    fn feed_arguments(&mut self, rt: &HostRuntime, program: &str) -> Result<(), Trouble> {
-        for i in 1..crate::arg_count(rt) {
-            self.feed_argument(rt, program, i)?;
+    fn feed_arguments(&mut self, program: Program) -> Result<(), Trouble> {
+        for i in 1..crate::arg_count(program.rt) {
+            self.feed_argument(program, i)?;
         }
         Ok(())
     }
@@ -98,12 +98,12 @@ pub fn report_open(rt: &impl Print, input: &mut impl Read) -> Result<(), Trouble
 }
 
 // The one report of all archives that the arguments name. Where one of them cannot be read there is none. Answers the program's exit status.
-pub fn report_arguments(rt: &HostRuntime, program: &str) -> ExitCode {
+pub fn report_arguments(program: Program) -> ExitCode {
     let mut archive = Archive::begin();
-    if archive.feed_arguments(rt, program).is_err() {
+    if archive.feed_arguments(program).is_err() {
         return ExitCode::SUCCESS;
     }
-    let outcome = archive.write_report(rt);
-    crate::report(rt, program, outcome, b"the archives");
+    let outcome = archive.write_report(program.rt);
+    program.report(outcome, b"the archives");
     crate::status(outcome)
 }

@@ -12,8 +12,10 @@ pub mod sheets;
 pub mod sums;
 
 ghost use Rattle.std.specs.Prelude.{◌-◌, ◌≤◌, ◌≡◌, length, take, IfOk};
+ghost use Rattle.std.specs.Process.{exit_status};
 ghost use Rattle.text.specs.Written.{Wrote};
 ghost use Rattle.lister.specs.Listings.{listing_for};
+ghost use Rattle.lister.specs.Status.{status_of, Ends};
 
 use book::parts;
 use book::parts::Part;
@@ -138,27 +140,14 @@ fn list_open(rt: &impl Print, input: &mut impl Read, files: Files) -> Result<(),
     write_listing(rt, files, &file[..n])
 }
 
-// A line on standard error. Where that cannot be written, nothing is left to say it on.
-fn say(rt: &HostRuntime, program: &str, what: &str, name: &[u8]) {
-    let _ = eprint!(rt; "{program}: cannot {what} ");
-    let _ = rt.stderr().write_all(name);
-    let _ = eprintln!(rt;);
-}
-
 // The exit status of a program whose last file came to this.
-pub fn status(outcome: Result<(), Trouble>) -> ExitCode {
+pub fn status(outcome: Result<(), Trouble>) -> ExitCode
+    ensures told { exit_status result ≡ status_of outcome }
+    ensures known { Ends (exit_status result) }
+{
     match outcome {
         Err(Trouble::Unwanted) => ExitCode::from(UNWANTED),
         _ => ExitCode::SUCCESS,
-    }
-}
-
-// Says what went wrong. Where the reader wanted no more nothing is said, as with other commands.
-pub fn report(rt: &HostRuntime, program: &str, outcome: Result<(), Trouble>, name: &[u8]) {
-    match outcome {
-        Ok(()) | Err(Trouble::Unwanted) => {}
-        Err(Trouble::Unread) => say(rt, program, "read", name),
-        Err(Trouble::Unwritten) => say(rt, program, "write the listing of", name),
     }
 }
 
@@ -181,32 +170,6 @@ fn print_open(rt: &impl Print, input: &mut impl Read, kind: Kind) -> Result<(), 
 fn open(rt: &HostRuntime, name: &[u8]) -> Option<File> {
     let path = str::from_utf8(name).ok()?;
     File::open(rt, path).ok()
-}
-
-// Opens the file of that name, or says that it cannot be opened.
-fn open_named(rt: &HostRuntime, program: &str, name: &[u8]) -> Result<File, Trouble> {
-    let file = open(rt, name);
-    if file.is_none() {
-        say(rt, program, "open", name);
-    }
-    file.ok_or(Trouble::Unread)
-}
-
-// The file of that name, under a line with the name where it is headed.
-fn print_named(
-    rt: &HostRuntime,
-    program: &str,
-    headed: bool,
-    kind: Kind,
-    name: &[u8],
-) -> Result<(), Trouble> {
-    if headed {
-        write_heading(rt, name);
-    }
-    let mut file = open_named(rt, program, name)?;
-    let outcome = print_open(rt, &mut file, kind);
-    report(rt, program, outcome, name);
-    outcome
 }
 
 // How many arguments there are, the program's own name among them.
@@ -234,37 +197,92 @@ fn name_of(rt: &impl Env, i: usize, name: &mut [u8]) -> usize
     }
 }
 
-// The file that argument i names.
-fn print_argument(
-    rt: &HostRuntime,
-    program: &str,
-    headed: bool,
-    kind: Kind,
-    i: usize,
-) -> Result<(), Trouble> {
-    let mut name = [0u8; NAME];
-    let n = name_of(rt, i, &mut name);
-    print_named(rt, program, headed, kind, &name[..n])
+// A program: the system that it runs on, and the name under which it says what it cannot do.
+#[derive(Clone, Copy)]
+pub struct Program<'a> {
+    rt: &'a HostRuntime,
+    name: &'a str,
 }
 
-// The files that the arguments name, in turn. Argument 0 is the program's own name. A file that cannot be read is passed over; where one listing could not
-// be written, the next could not be either. Answers the program's exit status.
-pub fn print_arguments(rt: &HostRuntime, program: &str, headed: bool, kind: Kind) -> ExitCode {
-    for i in 1..arg_count(rt) {
-        match print_argument(rt, program, headed, kind, i) {
-            Ok(()) | Err(Trouble::Unread) => {}
-            outcome => return status(outcome),
+impl<'a> Program<'a> {
+    pub fn new(rt: &'a HostRuntime, name: &'a str) -> Program<'a>
+        ensures { result.name.now ≡ name.now }
+    {
+        Program { rt, name }
+    }
+
+    // A line on standard error. Where that cannot be written, nothing is left to say it on.
+    fn say(self, what: &str, file: &[u8]) {
+        let Program { rt, name } = self;
+        let _ = eprint!(rt; "{name}: cannot {what} ");
+        let _ = rt.stderr().write_all(file);
+        let _ = eprintln!(rt;);
+    }
+
+    // Says what went wrong. Where the reader wanted no more nothing is said, as with other commands.
+    fn report(self, outcome: Result<(), Trouble>, file: &[u8]) {
+        match outcome {
+            Ok(()) | Err(Trouble::Unwanted) => {}
+            Err(Trouble::Unread) => self.say("read", file),
+            Err(Trouble::Unwritten) => self.say("write the listing of", file),
         }
     }
-    ExitCode::SUCCESS
-}
 
-// What a program does: with no argument the file is standard input; otherwise each argument names a file, and the listings follow each other.
-pub fn run(rt: &HostRuntime, program: &str, files: Files) -> ExitCode {
-    if 1 < arg_count(rt) {
-        return print_arguments(rt, program, false, Kind::Whole(files));
+    // Opens the file of that name, or says that it cannot be opened.
+    fn open(self, name: &[u8]) -> Result<File, Trouble> {
+        let file = open(self.rt, name);
+        if file.is_none() {
+            self.say("open", name);
+        }
+        file.ok_or(Trouble::Unread)
     }
-    let outcome = list_open(rt, &mut rt.stdin(), files);
-    report(rt, program, outcome, b"standard input");
-    status(outcome)
+
+    // The file of that name, under a line with the name where it is headed.
+    fn print_named(self, headed: bool, kind: Kind, name: &[u8]) -> Result<(), Trouble> {
+        if headed {
+            write_heading(self.rt, name);
+        }
+        let mut file = self.open(name)?;
+        let outcome = print_open(self.rt, &mut file, kind);
+        self.report(outcome, name);
+        outcome
+    }
+
+    // The file that argument i names.
+    fn print_argument(self, headed: bool, kind: Kind, i: usize) -> Result<(), Trouble> {
+        let mut name = [0u8; NAME];
+        let n = name_of(self.rt, i, &mut name);
+        self.print_named(headed, kind, &name[..n])
+    }
+
+    // The files that the arguments name, in turn. Argument 0 is the program's own name. A file that cannot be read is passed over; where one listing could not
+    // be written, the next could not be either. Answers the program's exit status.
+    pub fn print_arguments(self, headed: bool, kind: Kind) -> ExitCode {
+        for i in 1..arg_count(self.rt) {
+            match self.print_argument(headed, kind, i) {
+                Ok(()) | Err(Trouble::Unread) => {}
+                outcome => return status(outcome),
+            }
+        }
+        ExitCode::SUCCESS
+    }
+
+    // Standard input. Answers the program's exit status.
+    pub fn print_input(self, kind: Kind) -> ExitCode
+        ensures { Ends (exit_status result) }
+    {
+        let outcome = print_open(self.rt, &mut self.rt.stdin(), kind);
+        self.report(outcome, b"standard input");
+        status(outcome)
+    }
+
+    // What a program does: with no argument the file is standard input; otherwise each argument names a file, and the listings follow each other.
+    pub fn run(self, files: Files) -> ExitCode {
+        let kind = Kind::Whole(files);
+        if arg_count(self.rt) < 2 {
+            self.print_input(kind)
+        } else {
+            self.print_arguments(false, kind)
+        }
+    }
 }

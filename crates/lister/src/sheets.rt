@@ -3,21 +3,16 @@ ghost use Rattle.std.specs.Prelude.{◌≡◌, List, ℕ, ◌≤◌, length, tak
 ghost use Rattle.text.specs.Written.{Wrote};
 ghost use Rattle.sheet.specs.Answer.{answer_in};
 
-use crate::{NAME, ROOM, Trouble};
+use crate::{NAME, Program, ROOM, Trouble};
 use std::process::ExitCode;
 
 // The file of that name, as much of it as the buffer holds. What cannot be opened or read is said.
-fn read_named(
-    rt: &HostRuntime,
-    program: &str,
-    name: &[u8],
-    file: &mut [u8],
-) -> Result<usize, Trouble>
+fn read_named(program: Program, name: &[u8], file: &mut [u8]) -> Result<usize, Trouble>
     ensures { IfOk result (λ n. n ≤ length file.new) }
 {
-    let mut input = crate::open_named(rt, program, name)?;
+    let mut input = program.open(name)?;
     crate::read_whole(&mut input, file).map_err(|_| {
-        crate::say(rt, program, "read", name);
+        program.say("read", name);
         Trouble::Unread
     })
 }
@@ -40,41 +35,35 @@ fn write_answer(rt: &impl Print, net: &[u8], listing: &[u8]) -> Result<(), Troub
 }
 
 // The net and the sheet of these names. Where one of them cannot be read there is no answer.
-fn check_named(rt: &HostRuntime, program: &str, net: &[u8], sheet: &[u8]) -> Result<(), Trouble> {
+fn check_named(program: Program, net: &[u8], sheet: &[u8]) -> Result<(), Trouble> {
     let mut file = [0u8; ROOM];
     let mut listing = [0u8; ROOM];
-    let n = read_named(rt, program, net, &mut file)?;
-    let m = read_named(rt, program, sheet, &mut listing)?;
-    let outcome = write_answer(rt, &file[..n], &listing[..m]);
+    let n = read_named(program, net, &mut file)?;
+    let m = read_named(program, sheet, &mut listing)?;
+    let outcome = write_answer(program.rt, &file[..n], &listing[..m]);
     if outcome == Err(Trouble::Unwritten) {
-        crate::say(rt, program, "write the answer to", sheet);
+        program.say("write the answer to", sheet);
     }
     outcome
 }
 
 // The net and the sheet that two arguments name, under a line with the sheet's name where it is headed.
-pub fn check_pair(
-    rt: &HostRuntime,
-    program: &str,
-    headed: bool,
-    net: usize,
-    sheet: usize,
-) -> Result<(), Trouble> {
+pub fn check_pair(program: Program, headed: bool, net: usize, sheet: usize) -> Result<(), Trouble> {
     let mut net_name = [0u8; NAME];
     let mut sheet_name = [0u8; NAME];
-    let n = crate::name_of(rt, net, &mut net_name);
-    let m = crate::name_of(rt, sheet, &mut sheet_name);
+    let n = crate::name_of(program.rt, net, &mut net_name);
+    let m = crate::name_of(program.rt, sheet, &mut sheet_name);
     if headed {
-        crate::write_heading(rt, &sheet_name[..m]);
+        crate::write_heading(program.rt, &sheet_name[..m]);
     }
-    check_named(rt, program, &net_name[..n], &sheet_name[..m])
+    check_named(program, &net_name[..n], &sheet_name[..m])
 }
 
 // The nets and sheets that the arguments name by turns, each pair under the sheet's name. A net at the end, with no sheet behind it, is left out.
 // Where one answer could not be written, the next could not be either. Answers the program's exit status.
-pub fn check_arguments(rt: &HostRuntime, program: &str) -> ExitCode {
-    for i in (2..crate::arg_count(rt)).step_by(2) {
-        match check_pair(rt, program, true, i - 1, i) {
+pub fn check_arguments(program: Program) -> ExitCode {
+    for i in (2..crate::arg_count(program.rt)).step_by(2) {
+        match check_pair(program, true, i - 1, i) {
             Ok(()) | Err(Trouble::Unread) => {}
             outcome => return crate::status(outcome),
         }

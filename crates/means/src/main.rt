@@ -2,9 +2,9 @@
 // listings follow each other.
 #![tactic(auto)]
 
-use lister::Files;
+use lister::{Files, Program};
 use std::process::ExitCode;
 
 fn main(rt: HostRuntime) -> ExitCode {
-    lister::run(&rt, "means", Files::Books)
+    Program::new(&rt, "means").run(Files::Books)
 }

@@ -2,9 +2,9 @@
 // and the listings follow each other, each with its E line.
 #![tactic(auto)]
 
-use lister::Files;
+use lister::{Files, Program};
 use std::process::ExitCode;
 
 fn main(rt: HostRuntime) -> ExitCode {
-    lister::run(&rt, "probable", Files::NetworksWithErrors)
+    Program::new(&rt, "probable").run(Files::NetworksWithErrors)
 }

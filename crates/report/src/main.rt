@@ -2,16 +2,14 @@
 // joined byte by byte.
 #![tactic(auto)]
 
-use lister::archive;
+use lister::{Kind, Program, archive};
 use std::process::ExitCode;
 
 fn main(rt: HostRuntime) -> ExitCode {
+    let program = Program::new(&rt, "report");
     if lister::arg_count(&rt) < 2 {
-        let mut input = rt.stdin();
-        let outcome = archive::report_open(&rt, &mut input);
-        lister::report(&rt, "report", outcome, b"standard input");
-        lister::status(outcome)
+        program.print_input(Kind::Archives)
     } else {
-        archive::report_arguments(&rt, "report")
+        archive::report_arguments(program)
     }
 }

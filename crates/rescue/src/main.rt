@@ -2,9 +2,9 @@
 // lines that are kept of each follow each other.
 #![tactic(auto)]
 
-use lister::Files;
+use lister::{Files, Program};
 use std::process::ExitCode;
 
 fn main(rt: HostRuntime) -> ExitCode {
-    lister::run(&rt, "rescue", Files::Rescued)
+    Program::new(&rt, "rescue").run(Files::Rescued)
 }

@@ -2,10 +2,11 @@
 // each with the list of its dropped sightings. `stdout` has what that must be, worked out by the independent program (see `answers`).
 #![tactic(auto)]
 
-use lister::{Files, Kind};
+use lister::{Files, Kind, Program};
 use std::process::ExitCode;
 
 fn main(rt: HostRuntime) -> ExitCode {
-    lister::print_arguments(&rt, "rescues", true, Kind::Whole(Files::Rescued));
-    lister::print_arguments(&rt, "rescues", true, Kind::Whole(Files::Dropped))
+    let program = Program::new(&rt, "rescues");
+    program.print_arguments(true, Kind::Whole(Files::Rescued));
+    program.print_arguments(true, Kind::Whole(Files::Dropped))
 }

@@ -2,9 +2,9 @@
 // worked out by the independent program (see `answers`).
 #![tactic(auto)]
 
-use lister::Kind;
+use lister::{Kind, Program};
 use std::process::ExitCode;
 
 fn main(rt: HostRuntime) -> ExitCode {
-    lister::print_arguments(&rt, "seasons", true, Kind::Archives)
+    Program::new(&rt, "seasons").print_arguments(true, Kind::Archives)
 }

@@ -2,8 +2,9 @@
 // what that must be, worked out by the independent program (see `answers`).
 #![tactic(auto)]
 
+use lister::{Program, sheets};
 use std::process::ExitCode;
 
 fn main(rt: HostRuntime) -> ExitCode {
-    lister::sheets::check_arguments(&rt, "sheets")
+    sheets::check_arguments(Program::new(&rt, "sheets"))
 }

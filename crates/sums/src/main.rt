@@ -2,9 +2,9 @@
 // refuses them. `stdout` has what that must be, worked out by the independent program (see `answers`).
 #![tactic(auto)]
 
-use lister::Kind;
+use lister::{Kind, Program};
 use std::process::ExitCode;
 
 fn main(rt: HostRuntime) -> ExitCode {
-    lister::print_arguments(&rt, "sums", true, Kind::Reports)
+    Program::new(&rt, "sums").print_arguments(true, Kind::Reports)
 }
