@@ -7,11 +7,13 @@
 --   letter_some, fields_most, none_due, numbered_some   its letter, how many numbers it has; an empty line is none; a numbered line has its numbers
 --   due_here, due_within                   the line at a start is the listing's line there
 --   Begun, begun_none, begun_more, begun_put   i lines behind the ADJ line have been read, each the one due, and their numbers stand in their places
+--   refused_by, given_by                   a line that is asked for under a refusal: there is none, and this is the refusal, or it is given
 --   broken, goes_on_lem, all_read              the next line is not the one due; bytes behind the last; nothing behind it
 use mathlib.Core.Path.{◌≡◌, refl, sym, ◌∙◌, ap, subst}
 use mathlib.Core.Bool.{Bool, true, false, cond}
 use mathlib.Core.List.{List, [], ◌++◌}
-use Rattle.std.specs.Prelude.{Option, None, Some, Err}
+use Rattle.std.specs.Prelude.{Option, None, Some, Ok, Err}
+use Rattle.std.specs.Option.{ok_or}
 use Prim.Native.Nat.{ℕ, ◌+◌, ◌*◌, ◌-◌, ◌<◌, ◌≤◌}
 use native.Mathlib.Nat.{zero-add}
 use native.Mathlib.Decide.{dec_lt}
@@ -27,6 +29,7 @@ use Rattle.exact.specs.Same.{same}
 use Rattle.exact.specs.Outside.{outside}
 use Rattle.exact.proofs.Order.{lt_false, lt_le, from_one}
 use Rattle.exact.proofs.Searching.{Failed, failed_none, failed_more, neither, either, not_both}
+use Rattle.reply.specs.declared.Refusal.{Refusal}
 use Rattle.reply.specs.declared.Refusal.TheVariants.{Sheet}
 use Rattle.reply.proofs.Checking.{refuse_at, refuse_none}
 use Rattle.condition.specs.Sound.{Number}
@@ -292,3 +295,12 @@ module _ {listing : List ℕ} {first m n : ℕ} (h : Headed listing first m n) w
         n_most = h.n_most;
         entered = subst (λ (lines : ℕ). Entered listing m lines x) all b.entered;
       }
+
+-- ---- a line asked for under a refusal
+pub refused_by : (x : Option ℕ) (why given : Refusal) → ok_or x why ≡ Err given → (x ≡ None) × (given ≡ why)
+refused_by None why given e = (refl, cc)
+refused_by (Some line) why given e = cc
+
+pub given_by : (x : Option ℕ) (why : Refusal) (line : ℕ) → ok_or x why ≡ Ok line → x ≡ Some line
+given_by None why line e = cc
+given_by (Some next) why line e = cc

@@ -9,14 +9,15 @@ ghost use Rattle.sheet.specs.Check.{direction_differs, condition_differs, disagr
 ghost use Rattle.sheet.specs.Inner.{number_at, pair_unlike, WellFormed, Corrected};
 
 use crate::Opinion;
+use crate::form::NUMBERS;
 use adjustment::correct;
 use doolittle::SoundTable;
 use network::Size;
 
 // The correlates of n K lines behind m V lines, up to the first beyond 10^8, into a lent list; which that is, or n, as the rules' "first"
 // has it, here and below.
-fn take_correlates(x: &[i64], m: usize, n: usize, k: &mut [i64]) -> usize
-    requires { (length x.now ≡ 352) × (m ≤ 64) × (n ≤ 24) × (n ≤ length k.old) }
+fn take_correlates(x: &[i64; NUMBERS], m: usize, n: usize, k: &mut [i64; 24]) -> usize
+    requires { (m ≤ 64) × (n ≤ 24) }
     ensures value { result ≡ first n (λ j. ltb 100000000 (nat_abs (number_at x.now (m + j) 1))) }
     ensures stored { (j : ℕ) → j < result → get_or k.new j (pos 0) ≡ number_at x.now (m + j) 1 }
 {
@@ -32,8 +33,8 @@ fn take_correlates(x: &[i64], m: usize, n: usize, k: &mut [i64]) -> usize
 
 // The first of `count` lines whose two numbers, side by side, are not those of the two lists; `count` where there is none. The numbers of the first line
 // stand from place `from` on.
-fn first_unlike(x: &[i64], from: usize, a: &[i64], b: &[i64], count: usize) -> usize
-    requires { (length x.now ≡ 352) × (from + 4 * count ≤ 354) × (count ≤ length a.now) × (count ≤ length b.now) }
+fn first_unlike(x: &[i64; NUMBERS], from: usize, a: &[i64], b: &[i64], count: usize) -> usize
+    requires { (from + 4 * count ≤ 354) × (count ≤ length a.now) × (count ≤ length b.now) }
     ensures { result ≡ first count (pair_unlike x.now from a.now b.now) }
 {
     for i in 0..count {
@@ -52,14 +53,13 @@ fn first_unlike(x: &[i64], from: usize, a: &[i64], b: &[i64], count: usize) -> u
 fn first_direction(
     directions: &[i64],
     table: SoundTable,
-    x: &[i64],
-    k: &[i64],
-    v: &mut [i64],
-    u: &mut [i64],
-    adjusted: &mut [i64],
+    x: &[i64; NUMBERS],
+    k: &[i64; 24],
+    v: &mut [i64; 64],
+    u: &mut [i64; 64],
+    adjusted: &mut [i64; 64],
 ) -> usize
     requires in_circle { (length directions.now ≡ length table.q.now) × Small 1296000000 directions.now (length table.q.now) }
-    requires lists_long { (length x.now ≡ 352) × (length v.old ≡ 64) × (length u.old ≡ 64) × (length adjusted.old ≡ 64) }
     requires k_small { HasSmall 100000000 k.now (length table.w.now) }
     ensures line { (listing : List ℕ) → WellFormed listing (length table.entry.q.now) (length table.entry.w.now) x.now →
         ((j : ℕ) → j < length table.entry.w.now → at k.now j ≡ own_k listing j) →
@@ -76,30 +76,27 @@ fn first_direction(
 // remainders go into lent lists.
 fn first_condition(
     table: SoundTable,
-    x: &[i64],
-    v: &[i64],
-    u: &[i64],
-    r: &mut [i64],
-    misses: &mut [i64],
+    x: &[i64; NUMBERS],
+    v: &[i64; 64],
+    u: &[i64; 64],
+    r: &mut [i64; 24],
+    misses: &mut [i64; 24],
 ) -> usize
-    requires x_long { length x.now ≡ 352 }
     requires v_small { HasSmall 48000000000000 v.now (length table.q.now) }
     requires u_small { HasSmall 60000 u.now (length table.q.now) }
-    requires room { (length table.w.now ≤ length r.old) × (length misses.old ≡ length table.w.now) }
     ensures { (listing : List ℕ) → WellFormed listing (length table.entry.q.now) (length table.entry.w.now) x.now →
         Corrected (table_in table.entry) (own_k listing) v.now u.now →
         result ≡ first (length table.entry.w.now) (condition_differs (table_in table.entry) listing) }
 {
     let close = correct::remainders(table, v, r);
-    correct::print_remainders(table, u, misses);
+    correct::print_remainders(table, u, &mut misses[..table.w.len()]);
     first_unlike(x, 4 * table.q.len() + 2, r, misses, close)
 }
 
 // The opinion on a listing of those counts: the tests of its counts, of the sizes of its K, of its V lines and of its K lines, up to the first that fails. The
 // contract speaks of whatever listing the numbers are of, since the function is handed only numbers.
-pub fn opinion(directions: &[i64], table: SoundTable, x: &[i64], counts: Size) -> Opinion
+pub fn opinion(directions: &[i64], table: SoundTable, x: &[i64; NUMBERS], counts: Size) -> Opinion
     requires in_circle { (length directions.now ≡ length table.q.now) × Small 1296000000 directions.now (length table.q.now) }
-    requires x_long { length x.now ≡ 352 }
     ensures { (listing : List ℕ) → WellFormed listing counts.m counts.n x.now →
         result ≡ opinion_at (disagreement (table_in table.entry) (at directions.now) listing) }
 {
@@ -121,7 +118,7 @@ pub fn opinion(directions: &[i64], table: SoundTable, x: &[i64], counts: Size) -
     }
     let mut r = [0; 24];
     let mut misses = [0; 24];
-    let condition = first_condition(table, x, &v, &u, &mut r, &mut misses[..n]);
+    let condition = first_condition(table, x, &v, &u, &mut r, &mut misses);
     if condition < n {
         return Opinion::No((m + 2 + condition) as u64);
     }

@@ -18,8 +18,7 @@ const MOST_DIGITS: usize = 18;
 pub const NUMBERS: usize = 352;
 
 // The two counts of the ADJ line.
-fn heading(listing: &[u8], x: &mut [i64]) -> Option<usize>
-    requires { length x.old ≡ 2 }
+fn heading(listing: &[u8], x: &mut [i64; 2]) -> Option<usize>
     ensures end { result ≡ end_of (heading_of listing.now) (place_from LF listing.now 4 + 1) }
     ensures values { take 2 x.new ≡ row_values (heading_of listing.now) (take 2 x.new) }
 {
@@ -64,17 +63,19 @@ fn due_line(listing: &[u8], start: usize, m: usize, i: usize, x: &mut [i64]) -> 
 }
 
 // The lines behind the ADJ line, which ends at `start`, and that nothing follows them.
-fn lines(listing: &[u8], start: usize, m: usize, n: usize, x: &mut [i64]) -> Result<Size, Refusal>
-    requires headed { Headed listing.now start m n }
-    requires x_len { length x.old ≡ 352 }
+fn lines(
+    listing: &[u8],
+    start: usize,
+    m: usize,
+    n: usize,
+    x: &mut [i64; NUMBERS],
+) -> Result<Size, Refusal>
+    requires { Headed listing.now start m n }
     ensures { FormedAs listing.now result x.new }
 {
     let mut next = start;
     for i in 0..m + n {
-        let Some(after) = due_line(listing, next, m, i, &mut x[4 * i..]) else {
-            return Err(Refusal::Sheet((i + 2) as u64));
-        };
-        next = after;
+        next = due_line(listing, next, m, i, &mut x[4 * i..]).ok_or(Refusal::Sheet(i as u64 + 2))?;
     }
     if next < listing.len() {
         return Err(Refusal::Sheet((m + n + 2) as u64));
@@ -83,16 +84,12 @@ fn lines(listing: &[u8], start: usize, m: usize, n: usize, x: &mut [i64]) -> Res
 }
 
 // All lines of a listing.
-pub fn read(listing: &[u8], x: &mut [i64]) -> Result<Size, Refusal>
-    requires { length x.old ≡ 352 }
+pub fn read(listing: &[u8], x: &mut [i64; NUMBERS]) -> Result<Size, Refusal>
     ensures { FormedAs listing.now result x.new }
 {
     let mut counts = [0; 2];
-    let Some(start) = heading(listing, &mut counts) else {
-        return Err(Refusal::Sheet(1));
-    };
-    let m = counts[0];
-    let n = counts[1];
+    let start = heading(listing, &mut counts).ok_or(Refusal::Sheet(1))?;
+    let [m, n] = counts;
     if exact::outside(1, 64, m) || exact::outside(1, 24, n) {
         return Err(Refusal::Sheet(1));
     }

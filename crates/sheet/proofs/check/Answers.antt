@@ -18,8 +18,8 @@ returns-in_err-counts c =
 pub invariant_of-opinion : goal.invariant_of-opinion
 invariant_of-opinion c = record { sound = table_sound c.args.net.now c.args.listing.now c.table.ensures c.in_ok-table.was }
 
-pub opinion-requires-clause-in_circle : goal.opinion-requires-clause-in_circle
-opinion-requires-clause-in_circle c = directions_sound c.args.net.now c.args.listing.now c.table.ensures c.in_ok-table.was
+pub opinion-requires : goal.opinion-requires
+opinion-requires c = record { in_circle = directions_sound c.args.net.now c.args.listing.now c.table.ensures c.in_ok-table.was }
 
 pub returns : goal.returns
 returns c =

@@ -1,5 +1,5 @@
 -- `compare::first_direction` meets its contract. Assumes nothing.
-use mathlib.Core.Path.{◌≡◌, refl, sym, ◌∙◌, ap}
+use mathlib.Core.Path.{◌≡◌, refl, ◌∙◌, ap}
 use mathlib.Core.List.{List, ◌++◌}
 use Prim.Native.Nat.{ℕ, ◌≤◌, ◌<◌}
 use native.Mathlib.Omega.{arith}
@@ -23,7 +23,7 @@ use Rattle.sheet.proofs.compare.first_direction.Goals as goal
 pub corrections-requires : goal.corrections-requires
 corrections-requires c = let p = c.requires in record {
   correlates = p.k_small;
-  room = omega (arith, c.args.table.sound.m_most, p.lists_long.1);
+  room = omega (arith, c.args.table.sound.m_most, c.told-v);
 }
 
 -- what has been formed of the table
@@ -59,8 +59,11 @@ module _ (c : After-print_corrections-within) where
   u_long : length u ≡ length start.args.u.now
   u_long = c.print_corrections-within.auto.u
 
+  within_most : within ≤ 64
+  within_most = omega (arith, few, start.args.table.sound.m_most)
+
   adjusted_room : within ≤ length start.args.adjusted.now
-  adjusted_room = omega (arith, few, start.args.table.sound.m_most, start.requires.lists_long.3)
+  adjusted_room = omega (arith, within_most, start.told-adjusted)
 
   -- of the correlates k of the list, and of any that agree with them
   module _ (k : ℕ → ℤ) (same : (j : ℕ) → j < t.n → at start.args.k.now j ≡ k j) where
@@ -79,17 +82,14 @@ module _ (c : After-print_corrections-within) where
   u_small : (i : ℕ) → i < within → nat_abs (at u i) ≤ 60000
   u_small i l = let k = at start.args.k.now in rw (u_is k (λ j h. refl) i l) (u_most k (λ j h. refl) i l)
 
-pub slice_bounds-adjust_directions-end : goal.slice_bounds-adjust_directions-end
-slice_bounds-adjust_directions-end c = adjusted_room (goal.at.slice_bounds-adjust_directions-end c).After-print_corrections-within
-
 pub slice_bounds-adjust_directions-end-2 : goal.slice_bounds-adjust_directions-end-2
-slice_bounds-adjust_directions-end-2 c = sym (length-take-le _ _ (adjusted_room (goal.at.slice_bounds-adjust_directions-end-2 c).After-print_corrections-within))
+slice_bounds-adjust_directions-end-2 c = within_most (goal.at.slice_bounds-adjust_directions-end-2 c).After-print_corrections-within
 
 pub adjust_directions-requires : goal.adjust_directions-requires
 adjust_directions-requires c =
     let p = (goal.at.adjust_directions-requires c).After-print_corrections-within in let s = start p in let e = length-take-le (within p) s.args.adjusted.now (adjusted_room p) in record {
       directions = (omega (arith, e, few p, s.requires.in_circle.0), λ i l. s.requires.in_circle.1 i (omega (arith, e, few p)));
-      corrections = (omega (arith, e, few p, u_long p, s.args.table.sound.m_most, s.requires.lists_long.2), λ i l. u_small p i (omega (arith, e)));
+      corrections = (omega (arith, e, few p, u_long p, s.args.table.sound.m_most, s.told-u), λ i l. u_small p i (omega (arith, e)));
     }
 
 -- the adjusted directions, and what stands behind them
@@ -112,7 +112,7 @@ module _ (c : After-adjust_directions) where
 pub first_unlike-requires : goal.first_unlike-requires
 first_unlike-requires c =
     let a = (goal.at.first_unlike-requires c).After-adjust_directions in let p = printed a in let s = start p in
-    (s.requires.lists_long.0, omega (arith, few p, s.args.table.sound.m_most), omega (arith, few p, u_long p, s.args.table.sound.m_most, s.requires.lists_long.2), room a)
+    (omega (arith, few p, s.args.table.sound.m_most), omega (arith, few p, u_long p, s.args.table.sound.m_most, s.told-u), room a)
 
 pub returns : goal.returns
 returns c =

@@ -1,12 +1,11 @@
 -- `compare::opinion` meets its contract. Assumes nothing.
-use mathlib.Core.Path.{◌≡◌, refl, sym, ◌∙◌, subst₂}
+use mathlib.Core.Path.{◌≡◌, sym, ◌∙◌, subst₂}
 use mathlib.Core.List.{List}
 use Prim.Native.Nat.{ℕ, ◌+◌, ◌≤◌, ◌<◌}
 use native.Mathlib.Omega.{arith}
 use borrow.Author.Tests.{ltb-false}
 use lib.IntN.{ℤ}
 use lib.ListN.{length}
-use lib.Seq.{length-take-le}
 use Rattle.exact.specs.First.{first}
 use Rattle.exact.proofs.Searching.{first_before}
 use Rattle.doolittle.specs.Table.{Table, at}
@@ -77,7 +76,7 @@ module _ (c : After-take_correlates-sized) where
       (ltb-false 100000000 _ (first_before start.args.counts.n (beyond 100000000 (λ i. number_at start.args.x.now (start.args.counts.m + i) 1)) j (omega (arith, h, l, c.take_correlates-sized.ensures.value))))
 
   k_long : length k ≡ 24
-  k_long = c.take_correlates-sized.auto.k
+  k_long = c.take_correlates-sized.array_long
 
 pub returns-then-sized-n : goal.returns-then-sized-n
 returns-then-sized-n c = λ listing f.
@@ -89,7 +88,6 @@ first_direction-direction-requires c =
     let b = (goal.at.first_direction-direction-requires c).After-take_correlates-sized in let p = (start b).requires in
     record {
       in_circle = p.in_circle;
-      lists_long = (p.x_long, refl, refl, refl);
       k_small = (omega (arith, k_long b, (start b).args.table.sound.n_most), k_small b (omega (arith, c.if-sized-n.false, n_is b)));
     }
 
@@ -115,10 +113,10 @@ module _ (d : After-first_direction-direction) where
   u = d.first_direction-direction.new.u
 
   v_long : length v ≡ 64
-  v_long = d.first_direction-direction.auto.v
+  v_long = d.first_direction-direction.array_long
 
   u_long : length u ≡ 64
-  u_long = d.first_direction-direction.auto.u
+  u_long = d.first_direction-direction.array_long2
 
   -- where they all agree
   module _ (l : (t taken).m ≤ v_first) where
@@ -138,17 +136,12 @@ returns-then-direction-m c = λ listing f.
     let d = (goal.at.returns-then-direction-m c).After-first_direction-direction in let b = taken d in
     no_at (omega arith) (omega (arith, v_line_lem (t b) (direction (start b)) listing (directions_same b listing f) (conditions_same b listing f) (sized b) (sizes b listing f) (all_small d) (v_first d) (v_differs_at d listing f) (omega (arith, c.if-direction-m.true, m_is b))))
 
-pub slice_bounds-first_condition-end-4 : goal.slice_bounds-first_condition-end-4
-slice_bounds-first_condition-end-4 c = sym (length-take-le _ _ (omega arith))
-
 pub first_condition-condition-requires : goal.first_condition-condition-requires
 first_condition-condition-requires c =
-    let d = (goal.at.first_condition-condition-requires c).After-first_direction-direction in let b = taken d in let p = (start b).requires in let sound = (start b).args.table.sound in
+    let d = (goal.at.first_condition-condition-requires c).After-first_direction-direction in let b = taken d in let sound = (start b).args.table.sound in
     let all : (t b).m ≤ v_first d = omega (arith, c.if-direction-m.false, m_is b) in record {
-      x_long = p.x_long;
       v_small = (omega (arith, v_long d, sound.m_most), v_small d all);
       u_small = (omega (arith, u_long d, sound.m_most), u_small d all);
-      room = (sound.n_most, length-take-le _ _ (omega (arith, n_is b, sound.n_most)) ∙ n_is b);
     }
 
 -- ---- and the K lines

@@ -9,7 +9,7 @@ use Rattle.sheet.proofs.form.heading.Goals as goal
 
 pub read-requires : goal.read-requires
 read-requires c =
-    (omega arith, omega (arith, begins_length adj_head c.args.listing.now (sym c.begins.ensures ∙ c.if-not-begins.false)), omega arith, omega (arith, c.requires))
+    (omega arith, omega (arith, begins_length adj_head c.args.listing.now (sym c.begins.ensures ∙ c.if-not-begins.false)), omega arith, omega (arith, c.told-x))
 
 pub returns-then-not-begins : goal.returns-then-not-begins
 unfolding end_of row_values

@@ -3,6 +3,7 @@ use mathlib.Core.Path.{◌≡◌, sym, ◌∙◌, ap, subst}
 use mathlib.Core.Bool.{false}
 use mathlib.Core.List.{List}
 use Rattle.std.specs.Prelude.{Some}
+use Rattle.std.proofs.lemmas.Result.{err_from_is_err_and}
 use Prim.Native.Nat.{ℕ, ◌+◌, ◌<◌}
 use native.Mathlib.Omega.{arith}
 use borrow.Author.Rules.{rules}
@@ -19,23 +20,25 @@ use Rattle.text.specs.Parts.{place_from}
 use Rattle.text.specs.Lines.{LF}
 use Rattle.text.proofs.Rowing.{told_some, told_none}
 use Rattle.sheet.specs.Form.{heading_of}
-use Rattle.sheet.proofs.Forming.{none_refused, first_refused, second_refused, directions_number, conditions_number, headed}
-use Rattle.sheet.proofs.form.read.Goals.{In-Some, Else-outside-2, then-outside-via-then-outside, then-outside-via-else-outside+then-outside-2}
+use Rattle.sheet.proofs.Forming.{refused_by, given_by, none_refused, first_refused, second_refused, directions_number, conditions_number, headed}
+use Rattle.sheet.proofs.form.read.Goals.{In_ok-start, Else-outside-2, then-outside-via-then-outside, then-outside-via-else-outside+then-outside-2}
 use Rattle.sheet.proofs.form.read.Goals as goal
 
-pub returns-in_default : goal.returns-in_default
-returns-in_default c = none_refused c.args.listing.now (told_none _ _ (sym c.heading.ensures.end ∙ c.in_default.is))
+pub returns-in_err-start : goal.returns-in_err-start
+returns-in_err-start c =
+    let p = err_from_is_err_and c.from_residual.result c.from_residual.ensures.1 in let none = refused_by _ _ _ (sym c.ok_or.ensures.value ∙ c.in_err-start.was) in
+    rw (p.1, p.2, none.1) (none_refused c.args.listing.now (told_none _ _ (sym c.heading.ensures.end ∙ none.0)))
 
 -- ---- the two counts
-module _ (c : In-Some) where
+module _ (c : In_ok-start) where
   abbrev listing : List ℕ
   listing = c.args.listing.now
 
   abbrev counts : List ℤ
   counts = c.heading.new.x
 
-  told : (heading_of listing ≡ Some (take 2 counts)) × (c.in-Some.start ≡ place_from LF listing 4 + 1)
-  told = told_some _ _ _ _ (sym c.heading.ensures.end ∙ c.in-Some.is) c.heading.ensures.values
+  told : (heading_of listing ≡ Some (take 2 counts)) × (c.in_ok-start.start ≡ place_from LF listing 4 + 1)
+  told = told_some _ _ _ _ (sym c.heading.ensures.end ∙ given_by _ _ _ (sym c.ok_or.ensures.value ∙ c.in_ok-start.was)) c.heading.ensures.values
 
 -- each is a number of the machine
 cut : (k : ℕ) (counts : List ℤ) → k < 2 → SFits w64 (get_or counts k (pos 0)) → to_z w64 (of_z w64 (get_or counts k (pos 0))) ≡ get_or (take 2 counts) k (pos 0)
@@ -43,7 +46,7 @@ cut k counts l fit = read fit ∙ sym (get_or-take 2 counts k (pos 0) l)
 
 pub returns-then-outside : goal.returns-then-outside
 returns-then-outside c =
-    let k = (goal.at.returns-then-outside c).In-Some in let xs = counts k in
+    let k = (goal.at.returns-then-outside c).In_ok-start in let xs = counts k in
     let m_is : to_z w64 (of_z w64 (get_or xs 0 (pos 0))) ≡ get_or (take 2 xs) 0 (pos 0) = cut 0 xs (omega arith) (search rules) in
     let n_is : to_z w64 (of_z w64 (get_or xs 1 (pos 0))) ≡ get_or (take 2 xs) 1 (pos 0) = cut 1 xs (omega arith) (search rules) in
     elim c.then-outside.branch [
@@ -54,8 +57,8 @@ returns-then-outside c =
 
 -- ---- both are in range
 module _ (c : Else-outside-2) where
-  abbrev counted : In-Some
-  counted = (goal.at.Else-outside-2 c).In-Some
+  abbrev counted : In_ok-start
+  counted = (goal.at.Else-outside-2 c).In_ok-start
 
   m_is : to_z w64 (of_z w64 (get_or (counts counted) 0 (pos 0))) ≡ get_or (take 2 (counts counted)) 0 (pos 0)
   m_is = cut 0 (counts counted) (omega arith) (search rules)
@@ -82,7 +85,4 @@ overflow_cast-n c =
 pub lines-requires : goal.lines-requires
 lines-requires c =
     let e = (goal.at.lines-requires c).Else-outside-2 in let k = counted e in
-    record {
-      headed = rw (m_is e, n_is e) (headed (listing k) (take 2 (counts k)) (told k).0 (few_directions e) (few_conditions e) _ (told k).1);
-      x_len = c.requires;
-    }
+    rw (m_is e, n_is e) (headed (listing k) (take 2 (counts k)) (told k).0 (few_directions e) (few_conditions e) _ (told k).1)
