@@ -10,7 +10,7 @@ fn numbers(rt: &impl Print, xs: &[i64]) {
     vectors::list(rt, xs);
 }
 
-// The reply, and what the lent lists hold.
+// The reply, and what the lent lists hold. Ten lists, as the operation takes them.
 fn show(
     rt: &impl Print,
     directions: &[i64],
@@ -47,7 +47,8 @@ fn show(
     let _ = println!(rt; ";");
 }
 
-// Lists of these lengths, v of the answer lists by direction and k of those by condition: every number is in range.
+// Lists of these lengths, v of the answer lists by direction and k of those by condition: every number is in range. A case is one line of numbers here
+// and below, as it is printed.
 fn lengths(rt: &impl Print, m: usize, q: usize, a: usize, w: usize, v: usize, k: usize)
     requires { (m ≤ 65) × ((q ≤ 65) × ((a ≤ 625) × ((w ≤ 25) × ((v ≤ 65) × (k ≤ 25))))) }
 {

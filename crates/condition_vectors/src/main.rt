@@ -15,7 +15,7 @@ const L: i64 = b'L' as i64;
 
 const R: i64 = b'R' as i64;
 
-// The letter of a kind of condition.
+// The letter of a kind of condition. A match: what is printed is no part of `condition`, whose kinds have no text.
 fn letter(kind: Kind) -> char {
     match kind {
         Kind::Angle => 'A',
@@ -50,7 +50,8 @@ fn show(
     };
 }
 
-// Lists of these lengths, of fixed angles of 0: every number is in range.
+// Lists of these lengths, of fixed angles of 0: every number is in range. Here and below a case is one line of numbers, as it is printed: structs for
+// the terms would make it many, and the operation takes lists that are apart.
 fn counts(
     rt: &impl Print,
     m: usize,

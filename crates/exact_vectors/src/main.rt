@@ -26,6 +26,7 @@ fn magnitude(rt: &impl Print, z: i64) {
     let _ = println!(rt; "magnitude {z} = {}", exact::magnitude(z));
 }
 
+// A call for each case, and no list of cases: what a call asks of its divisor is then seen where the divisor is written.
 fn main(rt: HostRuntime) {
     nearest(&rt, 5, 2);
     nearest(&rt, -5, 2);

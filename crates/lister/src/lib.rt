@@ -44,7 +44,7 @@ pub enum Files {
     Dropped,
 }
 
-// The same with the files that are read in parts, each by itself.
+// The same with the files that are read in parts, each by itself. A case with a value, and no Option: each case is a kind of file.
 #[derive(Clone, Copy, Debug, PartialEq, Eq)]
 pub enum Kind {
     Whole(Files),
@@ -52,7 +52,7 @@ pub enum Kind {
     Reports,
 }
 
-// Why a file has no listing.
+// Why a file has no listing. No `From` makes one of an io::Error: where a read fails it is another than where a write does.
 #[derive(Clone, Copy, Debug, PartialEq, Eq)]
 pub enum Trouble {
     Unread,
@@ -104,7 +104,7 @@ fn read_parts<F: FnMut(&[u8])>(input: &mut impl Read, mut take: F) -> Result<(),
     Err(Trouble::Unread)
 }
 
-// The listing of a file, into a lent buffer; how many bytes it has.
+// The listing of a file, into a lent buffer; how many bytes it has. A match, since the promise says case by case what is listed (specs/Listings).
 fn list(files: Files, file: &[u8], out: &mut [u8]) -> usize
     ensures listing { Wrote out.old 0 (listing_for files file.now (length out.old)) out.new result }
     ensures within { result ≤ length out.new }
@@ -157,7 +157,7 @@ fn write_heading(rt: &impl Print, name: &[u8]) {
     let _ = println!(rt;);
 }
 
-// A file that is open, of any kind.
+// A file that is open, of any kind. A match and no closure: the kind is what the caller knows of its files.
 fn print_open(rt: &impl Print, input: &mut impl Read, kind: Kind) -> Result<(), Trouble> {
     match kind {
         Kind::Whole(files) => list_open(rt, input, files),

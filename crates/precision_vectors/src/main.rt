@@ -47,7 +47,7 @@ fn two(rt: &impl Print, n: usize, u: i64, p: i64, v: i64, q: i64) {
     show(rt, &[u, v], &[p, q], n);
 }
 
-// Six directions with n conditions, each by u and q. With six S comes to one below a square and to one above it; with five it cannot.
+// Six directions with n conditions, each by u and q: a case is one line of numbers, as it is printed. With six S comes to one below a square and to one above it; with five it cannot.
 fn six(
     rt: &impl Print,
     n: usize,

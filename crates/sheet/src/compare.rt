@@ -14,8 +14,8 @@ use adjustment::correct;
 use doolittle::SoundTable;
 use network::Size;
 
-// The correlates of n K lines behind m V lines, up to the first beyond 10^8, into a lent list; which that is, or n, as the rules' "first"
-// has it, here and below.
+// The correlates of n K lines behind m V lines, up to the first beyond 10^8, into a lent list; which that is, or n. A number and no Option, here
+// and below: the rules' `first` is one, and what follows is told by it. The counts are a listing's own, and each stands where an index needs its bound.
 fn take_correlates(x: &[i64; NUMBERS], m: usize, n: usize, k: &mut [i64; 24]) -> usize
     requires { (m ≤ 64) × (n ≤ 24) }
     ensures value { result ≡ first n (λ j. ltb 100000000 (nat_abs (number_at x.now (m + j) 1))) }
@@ -32,7 +32,7 @@ fn take_correlates(x: &[i64; NUMBERS], m: usize, n: usize, k: &mut [i64; 24]) ->
 }
 
 // The first of `count` lines whose two numbers, side by side, are not those of the two lists; `count` where there is none. The numbers of the first line
-// stand from place `from` on.
+// stand from place `from` on. A loop by index: it goes over three lists at different paces, which a chain of iterators would say in more words.
 fn first_unlike(x: &[i64; NUMBERS], from: usize, a: &[i64], b: &[i64], count: usize) -> usize
     requires { (from + 4 * count ≤ 354) × (count ≤ length a.now) × (count ≤ length b.now) }
     ensures { result ≡ first count (pair_unlike x.now from a.now b.now) }

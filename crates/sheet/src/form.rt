@@ -28,7 +28,7 @@ fn heading(listing: &[u8], x: &mut [i64; 2]) -> Option<usize>
     row::read(MOST_DIGITS, listing, 4, 2, x)
 }
 
-// A line of that letter and so many numbers, of which the first is its own.
+// A line of that letter and so many numbers, of which the first is its own. The letter is a byte, as the text has it.
 fn numbered_line(
     listing: &[u8],
     start: usize,

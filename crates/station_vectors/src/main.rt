@@ -11,7 +11,8 @@ fn numbers(rt: &impl Print, xs: &[i64; 17]) {
     vectors::list(rt, xs);
 }
 
-// Two sightings, the left face of the first object in position 1 at 0 and one that is given, in lists of these lengths.
+// Two sightings, the left face of the first object in position 1 at 0 and one that is given, in lists of these lengths. The lists are apart, as the
+// operation takes them, and a case is one line of numbers, which a struct for the fields and one for the lengths would make many.
 fn lend(
     rt: &impl Print,
     first: i64,

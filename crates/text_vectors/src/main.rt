@@ -41,17 +41,9 @@ fn show_long(rt: &impl Print, text: &[u8]) {
 }
 
 fn lines(rt: &impl Print) {
-    show_line(rt, b"ab\n\ncd\nef", 0);
-    show_line(rt, b"ab\n\ncd\nef", 1);
-    show_line(rt, b"ab\n\ncd\nef", 2);
-    show_line(rt, b"ab\n\ncd\nef", 3);
-    show_line(rt, b"ab\n\ncd\nef", 4);
-    show_line(rt, b"ab\n\ncd\nef", 6);
-    show_line(rt, b"ab\n\ncd\nef", 7);
-    show_line(rt, b"ab\n\ncd\nef", 8);
-    show_line(rt, b"ab\n\ncd\nef", 9);
-    show_line(rt, b"ab\n\ncd\nef", 10);
-    show_line(rt, b"ab\n\ncd\nef", 4000000000);
+    for start in [0, 1, 2, 3, 4, 6, 7, 8, 9, 10, 4_000_000_000] {
+        show_line(rt, b"ab\n\ncd\nef", start);
+    }
     show_line(rt, b"", 0);
     show_line(rt, b"\n", 0);
     show_line(rt, b"\n", 1);
