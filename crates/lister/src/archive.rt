@@ -3,7 +3,9 @@
 ghost use Rattle.std.specs.Prelude.{length, eqb, ◌≡◌, ◌≤◌};
 ghost use Rattle.reply.specs.Verdicts.{verdict_of};
 ghost use Rattle.text.specs.Written.{Wrote};
+ghost use Rattle.std.specs.Process.{exit_status};
 ghost use Rattle.lister.specs.Ended.{ended_in};
+ghost use Rattle.lister.specs.Status.{Ends};
 
 use crate::{NAME, Program, Trouble};
 use reply::Refusal;
@@ -98,7 +100,9 @@ pub fn report_open(rt: &impl Print, input: &mut impl Read) -> Result<(), Trouble
 }
 
 // The one report of all archives that the arguments name. Where one of them cannot be read there is none. Answers the program's exit status.
-pub fn report_arguments(program: Program) -> ExitCode {
+pub fn report_arguments(program: Program) -> ExitCode
+    ensures { Ends (exit_status result) }
+{
     let mut archive = Archive::begin();
     if archive.feed_arguments(program).is_err() {
         return ExitCode::SUCCESS;

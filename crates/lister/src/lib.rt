@@ -65,7 +65,7 @@ pub enum Trouble {
 // since it runs with the signal ignored; it ends itself.
 const UNWANTED: u8 = 141;
 
-// One read behind the bytes that have come, which stay as they were.
+// One read behind the bytes that have come, which stay as they were. The place stands beside the buffer: the promise is of both its parts.
 fn read_after(file: &mut impl Read, buf: &mut [u8], done: usize) -> io::Result<usize>
     requires { done ≤ length buf.old }
     ensures room { IfOk result (λ n. n ≤ length buf.old - done) }
@@ -257,7 +257,9 @@ impl<'a> Program<'a> {
 
     // The files that the arguments name, in turn. Argument 0 is the program's own name. A file that cannot be read is passed over; where one listing could not
     // be written, the next could not be either. Answers the program's exit status.
-    pub fn print_arguments(self, headed: bool, kind: Kind) -> ExitCode {
+    pub fn print_arguments(self, headed: bool, kind: Kind) -> ExitCode
+        ensures { Ends (exit_status result) }
+    {
         for i in 1..arg_count(self.rt) {
             match self.print_argument(headed, kind, i) {
                 Ok(()) | Err(Trouble::Unread) => {}
@@ -277,7 +279,9 @@ impl<'a> Program<'a> {
     }
 
     // What a program does: with no argument the file is standard input; otherwise each argument names a file, and the listings follow each other.
-    pub fn run(self, files: Files) -> ExitCode {
+    pub fn run(self, files: Files) -> ExitCode
+        ensures { Ends (exit_status result) }
+    {
         let kind = Kind::Whole(files);
         if arg_count(self.rt) < 2 {
             self.print_input(kind)

@@ -2,6 +2,8 @@
 ghost use Rattle.std.specs.Prelude.{◌≡◌, List, ℕ, ◌≤◌, length, take, IfOk};
 ghost use Rattle.text.specs.Written.{Wrote};
 ghost use Rattle.sheet.specs.Answer.{answer_in};
+ghost use Rattle.std.specs.Process.{exit_status};
+ghost use Rattle.lister.specs.Status.{Ends};
 
 use crate::{NAME, Program, ROOM, Trouble};
 use std::process::ExitCode;
@@ -61,7 +63,9 @@ pub fn check_pair(program: Program, headed: bool, net: usize, sheet: usize) -> R
 
 // The nets and sheets that the arguments name by turns, each pair under the sheet's name. A net at the end, with no sheet behind it, is left out.
 // Where one answer could not be written, the next could not be either. Answers the program's exit status.
-pub fn check_arguments(program: Program) -> ExitCode {
+pub fn check_arguments(program: Program) -> ExitCode
+    ensures { Ends (exit_status result) }
+{
     for i in (2..crate::arg_count(program.rt)).step_by(2) {
         match check_pair(program, true, i - 1, i) {
             Ok(()) | Err(Trouble::Unread) => {}

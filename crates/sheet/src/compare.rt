@@ -15,7 +15,8 @@ use doolittle::SoundTable;
 use network::Size;
 
 // The correlates of n K lines behind m V lines, up to the first beyond 10^8, into a lent list; which that is, or n. A number and no Option, here
-// and below: the rules' `first` is one, and what follows is told by it. The counts are a listing's own, and each stands where an index needs its bound.
+// and below: the rules' `first` is one, and what follows is told by it. The counts are those of the places that a loop goes over, beside lists
+// as long as the largest net's.
 fn take_correlates(x: &[i64; NUMBERS], m: usize, n: usize, k: &mut [i64; 24]) -> usize
     requires { (m ≤ 64) × (n ≤ 24) }
     ensures value { result ≡ first n (λ j. ltb 100000000 (nat_abs (number_at x.now (m + j) 1))) }
