@@ -14,7 +14,7 @@ use crate::terms::Terms;
 // The direction numbers of the largest net.
 pub const NUMBERS: usize = 65;
 
-// What stands at each direction number. The bounds of its sums change from step to step, and are asked where they are needed.
+// What stands at each direction number. The bounds of its sums change from step to step, and are asked where they are needed. Nothing prints or compares it.
 #[derive(Drop)]
 pub struct Tally {
     pub sums: [i64; NUMBERS],

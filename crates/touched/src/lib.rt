@@ -33,7 +33,7 @@ fn touched(row: &[i64]) -> u64
     word
 }
 
-// The words of all conditions, each made once.
+// The words of all conditions, each made once. (m and n beside the list: see `shares_three`.)
 fn words(a: &[i64], m: usize, n: usize) -> [u64; MOST]
     requires { (m ≤ 64) × (n ≤ 24) × (n * m ≤ length a.now) }
     ensures { WordsOf a.now m n result }
