@@ -47,7 +47,7 @@ module _ (c : After-print_corrections-within) where
   within = c.print_corrections-within.result
 
   v_room : t.m ≤ length v
-  v_room = omega (arith, corrected.corrections.auto.v, start.args.table.sound.m_most, start.requires.lists_long.1)
+  v_room = omega (arith, corrected.corrections.auto.v, start.args.table.sound.m_most, start.told-v)
 
   -- of the corrections of all directions, which stand at the head of their list
   value : within ≡ first t.m (beyond 60000 (rounding (at v)))
