@@ -5,5 +5,5 @@ use lister::{Kind, Program};
 use std::process::ExitCode;
 
 fn main(rt: HostRuntime) -> ExitCode {
-    Program::new(&rt, "add_reports").print_input(Kind::Reports)
+    Program::new(&rt, b"add_reports").print_input(Kind::Reports)
 }

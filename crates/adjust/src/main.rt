@@ -6,5 +6,5 @@ use lister::{Files, Program};
 use std::process::ExitCode;
 
 fn main(rt: HostRuntime) -> ExitCode {
-    Program::new(&rt, "adjust").run(Files::Networks)
+    Program::new(&rt, b"adjust").run(Files::Networks)
 }

@@ -6,5 +6,5 @@ use lister::{Files, Kind, Program};
 use std::process::ExitCode;
 
 fn main(rt: HostRuntime) -> ExitCode {
-    Program::new(&rt, "books").print_arguments(true, Kind::Whole(Files::Books))
+    Program::new(&rt, b"books").print_arguments(true, Kind::Whole(Files::Books))
 }

@@ -6,5 +6,5 @@ use lister::{Files, Kind, Program};
 use std::process::ExitCode;
 
 fn main(rt: HostRuntime) -> ExitCode {
-    Program::new(&rt, "cards").print_arguments(true, Kind::Whole(Files::NetworksWithErrors))
+    Program::new(&rt, b"cards").print_arguments(true, Kind::Whole(Files::NetworksWithErrors))
 }

@@ -6,7 +6,7 @@ use lister::{Program, sheets};
 use std::process::ExitCode;
 
 fn main(rt: HostRuntime) -> ExitCode {
-    let program = Program::new(&rt, "check");
+    let program = Program::new(&rt, b"check");
     if lister::arg_count(&rt) == 3 {
         return lister::status(sheets::check_pair(program, false, 1, 2));
     }

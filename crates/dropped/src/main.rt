@@ -6,5 +6,5 @@ use lister::{Files, Program};
 use std::process::ExitCode;
 
 fn main(rt: HostRuntime) -> ExitCode {
-    Program::new(&rt, "dropped").run(Files::Dropped)
+    Program::new(&rt, b"dropped").run(Files::Dropped)
 }

@@ -6,5 +6,5 @@ use lister::{Files, Kind, Program};
 use std::process::ExitCode;
 
 fn main(rt: HostRuntime) -> ExitCode {
-    Program::new(&rt, "figures").print_arguments(true, Kind::Whole(Files::Networks))
+    Program::new(&rt, b"figures").print_arguments(true, Kind::Whole(Files::Networks))
 }

@@ -201,11 +201,11 @@ fn name_of(rt: &impl Env, i: usize, name: &mut [u8]) -> usize
 #[derive(Clone, Copy)]
 pub struct Program<'a> {
     rt: &'a HostRuntime,
-    name: &'a str,
+    name: &'a [u8],
 }
 
 impl<'a> Program<'a> {
-    pub fn new(rt: &'a HostRuntime, name: &'a str) -> Program<'a>
+    pub fn new(rt: &'a HostRuntime, name: &'a [u8]) -> Program<'a>
         ensures { result.name.now ≡ name.now }
     {
         Program { rt, name }
@@ -214,7 +214,8 @@ impl<'a> Program<'a> {
     // A line on standard error. Where that cannot be written, nothing is left to say it on.
     fn say(self, what: &str, file: &[u8]) {
         let Program { rt, name } = self;
-        let _ = eprint!(rt; "{name}: cannot {what} ");
+        let _ = rt.stderr().write_all(name);
+        let _ = eprint!(rt; ": cannot {what} ");
         let _ = rt.stderr().write_all(file);
         let _ = eprintln!(rt;);
     }

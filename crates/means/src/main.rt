@@ -6,5 +6,5 @@ use lister::{Files, Program};
 use std::process::ExitCode;
 
 fn main(rt: HostRuntime) -> ExitCode {
-    Program::new(&rt, "means").run(Files::Books)
+    Program::new(&rt, b"means").run(Files::Books)
 }

@@ -6,5 +6,5 @@ use lister::{Files, Program};
 use std::process::ExitCode;
 
 fn main(rt: HostRuntime) -> ExitCode {
-    Program::new(&rt, "probable").run(Files::NetworksWithErrors)
+    Program::new(&rt, b"probable").run(Files::NetworksWithErrors)
 }

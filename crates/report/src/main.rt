@@ -6,7 +6,7 @@ use lister::{Kind, Program, archive};
 use std::process::ExitCode;
 
 fn main(rt: HostRuntime) -> ExitCode {
-    let program = Program::new(&rt, "report");
+    let program = Program::new(&rt, b"report");
     if lister::arg_count(&rt) < 2 {
         program.print_input(Kind::Archives)
     } else {

@@ -6,5 +6,5 @@ use lister::{Files, Program};
 use std::process::ExitCode;
 
 fn main(rt: HostRuntime) -> ExitCode {
-    Program::new(&rt, "rescue").run(Files::Rescued)
+    Program::new(&rt, b"rescue").run(Files::Rescued)
 }

@@ -6,7 +6,7 @@ use lister::{Files, Kind, Program};
 use std::process::ExitCode;
 
 fn main(rt: HostRuntime) -> ExitCode {
-    let program = Program::new(&rt, "rescues");
+    let program = Program::new(&rt, b"rescues");
     program.print_arguments(true, Kind::Whole(Files::Rescued));
     program.print_arguments(true, Kind::Whole(Files::Dropped))
 }

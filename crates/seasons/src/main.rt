@@ -6,5 +6,5 @@ use lister::{Kind, Program};
 use std::process::ExitCode;
 
 fn main(rt: HostRuntime) -> ExitCode {
-    Program::new(&rt, "seasons").print_arguments(true, Kind::Archives)
+    Program::new(&rt, b"seasons").print_arguments(true, Kind::Archives)
 }

@@ -6,5 +6,5 @@ use lister::{Program, sheets};
 use std::process::ExitCode;
 
 fn main(rt: HostRuntime) -> ExitCode {
-    sheets::check_arguments(Program::new(&rt, "sheets"))
+    sheets::check_arguments(Program::new(&rt, b"sheets"))
 }

@@ -6,5 +6,5 @@ use lister::{Kind, Program};
 use std::process::ExitCode;
 
 fn main(rt: HostRuntime) -> ExitCode {
-    Program::new(&rt, "sums").print_arguments(true, Kind::Reports)
+    Program::new(&rt, b"sums").print_arguments(true, Kind::Reports)
 }
