@@ -1,6 +1,7 @@
 -- Laws of a search for a byte in a text, and of the parts into which the byte parts it. Assumes nothing.
---   place_here, place_next, place_end, place_steps   the search stands on the byte, on another one, at the end
+--   place_here, place_next, place_end      the search stands on the byte, on another one, at the end
 --   place_after, before_le                 it ends at or after its start, and no byte is counted that is not there
+--   found_or, rest_from                    what std's search answers, or the whole length; a text from a start on, or from its end
 --   parts_more                             the parts from a start: the one there, and those after the byte that ends it
 --   parts_dropped, parts_last              the parts of a text without the byte: none, or the text itself
 --   begins_all, begins_short               a text begins with no word's end; and with no word that goes on behind it
@@ -12,20 +13,23 @@
 use mathlib.Core.Path.{◌≡◌, refl, sym, ◌∙◌, ap, ap₂}
 use mathlib.Core.Bool.{Bool, true, false, cond, ◌&&◌}
 use mathlib.Core.List.{List, [], ◌∷◌, ◌++◌}
-use Prim.Native.Nat.{ℕ, zero, suc, ◌+◌, ◌<◌, ◌≤◌}
+use Prim.Native.Nat.{ℕ, zero, suc, ◌+◌, ◌-◌, ◌<◌, ◌≤◌, min}
 use native.Mathlib.Numerals.{add-one}
-use native.Mathlib.Nat.{add-zero, add_assoc}
+use native.Mathlib.Nat.{add-zero, add_assoc, min-eq_left, min-eq_right}
 use native.Mathlib.Omega.{arith}
-use borrow.Author.Tests.{eq-eqb, ne_eqb, eqb-true, eqb-false}
-use Rattle.std.specs.List.{starts_with, between}
+use borrow.Author.Tests.{eq-eqb, ne_eqb, eqb-true, eqb-false, ltb-false}
+use Rattle.std.specs.Prelude.{Some, None}
+use Rattle.std.specs.Option.{unwrap_or}
+use Rattle.std.specs.List.{starts_with, between, position_or_len}
+use Rattle.std.proofs.lemmas.List.Recursion.{is_position_or_len}
 use Rattle.std.proofs.lemmas.Slice.Eq.{starts_is}
 use Rattle.std.proofs.lemmas.Slice.{between_to_end}
 use Rattle.std.proofs.lemmas.Bool.Decides.{Decides-eqb}
 use mathlib.Core.Logic.{◌≢◌}
 use native.Mathlib.Decide.{dec_lt}
-use lib.Dec.{eqb}
+use lib.Dec.{eqb, ltb}
 use lib.ListN.{length, get_or, get_or-eq_default, take, drop, drop_of_length-le, length-drop}
-use lib.Seq.{drop-cons, drop-drop, get_or-drop}
+use lib.Seq.{drop-cons, drop-drop, get_or-drop, take_all, take-nil}
 use Rattle.exact.proofs.Searching.{not_both}
 use Rattle.text.specs.Parts.{bytes_before, place_from, on_first, parted, begins}
 
@@ -55,6 +59,34 @@ pub before_le : (byte : ℕ) (s : List ℕ) → bytes_before byte s ≤ length s
 unfolding bytes_before
 before_le byte [] = omega arith
 before_le byte (x ∷ s) = before_step s (bytes_before byte s) (eqb x byte) (before_le byte s)
+
+-- as std's search says it
+module _ (byte : ℕ) where
+  abbrev is_byte : ℕ → Bool
+  is_byte b = eqb b byte
+
+  before_is : (s : List ℕ) → bytes_before byte s ≡ position_or_len is_byte s
+  unfolding bytes_before
+  before_is s = is_position_or_len (bytes_before byte) is_byte refl (λ x xs. let e : suc (bytes_before byte xs) ≡ 1 + bytes_before byte xs = omega arith in ap (λ (n : ℕ). cond (is_byte x) 0 n) e) s
+
+  pub found_or : (s : List ℕ) → unwrap_or (cond (ltb (position_or_len is_byte s) (length s)) (Some (position_or_len is_byte s)) None) (length s) ≡ bytes_before byte s
+  found_or s = by_place (ltb (position_or_len is_byte s) (length s)) refl
+    where
+      by_place : (b : Bool) → ltb (position_or_len is_byte s) (length s) ≡ b → unwrap_or (cond b (Some (position_or_len is_byte s)) None) (length s) ≡ bytes_before byte s
+      by_place true e = sym (before_is s)
+      by_place false e = let far = ltb-false (position_or_len is_byte s) (length s) e in omega (arith, before_is s, before_le byte s)
+
+-- a text from a start on, or from its end
+pub rest_from : (start : ℕ) (text : List ℕ) → take (length text - min start (length text)) (drop (min start (length text)) text) ≡ drop start text
+rest_from start text = by_place (dec_lt start (length text))
+  where
+    by_place : Dec (start < length text) → take (length text - min start (length text)) (drop (min start (length text)) text) ≡ drop start text
+    by_place (yes l) =
+        let e : min start (length text) ≡ start = min-eq_left (omega arith) in
+        rw e (take_all (length text - start) (drop start text) (omega (arith, length-drop start text)))
+    by_place (no l) =
+        let e : min start (length text) ≡ length text = min-eq_right (omega (arith, l)) in
+        rw (e, drop_of_length-le text {i = start} (omega (arith, l)), drop_of_length-le text {i = length text} (omega arith)) (take-nil _)
 
 -- ---- the parts
 module _ (byte : ℕ) (end : List (List ℕ)) where
@@ -195,6 +227,3 @@ begins_cut [] text n l = refl
 begins_cut (w ∷ word) text zero l = absurd (omega arith)
 begins_cut (w ∷ word) [] (suc n) l = refl
 begins_cut (w ∷ word) (b ∷ text) (suc n) l = ap (λ (x : Bool). cond (eqb b w) x false) (begins_cut word text n (omega arith))
-
--- what the search for a byte cites
-pub ruleset place_steps = (place_here, place_next, place_end)

@@ -6,6 +6,7 @@
 --   digits_most, count_most, written_most   a number takes at most 20 digits, and a minus
 --   puts, puts_then, puts_most, puts_as     what a writer puts; and more after it; at most so many bytes; the same bytes
 --   puts_none, put_whole                    nothing; all from the start of a lent buffer
+--   put_small, put_large                    the digits of a number: one, or those before it and one more; put_below, put_above: with a minus, or without
 --   lines_more, lines_on_lem                one more line
 --   puts_start, puts_line                   a writer's lines: none so far, and one more
 --   lines_within, lines_most                lines of at most so many bytes: those below n, and all
@@ -13,7 +14,7 @@
 use mathlib.Core.Path.{◌≡◌, refl, sym, ◌∙◌, ap, subst}
 use mathlib.Core.Bool.{Bool, true, false, cond}
 use mathlib.Core.List.{List, [], ◌∷◌, ◌++◌}
-use Prim.Native.Nat.{ℕ, zero, suc, ◌+◌, ◌*◌, ◌/◌, ◌%◌, ◌≤◌, ◌<◌}
+use Prim.Native.Nat.{ℕ, zero, suc, ◌+◌, ◌*◌, ◌/◌, ◌%◌, ◌≤◌, ◌<◌, ◌^◌}
 use native.Mathlib.Nat.{suc-mul, mul-le-mul_right}
 use native.Mathlib.Numerals.{add-one}
 use native.Mathlib.Omega.{arith}
@@ -22,7 +23,9 @@ use lib.Dec.{ltb}
 use lib.ListN.{length, get_or, take, drop, length-append}
 use borrow.Rule.Slice.PartMut.{put_mid}
 use lib.Seq.{drop-drop, sets, length-sets, sets-eq, take-suc, take-append-le, take_all}
-use lib.IntN.{ℤ, pos, negsuc}
+use lib.IntN.{ℤ, pos, negsuc, nat_abs}
+use lib.Signed.{◌≤ℤ◌, ◌<ℤ◌}
+use Rattle.text.proofs.Writing.{digits_small, digits_large, length_small, length_large, written_below, written_above}
 use Rattle.exact.proofs.Filling.{sets_append}
 use Rattle.text.specs.Decimal.{digits, digits_of, written}
 use Rattle.text.specs.Written.{in_order, Wrote, Puts}
@@ -102,6 +105,21 @@ puts_none = record { wrote = record { buffer = refl; place = omega arith }; few 
 pub put_whole : {a b : Writer} {xs : List ℕ} {most : ℕ} → a.at ≡ 0 → Puts a xs most b → Wrote a.out.now 0 xs b.out.now b.at
 put_whole {b = b} {xs = xs} e p = rw e at p.wrote
 
+-- ---- the digits of a number, and its minus
+pub put_small : {a b : Writer} {n : ℕ} → n < 10 → Puts a ((48 + n % 10) ∷ []) 1 b → Puts a (digits_of n) 20 b
+put_small {n = n} l f = puts_most (omega arith) (puts_as (sym (digits_small n l)) f)
+
+pub put_large : {a b c : Writer} {n : ℕ} → 10 ≤ n → n < 10 ^ 20 → Puts a (digits_of (n / 10)) 20 b → Puts b ((48 + n % 10) ∷ []) 1 c → Puts a (digits_of n) 20 c
+put_large {n = n} l h f g =
+    let p = puts_then f g in
+    puts (rewrote (sym (digits_large n l h)) p.wrote) (count_most n) p.same
+
+pub put_below : {a b c : Writer} {z : ℤ} → z <ℤ pos 0 → Puts a (45 ∷ []) 1 b → Puts b (digits_of (nat_abs z)) 20 c → Puts a (written z) 21 c
+put_below {z = z} l f g = puts_as (sym (written_below z l)) (puts_then f g)
+
+pub put_above : {a b : Writer} {z : ℤ} → pos 0 ≤ℤ z → Puts a (digits_of (nat_abs z)) 20 b → Puts a (written z) 21 b
+put_above {z = z} l f = puts_most (omega arith) (puts_as (sym (written_above z l)) f)
+
 -- ---- lines
 pub lines_more : (n : ℕ) (line : ℕ → List ℕ) → in_order (n + 1) line ≡ in_order n line ++ line n
 unfolding in_order
@@ -146,5 +164,9 @@ pub lines_room :
     Wrote a at (in_order i line) b p → p + most ≤ length b
 lines_room n i most line small = room_within n i most line (λ j l. small j)
 
--- what a writer's fields cite
-pub ruleset fields = (then, wrote_length, count_most, written_most, puts)
+-- what a writer's numbers and fields cite
+pub ruleset digit_steps = (length_small, length_large, put_small, put_large)
+
+pub ruleset signs = (written_below, written_above, put_below, put_above)
+
+pub ruleset fields = (count_most, written_most, puts_then, puts_most)

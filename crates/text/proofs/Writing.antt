@@ -1,20 +1,17 @@
 -- Laws of numbers written in decimal. Assumes nothing.
 --   digits_small, digits_large      the digits of n: one, or those of n / 10 and one more
 --   length_small, length_large      their count
---   put_small, put_large            a list with them written into it, element by element
---   put-minus                       the same with the minus in front
 --   written_below, written_above    what is written of a number below 0, and of another, by its size
 use mathlib.Core.Path.{◌≡◌, refl, sym, ◌∙◌, ap}
 use mathlib.Core.Bool.{Bool, true, false}
 use mathlib.Core.List.{List, [], ◌∷◌, ◌++◌}
 use Prim.Native.Nat.{ℕ, zero, suc, ◌+◌, ◌/◌, ◌%◌, ◌<◌, ◌≤◌, ◌^◌}
-use native.Mathlib.Nat.{pow-succ', add-suc, suc-add, add-zero}
+use native.Mathlib.Nat.{pow-succ'}
 use native.Mathlib.Omega.{arith}
 use borrow.Author.Tests.{lt-ltb, le-ltb, ltb-true, ltb-false}
 use lib.Dec.{ltb}
 use lib.IntN.{ℤ, pos, negsuc, nat_abs}
-use lib.ListN.{length, set, length-append, length-set}
-use lib.Seq.{sets}
+use lib.ListN.{length, length-append}
 use lib.Signed.{◌≤ℤ◌, ◌<ℤ◌}
 use Rattle.exact.proofs.Linear.{orders}
 use Rattle.text.specs.Decimal.{digits, digits_of, written}
@@ -58,19 +55,6 @@ length_small n h = ap length (digits_small n h)
 pub length_large : (n : ℕ) → 10 ≤ n → n < 10 ^ 20 → length (digits_of n) ≡ length (digits_of (n / 10)) + 1
 length_large n g h = ap length (digits_large n g h) ∙ length-append (digits_of (n / 10)) ((48 + n % 10) ∷ [])
 
--- ---- a list l with the digits of n written into it from place i
-sets_snoc : (xs l : List ℕ) (i y : ℕ) → sets l i (xs ++ (y ∷ [])) ≡ set (sets l i xs) (i + length xs) y
-sets_snoc [] l i y = rw add-zero
-sets_snoc (x ∷ xs) l i y = rw (add-suc, ← suc-add) (sets_snoc xs (set l i x) (suc i) y)
-
-module _ (l : List ℕ) (i n : ℕ) where
-  pub put_small : n < 10 → set l i (48 + n % 10) ≡ sets l i (digits_of n)
-  put_small h = rw (digits_small n h)
-
-  pub put_large : (last : List ℕ) (r : ℕ) → r ≡ i + length (digits_of (n / 10)) → last ≡ sets l i (digits_of (n / 10)) → 10 ≤ n → n < 10 ^ 20
-      → set last r (48 + n % 10) ≡ sets l i (digits_of n)
-  put_large last r e q g h = rw (e, q, digits_large n g h) (sym (sets_snoc (digits_of (n / 10)) l i (48 + n % 10)))
-
 -- ---- the minus
 pub written_below : (z : ℤ) → z <ℤ pos 0 → written z ≡ 45 ∷ digits_of (nat_abs z)
 unfolding written
@@ -81,8 +65,3 @@ pub written_above : (z : ℤ) → pos 0 ≤ℤ z → written z ≡ digits_of (na
 unfolding written
 written_above (pos n) h = refl
 written_above (negsuc n) h = absurd h.le
-
--- what `put_digits` and `put` cite
-pub ruleset digit_steps = (length_small, length_large, put_small, put_large)
-
-pub ruleset signs = (written_below, written_above, length-set)

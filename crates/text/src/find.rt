@@ -5,16 +5,12 @@ ghost use Rattle.text.specs.Parts.{place_from, begins};
 
 // The first place at or after `start` where `byte` stands; the end, where there is none (`start` itself, where that is past the end).
 // A place and no Option, as the rules' "place_from": a caller that cuts a line asks first whether the place is before the end.
-#[tactic(auto, using(crate::proofs::Parting::place_steps))]
 pub fn place_from(text: &[u8], byte: u8, start: usize) -> usize
     ensures { result ≡ place_from byte text.now start }
 {
-    for i in start..text.len() {
-        if text[i] == byte {
-            return i;
-        }
-    }
-    start.max(text.len())
+    let after = &text[start.min(text.len())..];
+    let before = after.iter().position(|b| *b == byte);
+    start + before.unwrap_or(after.len())
 }
 
 // Whether the text begins with the word.

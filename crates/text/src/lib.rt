@@ -1,7 +1,6 @@
 // Texts of lines: their lines, fields and numbers, read from bytes of any kind, and numbers and fields written into a lent buffer.
 #![tactic(auto)]
 
-pub mod decimal;
 pub mod find;
 pub mod line;
 pub mod number;

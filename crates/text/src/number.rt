@@ -18,6 +18,7 @@ pub struct Read {
 }
 
 // The digits from a start on, up to the first byte that is none or until there are `most`.
+// Each function here asks the start to be in the text and `most` to be small: a type for such a place would be made anew for each number, and say no more.
 fn digits_from(most: usize, text: &[u8], start: usize) -> Span
     requires { (most ≤ 18) × (start ≤ length text.now) }
     ensures { Spans most text.now start result }

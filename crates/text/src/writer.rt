@@ -1,8 +1,9 @@
-// Bytes and fields written into a lent buffer, one after another.
+// Bytes, numbers in decimal and fields, written into a lent buffer one after another.
 ghost use Rattle.std.specs.Prelude.{[], ◌∷◌, ◌+◌, ◌≤◌, length};
+ghost use Rattle.text.specs.Decimal.{digits_of, written};
 ghost use Rattle.text.specs.Written.{signed_field, count_field, Puts};
 
-use crate::{TAB, decimal};
+use crate::TAB;
 
 // A lent buffer, and the place in it where the next byte goes.
 #[derive(Drop)]
@@ -30,6 +31,30 @@ impl<'a> Writer<'a> {
         self.at = end;
     }
 
+    // The digits of n: at most 20 bytes. It asks for the room of just these.
+    #[tactic(auto, using(crate::proofs::Putting::digit_steps))]
+    pub fn digits(&mut self, n: u64)
+        requires { self.old.at + length (digits_of n) ≤ length self.old.out.now }
+        ensures { Puts self.old (digits_of n) 20 self.new }
+    {
+        if n >= 10 {
+            self.digits(n / 10);
+        }
+        self.byte(b'0' + (n % 10) as u8);
+    }
+
+    // The number z, below 0 with a minus: at most 21 bytes. It asks for the room of just these.
+    #[tactic(auto, using(crate::proofs::Putting::signs))]
+    pub fn number(&mut self, z: i64)
+        requires { self.old.at + length (written z) ≤ length self.old.out.now }
+        ensures { Puts self.old (written z) 21 self.new }
+    {
+        if z < 0 {
+            self.byte(b'-');
+        }
+        self.digits(z.unsigned_abs());
+    }
+
     // A tab and a signed number: at most 22 bytes.
     #[tactic(auto, using(crate::proofs::Putting::fields))]
     pub fn signed(&mut self, z: i64)
@@ -37,7 +62,7 @@ impl<'a> Writer<'a> {
         ensures { Puts self.old (signed_field z) 22 self.new }
     {
         self.byte(TAB);
-        self.at = decimal::put(self.out, self.at, z);
+        self.number(z);
     }
 
     // A tab and a count: at most 21 bytes. It asks for the room of n's own digits alone.
@@ -47,6 +72,6 @@ impl<'a> Writer<'a> {
         ensures { Puts self.old (count_field n) 21 self.new }
     {
         self.byte(TAB);
-        self.at = decimal::put_digits(self.out, self.at, n);
+        self.digits(n);
     }
 }
