@@ -1,10 +1,10 @@
 // One condition's lent terms: its coefficients and its misclosure. Both operations make the same checks, in checks.rt.
 #![tactic(auto)]
 
-ghost use Rattle.std.specs.Prelude.{◌≡◌};
+ghost use Rattle.std.specs.Prelude.{◌≡◌, pos};
 ghost use Rattle.condition.specs.Rules.{lent, target_fault};
 ghost use Rattle.condition.specs.Promise.{Coefficients, Misclosed};
-ghost use Rattle.condition.specs.Terms.{term_fault};
+ghost use Rattle.condition.specs.Terms.{letter_of, suits, term_fault};
 
 use crate::closing::Directions;
 use crate::tally::{NUMBERS, Tally};
@@ -67,6 +67,13 @@ pub fn target_fault(target: i64) -> bool
     ensures { result ≡ target_fault target }
 {
     exact::outside(0, MOST_TARGET, target)
+}
+
+// Whether a term with this letter belongs under a kind of condition.
+pub fn belongs(kind: Kind, letter: u8) -> bool
+    ensures { result ≡ suits kind (letter_of (pos letter)) }
+{
+    term::suits(kind, term::read(i64::from(letter)))
 }
 
 // Whether a term with this letter, in a net of m directions, has a number out of range, or i = k where that is not allowed.

@@ -1,3 +1,4 @@
+pub mod Heading
 pub mod Recording
 pub mod Walking
 pub mod Scanning

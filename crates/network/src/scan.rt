@@ -17,6 +17,8 @@ const MOST_CONDITIONS: u64 = 24;
 const MOST_TERMS: u64 = 12;
 
 // What has been counted so far: directions, conditions, terms of the last condition, and its kind.
+// No bound in the type: each line may count one more, and only the walk over a file knows that no more lines come than it has bytes.
+// The line's place goes beside it, as in the rules: it is none of what is counted.
 #[derive(Clone, Copy, Debug, PartialEq, Eq)]
 pub struct Counts {
     pub m: u64,
@@ -26,15 +28,11 @@ pub struct Counts {
 }
 
 // Whether a term belongs under a heading.
-#[tactic(auto, unfolding(crate::specs::Scan::belongs))]
+#[tactic(auto, unfolding(crate::specs::Scan::belongs), using(crate::proofs::Heading::belongs_some))]
 fn belongs(heading: Option<Kind>, letter: u8) -> bool
     ensures { result ≡ belongs heading letter }
 {
-    match heading {
-        Some(Kind::Angle) => letter == b'P' || letter == b'F',
-        Some(Kind::Side) => letter == b'L' || letter == b'R',
-        None => false,
-    }
+    heading.is_some_and(|kind| condition::belongs(kind, letter))
 }
 
 // Whether a D line after m others has another number than the next, or is one too many.
@@ -210,9 +208,7 @@ pub fn scan(file: &[u8]) -> Result<(), Refusal>
     };
     // A while loop: how far a line goes is known when it has been read.
     while start < file.len() {
-        let Some(Turn { said, next }) = record::read(file, start) else {
-            return Err(Refusal::Malformed(place));
-        };
+        let Turn { said, next } = record::read(file, start).ok_or(Refusal::Malformed(place))?;
         line_reply(place, counts, said)?;
         counts = counted(counts, said);
         start = next;
