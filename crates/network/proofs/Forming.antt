@@ -1,10 +1,10 @@
--- Laws of the conditions in their order: 4 and 5 of one of them, its row, its misclosure and its letter, and those of all. Assumes nothing.
+-- Laws of the conditions in their order: 4 and 5 of one of them, its row, its misclosure and its kind, and those of all. Assumes nothing.
 --   row_refused, closed                              what the two operations on its terms say of condition j
 --   row_is, row_length                               the row of a condition that is accepted, whatever stood there before
 --   part_length                                      the part of a list that a row takes
 --   heading_here                                     the condition that a C line begins
 --   closes, closing_stops, row_asked                 one condition, from its gathered terms
---   one_more, all_taken                              a list with one entry for each condition, as misclosures and letters are: after one more, and after the last
+--   one_more, all_taken                              a list with one entry for each condition, as misclosures and kinds are: after one more, and after the last
 --   FormedTo                                         what has been formed and what the conditions left give are all there is
 --   same_left                                        the same conditions left
 --   formed_none, terms_fit, form_turn, form_room     before the first; what one more needs
@@ -27,9 +27,10 @@ use Rattle.reply.specs.declared.Refusal.TheVariants.{Coefficient, Misclosure}
 use Rattle.reply.specs.Reply.{Reply, Figure}
 use Rattle.reply.specs.Checks.{figure_of, figure_reply, figure_value, leaves, ◌and_then◌}
 use Rattle.reply.proofs.Checking.{never, both_accepted, figure_given, figure_refused}
+use Rattle.condition.specs.declared.Kind.{Kind}
 use Rattle.condition.specs.Rules.{coefficients_reply, coefficients_list, misclosure_figure}
 use Rattle.network.specs.Net.{Condition, Net, headed, line_before, net_from}
-use Rattle.network.specs.Net.{refused_as, zeros, lent_of, condition_reply, formed_reply, row_of, misclosure_of, rows_of, misclosures_of, letter_of_kind, letters_of}
+use Rattle.network.specs.Net.{refused_as, zeros, lent_of, condition_reply, formed_reply, row_of, misclosure_of, rows_of, misclosures_of, kinds_of}
 use Rattle.network.specs.Turns.{turn_at}
 use Rattle.network.specs.Gathered.{Body, Opened, begins, heading_in, condition_at, terms_in, Gathers, Closes, Fit, Forms}
 use Rattle.network.specs.declared.conditions.Heading.{Heading}
@@ -121,38 +122,38 @@ module _ {A : Type 0} (of : List Condition → List A) (xs : List A) (n : ℕ) {
   all_taken none empty = taken_all xs all n (ap (λ (ys : List A). take n xs ++ ys) (sym (ap of none ∙ empty)) ∙ so_far)
 
 -- ---- the conditions in their order: those in the first n rows and those left are all
-pub record FormedTo (all left : List Condition) (directions q a w : List ℤ) (letters : List ℕ) (at n : ℕ) : Type 0 where
+pub record FormedTo (all left : List Condition) (directions q a w : List ℤ) (kinds : List Kind) (at n : ℕ) : Type 0 where
   pub place : at ≡ n * length directions
   pub count : n + length left ≡ length all
   pub a_long : length a ≡ 1536
   pub w_long : length w ≡ 24
-  pub letters_long : length letters ≡ 24
+  pub kinds_long : length kinds ≡ 24
   pub fit : Fit left
   pub reply : formed_reply directions q (n + 1) left ≡ formed_reply directions q 1 all
   pub rows : take at a ++ rows_of directions q left ≡ rows_of directions q all
   pub closings : take n w ++ misclosures_of directions q left ≡ misclosures_of directions q all
-  pub kinds : take n letters ++ letters_of left ≡ letters_of all
+  pub kinds_are : take n kinds ++ kinds_of left ≡ kinds_of all
 
-pub formed_none : (all : List Condition) (directions q a w : List ℤ) (letters : List ℕ) → length a ≡ 1536 → length w ≡ 24 → length letters ≡ 24 → Fit all
-    → FormedTo all all directions q a w letters 0 0
-formed_none all directions q a w letters l k g f = record {
+pub formed_none : (all : List Condition) (directions q a w : List ℤ) (kinds : List Kind) → length a ≡ 1536 → length w ≡ 24 → length kinds ≡ 24 → Fit all
+    → FormedTo all all directions q a w kinds 0 0
+formed_none all directions q a w kinds l k g f = record {
   place = omega (arith, zero-mul (length directions));
   count = omega arith;
   a_long = l;
   w_long = k;
-  letters_long = g;
+  kinds_long = g;
   fit = f;
   reply = refl;
   rows = refl;
   closings = refl;
-  kinds = refl;
+  kinds_are = refl;
 }
 
-pub same_left : {all left others : List Condition} {directions q a w : List ℤ} {letters : List ℕ} {at n : ℕ} → others ≡ left → FormedTo all left directions q a w letters at n
-    → FormedTo all others directions q a w letters at n
-same_left {all} {directions = directions} {q} {a} {w} {letters} {at} {n} e f = subst (λ (cs : List Condition). FormedTo all cs directions q a w letters at n) (sym e) f
+pub same_left : {all left others : List Condition} {directions q a w : List ℤ} {kinds : List Kind} {at n : ℕ} → others ≡ left → FormedTo all left directions q a w kinds at n
+    → FormedTo all others directions q a w kinds at n
+same_left {all} {directions = directions} {q} {a} {w} {kinds} {at} {n} e f = subst (λ (cs : List Condition). FormedTo all cs directions q a w kinds at n) (sym e) f
 
-module _ {all left : List Condition} {directions q a w : List ℤ} {letters : List ℕ} {at n : ℕ} (f : FormedTo all left directions q a w letters at n) where
+module _ {all left : List Condition} {directions q a w : List ℤ} {kinds : List Kind} {at n : ℕ} (f : FormedTo all left directions q a w kinds at n) where
   abbrev m : ℕ
   m = length directions
 
@@ -177,11 +178,11 @@ module _ {all left : List Condition} {directions q a w : List ℤ} {letters : Li
     onward = rw (add-one (n + 1)) (ap (formed_reply directions q (n + 1)) (sym here) ∙ f.reply)
 
     -- it is refused: the lists are not promised
-    pub form_refused : {why : Refusal} → condition_reply directions q (n + 1) c ≡ Err why → {a' w' : List ℤ} {letters' : List ℕ}
-        → Forms directions q all (Err why) a' w' letters'
+    pub form_refused : {why : Refusal} → condition_reply directions q (n + 1) c ≡ Err why → {a' w' : List ℤ} {kinds' : List Kind}
+        → Forms directions q all (Err why) a' w' kinds'
     form_refused {why} z =
         let refused : formed_reply directions q 1 all ≡ Err why = sym onward ∙ ap (λ (r : Reply). r and_then formed_reply directions q (n + 1 + 1) rest) z in
-        record { count = rw refused; rows = λ k. absurd (search rules); misclosures = λ k. absurd (search rules); letters_are = λ k. absurd (search rules) }
+        record { count = rw refused; rows = λ k. absurd (search rules); misclosures = λ k. absurd (search rules); kinds_are = λ k. absurd (search rules) }
 
     -- what stands in the row after it, and after the row is put back into its place
     module _ (few : length all ≤ 24) (narrow : length directions ≤ 64)
@@ -224,21 +225,21 @@ module _ {all left : List Condition} {directions q a w : List ℤ} {letters : Li
             ∙ ap (λ (cs : List Condition). take at a ++ rows_of directions q cs) (sym here)
             ∙ f.rows
 
-        pub form_more : (y : ℤ) (letter : ℕ) → y ≡ misclosure_of directions q c → letter ≡ letter_of_kind c.kind → FormedTo all rest directions q (put_mid at k a row) (set w n y) (set letters n letter) (at + m) (n + 1)
-        unfolding misclosures_of letters_of
-        form_more y letter same of_kind = record {
+        pub form_more : (y : ℤ) (kind : Kind) → y ≡ misclosure_of directions q c → kind ≡ c.kind → FormedTo all rest directions q (put_mid at k a row) (set w n y) (set kinds n kind) (at + m) (n + 1)
+        unfolding misclosures_of kinds_of
+        form_more y kind same of_kind = record {
           place = omega (arith, f.place, add-one n, suc-mul n m, ap (λ (j : ℕ). j * m) (add-one n));
           count = omega (arith, f.count, ap length here);
           a_long = row_put ∙ f.a_long;
           w_long = length-set w n y ∙ f.w_long;
-          letters_long = length-set letters n letter ∙ f.letters_long;
+          kinds_long = length-set kinds n kind ∙ f.kinds_long;
           fit = fits.1;
           reply = ap (λ (r : Reply). r and_then formed_reply directions q (n + 1 + 1) rest) (sym accepted) ∙ onward;
           rows = rows_here;
           closings = one_more (misclosures_of directions q) w n f.closings here y
               (ap (λ (v : ℤ). v ∷ misclosures_of directions q rest) (sym same)) (omega (arith, form_turn few narrow, f.w_long));
-          kinds = one_more letters_of letters n f.kinds here letter
-              (ap (λ (v : ℕ). v ∷ letters_of rest) (sym of_kind)) (omega (arith, form_turn few narrow, f.letters_long));
+          kinds_are = one_more kinds_of kinds n f.kinds_are here kind
+              (ap (λ (v : Kind). v ∷ kinds_of rest) (sym of_kind)) (omega (arith, form_turn few narrow, f.kinds_long));
         }
 
   -- none is left
@@ -252,13 +253,13 @@ module _ {all left : List Condition} {directions q a w : List ℤ} {letters : Li
         ap (λ (k : ℕ). take k a) (sym f.place)
         ∙ taken_all a (rows_of directions q all) at (ap (λ (cs : List Condition). take at a ++ rows_of directions q cs) (sym none) ∙ f.rows)
 
-    pub form_end : Forms directions q all (Ok n) a w letters
-    unfolding formed_reply misclosures_of letters_of
+    pub form_end : Forms directions q all (Ok n) a w kinds
+    unfolding formed_reply misclosures_of kinds_of
     form_end = record {
       count = ap Ok all_counted ∙ ap (λ (r : Reply). figure_of r (length all)) (ap (formed_reply directions q (n + 1)) (sym none) ∙ f.reply);
       rows = λ e. ap (λ (k : ℕ). take (k * length directions) a) (sym all_counted) ∙ end_rows;
       misclosures = λ e. ap (λ (k : ℕ). take k w) (sym all_counted) ∙ all_taken (misclosures_of directions q) w n f.closings none refl;
-      letters_are = λ e. ap (λ (k : ℕ). take k letters) (sym all_counted) ∙ all_taken letters_of letters n f.kinds none refl;
+      kinds_are = λ e. ap (λ (k : ℕ). take k kinds) (sym all_counted) ∙ all_taken kinds_of kinds n f.kinds_are none refl;
     }
 
 -- ---- one condition, from its gathered terms; z is the target as the machine reads it
@@ -291,15 +292,15 @@ module _ {file : List ℕ} (heading : Heading) {count next : ℕ} {t : Terms} (g
   row_asked old = ap (λ (c : Condition). coefficients_list (lent_of directions q c) old) asked
 
 -- ---- the walk: what has been formed, and the line that comes next, which has been read
-pub record Formed (file : List ℕ) (first : ℕ) (directions q a w : List ℤ) (letters : List ℕ) (start : ℕ) (turn : Option Turn) (at n : ℕ) : Type 0 where
-  pub so_far : FormedTo (net_from file first).conditions (net_from file start).conditions directions q a w letters at n
+pub record Formed (file : List ℕ) (first : ℕ) (directions q a w : List ℤ) (kinds : List Kind) (start : ℕ) (turn : Option Turn) (at n : ℕ) : Type 0 where
+  pub so_far : FormedTo (net_from file first).conditions (net_from file start).conditions directions q a w kinds at n
   pub within : start ≤ length file
   pub opened : Opened (lines_of (drop start file))
   pub stands : turn ≡ turn_at file start
 
-module _ {file : List ℕ} {first : ℕ} {directions q a w : List ℤ} {letters : List ℕ} {start : ℕ} {turn : Option Turn} {at n : ℕ}
-    (f : Formed file first directions q a w letters start turn at n) where
-  pub ended : heading_in turn ≡ None → Forms directions q (net_from file first).conditions (Ok n) a w letters
+module _ {file : List ℕ} {first : ℕ} {directions q a w : List ℤ} {kinds : List Kind} {start : ℕ} {turn : Option Turn} {at n : ℕ}
+    (f : Formed file first directions q a w kinds start turn at n) where
+  pub ended : heading_in turn ≡ None → Forms directions q (net_from file first).conditions (Ok n) a w kinds
   ended e = form_end f.so_far (no_heading file start (ap heading_in (sym f.stands) ∙ e) f.opened)
 
   -- a C line
@@ -332,18 +333,18 @@ module _ {file : List ℕ} {first : ℕ} {directions q a w : List ℤ} {letters 
       pub room : at + length directions ≤ 1536
       room = form_room f.so_far here few narrow
 
-      pub stopped : {why : Refusal} → condition_reply directions q (n + 1) condition ≡ Err why → {a' w' : List ℤ} {letters' : List ℕ}
-          → Forms directions q (net_from file first).conditions (Err why) a' w' letters'
+      pub stopped : {why : Refusal} → condition_reply directions q (n + 1) condition ≡ Err why → {a' w' : List ℤ} {kinds' : List Kind}
+          → Forms directions q (net_from file first).conditions (Err why) a' w' kinds'
       stopped e = form_refused f.so_far here e
 
-      pub onto : {row : List ℤ} {at' : ℕ} {turn' : Option Turn} {y x : ℤ} {letter : ℕ}
+      pub onto : {row : List ℤ} {at' : ℕ} {turn' : Option Turn} {y x : ℤ} {kind : Kind}
           → row ≡ coefficients_list (lent_of directions q condition) (take (at + length directions - at) (drop at a)) → Closes file next directions q (n + 1) condition x at'
-          → turn' ≡ turn_at file at' → y ≡ x → letter ≡ letter_of_kind heading.kind
-          → Formed file first directions q (put_mid at (at + length directions - at) a row) (set w n y) (set letters n letter) at' turn' (at + length directions) (n + 1)
-      onto {row} {y = y} {letter = letter} listed closes stands read kind = record {
+          → turn' ≡ turn_at file at' → y ≡ x → kind ≡ heading.kind
+          → Formed file first directions q (put_mid at (at + length directions - at) a row) (set w n y) (set kinds n kind) at' turn' (at + length directions) (n + 1)
+      onto {row} {y = y} {kind = kind} listed closes stands read same = record {
         so_far = same_left closes.conditions
             (form_more f.so_far here few narrow row (take (at + length directions - at) (drop at a)) (at + length directions - at) listed
-            (part_length at (length directions) a room f.so_far.a_long) (omega arith) closes.passed y letter (read ∙ closes.misclosure) kind);
+            (part_length at (length directions) a room f.so_far.a_long) (omega arith) closes.passed y kind (read ∙ closes.misclosure) same);
         within = closes.within;
         opened = closes.opened;
         stands = stands;

@@ -1,7 +1,7 @@
 -- The condition table of a file, from its directions and conditions. Assumes nothing.
 --   directions_long              as many directions as were read
 --   table_refused                the scan has refused the file
---   n_most, each_long, rows_most there is room for its conditions and for their rows; each has a misclosure and a letter
+--   n_most, each_long, rows_most there is room for its conditions and for their rows; each has a misclosure and a kind
 --   table_formed, table_failed   its directions have been read and its conditions formed, or refused
 --   one_table                    two answers that keep the promise are equal
 use mathlib.Core.Path.{◌≡◌, refl, sym, ◌∙◌, ap, subst}
@@ -19,7 +19,8 @@ use Rattle.reply.specs.Checks.{figure_reply}
 use Rattle.reply.proofs.Checking.{figure_replied, figure_given}
 use Rattle.text.specs.Lines.{lines_of}
 use Rattle.network.specs.Scan.{scan_reply}
-use Rattle.network.specs.Net.{Condition, Net, net_of, net_from, formed_reply, rows_of, misclosures_of, letters_of, table_reply, Tabled, Tables}
+use Rattle.condition.specs.declared.Kind.{Kind}
+use Rattle.network.specs.Net.{Condition, Net, net_of, net_from, formed_reply, rows_of, misclosures_of, kinds_of, table_reply, Tabled, Tables}
 use Rattle.network.specs.Gathered.{Directed, Forms}
 use Rattle.network.specs.declared.lists.NetTable.{NetTable}
 use Rattle.network.proofs.Bounding.{scan_bounds}
@@ -33,18 +34,18 @@ unfolding misclosures_of
 misclosures_long directions q [] = refl
 misclosures_long directions q (c ∷ cs) = ap suc (misclosures_long directions q cs)
 
-letters_long : (cs : List Condition) → length (letters_of cs) ≡ length cs
-unfolding letters_of
-letters_long [] = refl
-letters_long (c ∷ cs) = ap suc (letters_long cs)
+kinds_long : (cs : List Condition) → length (kinds_of cs) ≡ length cs
+unfolding kinds_of
+kinds_long [] = refl
+kinds_long (c ∷ cs) = ap suc (kinds_long cs)
 
 module _ (file : List ℕ) where
   pub table_refused : (why : Refusal) → scan_reply file ≡ Err why → Tables (table_reply file) (net_of (lines_of file)) (Err why)
   unfolding table_reply
   table_refused why e = record { reply = rw e; table = λ table k. cc }
 
-  module _ (accepted : scan_reply file ≡ Ok tt) {directions q a w : List ℤ} {letters : List ℕ} {m next : ℕ} (d : Directed file directions q m next) {answer : Result ℕ Refusal}
-      (f : Forms (take m directions) (take m q) (net_from file next).conditions answer a w letters) where
+  module _ (accepted : scan_reply file ≡ Ok tt) {directions q a w : List ℤ} {kinds : List Kind} {m next : ℕ} (d : Directed file directions q m next) {answer : Result ℕ Refusal}
+      (f : Forms (take m directions) (take m q) (net_from file next).conditions answer a w kinds) where
     abbrev net : Net
     net = net_from file 0
 
@@ -71,19 +72,19 @@ module _ (file : List ℕ) where
       unfolding net_from
       n_most = omega (arith, counted, ap length d.conditions, (scan_bounds file accepted).n)
 
-      -- a misclosure and a letter for each condition
-      pub each_long : (length (take n w) ≡ n) × (length (take n letters) ≡ n)
+      -- a misclosure and a kind for each condition
+      pub each_long : (length (take n w) ≡ n) × (length (take n kinds) ≡ n)
       each_long =
           let ok : IsOk answer = rw formed refl in let cs = (net_from file next).conditions in (
             ap (λ (k : ℕ). length (take k w)) counted ∙ ap length (f.misclosures ok) ∙ misclosures_long (take m directions) (take m q) cs ∙ sym counted,
-            ap (λ (k : ℕ). length (take k letters)) counted ∙ ap length (f.letters_are ok) ∙ letters_long cs ∙ sym counted,
+            ap (λ (k : ℕ). length (take k kinds)) counted ∙ ap length (f.kinds_are ok) ∙ kinds_long cs ∙ sym counted,
           )
 
       pub rows_most : n * m ≤ 1536
       rows_most = mul-le-mul {n₁ = n} {m₁ = m} {n₂ = 24} {m₂ = 64} n_most d.most
 
       module _ (table : NetTable) (directions_here : table.directions.now ≡ take m directions) (q_here : table.q.now ≡ take m q) (a_here : table.a.now ≡ take (n * m) a)
-          (w_here : table.w.now ≡ take n w) (letters_here : table.letters.now ≡ take n letters) where
+          (w_here : table.w.now ≡ take n w) (kinds_here : table.kinds.now ≡ take n kinds) where
         tabled : Tabled (net_of (lines_of file)) table
         unfolding net_from
         tabled =
@@ -93,7 +94,7 @@ module _ (file : List ℕ) where
               rows_are = a_here ∙ ap (λ (k : ℕ). take (k * m) a) counted
                   ∙ ap (λ (k : ℕ). take (length (net_from file next).conditions * k) a) (sym (directions_long d)) ∙ f.rows ok ∙ to_net rows_of;
               misclosures_are = w_here ∙ ap (λ (k : ℕ). take k w) counted ∙ f.misclosures ok ∙ to_net misclosures_of;
-              letters_are = letters_here ∙ ap (λ (k : ℕ). take k letters) counted ∙ f.letters_are ok ∙ ap letters_of d.conditions;
+              kinds_are = kinds_here ∙ ap (λ (k : ℕ). take k kinds) counted ∙ f.kinds_are ok ∙ ap kinds_of d.conditions;
             }
 
         pub table_formed : Tables (table_reply file) (net_of (lines_of file)) (Ok table)
@@ -105,7 +106,7 @@ module _ (file : List ℕ) where
 -- ---- two answers that keep the promise are equal: the replies, and the tables of an accepted file
 pub one_table : {rule : Reply} {net : Net} {t s : Result NetTable Refusal} → Tables rule net t → Tables rule net s
     → (figure_reply t ≡ figure_reply s) × ((x y : NetTable) → t ≡ Ok x → s ≡ Ok y
-    → (x.directions.now ≡ y.directions.now) × (x.q.now ≡ y.q.now) × (x.a.now ≡ y.a.now) × (x.w.now ≡ y.w.now) × (x.letters.now ≡ y.letters.now))
+    → (x.directions.now ≡ y.directions.now) × (x.q.now ≡ y.q.now) × (x.a.now ≡ y.a.now) × (x.w.now ≡ y.w.now) × (x.kinds.now ≡ y.kinds.now))
 one_table x y = (
   only x.reply y.reply,
   λ i j e f. let k = x.table i e in let l = y.table j f in (
@@ -113,6 +114,6 @@ one_table x y = (
     only k.q_are l.q_are,
     only k.rows_are l.rows_are,
     only k.misclosures_are l.misclosures_are,
-    only k.letters_are l.letters_are,
+    only k.kinds_are l.kinds_are,
   ),
 )

@@ -6,7 +6,7 @@ use Rattle.condition.specs.declared.Kind.{Kind}
 use Rattle.condition.specs.declared.Kind.TheVariants.{Angle, Side}
 use Rattle.text.specs.Lines.{lines_of}
 use Rattle.network.specs.Records.{record_of}
-use Rattle.network.specs.Net.{Condition, headed, net_from, condition_reply, misclosure_of, formed_reply, rows_of, misclosures_of, letters_of}
+use Rattle.network.specs.Net.{Condition, headed, net_from, condition_reply, misclosure_of, formed_reply, rows_of, misclosures_of, kinds_of}
 use Rattle.network.specs.declared.conditions.Asked.{Asked}
 use Rattle.network.specs.declared.conditions.Heading.{Heading}
 use Rattle.network.specs.declared.record.Record.{Record}
@@ -108,8 +108,8 @@ Fit [] = Unit {0}
 Fit (c ∷ cs) = (length c.kinds ≤ 12) × Fit cs
 
 -- ---- all conditions
-pub record Forms (directions q : List ℤ) (cs : List Condition) (answer : Result ℕ Refusal) (a w : List ℤ) (letters : List ℕ) : Type 0 where
+pub record Forms (directions q : List ℤ) (cs : List Condition) (answer : Result ℕ Refusal) (a w : List ℤ) (kinds : List Kind) : Type 0 where
   pub count : answer ≡ figure_of (formed_reply directions q 1 cs) (length cs)
   pub rows : IsOk answer → take (length cs * length directions) a ≡ rows_of directions q cs
   pub misclosures : IsOk answer → take (length cs) w ≡ misclosures_of directions q cs
-  pub letters_are : IsOk answer → take (length cs) letters ≡ letters_of cs
+  pub kinds_are : IsOk answer → take (length cs) kinds ≡ kinds_of cs

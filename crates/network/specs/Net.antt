@@ -9,7 +9,7 @@ use Rattle.condition.specs.declared.Kind.{Kind}
 use Rattle.condition.specs.declared.Kind.TheVariants.{Angle, Side}
 use Rattle.condition.specs.Rules.{Lent, lent, coefficients_reply, coefficients_list, misclosure_figure}
 use Rattle.text.specs.Lines.{lines_of}
-use Rattle.network.specs.Records.{letter_A, letter_S, record_of}
+use Rattle.network.specs.Records.{record_of}
 use Rattle.network.specs.Scan.{scan_reply}
 use Rattle.network.specs.declared.lists.NetTable.{NetTable}
 use Rattle.network.specs.declared.record.Record.{Record}
@@ -97,14 +97,10 @@ module _ (directions q : List ℤ) where
   misclosures_of [] = []
   misclosures_of (c ∷ cs) = misclosure_of c ∷ misclosures_of cs
 
--- ---- the kind of a condition, by the letter of its C line
-abbrev pub letter_of_kind : Kind → ℕ
-letter_of_kind Angle = letter_A
-letter_of_kind Side = letter_S
-
-unfoldable pub letters_of : List Condition → List ℕ
-letters_of [] = []
-letters_of (c ∷ cs) = letter_of_kind c.kind ∷ letters_of cs
+-- ---- the kinds of the conditions
+unfoldable pub kinds_of : List Condition → List Kind
+kinds_of [] = []
+kinds_of (c ∷ cs) = c.kind ∷ kinds_of cs
 
 -- ---- refusals 1 to 5 of a file, and its condition table
 unfoldable pub table_reply : List ℕ → Reply
@@ -116,7 +112,7 @@ pub record Tabled (net : Net) (table : NetTable) : Type 0 where
   pub q_are : table.q.now ≡ net.q
   pub rows_are : table.a.now ≡ rows_of net.directions net.q net.conditions
   pub misclosures_are : table.w.now ≡ misclosures_of net.directions net.q net.conditions
-  pub letters_are : table.letters.now ≡ letters_of net.conditions
+  pub kinds_are : table.kinds.now ≡ kinds_of net.conditions
 
 pub record Tables (rule : Reply) (net : Net) (answer : Result NetTable Refusal) : Type 0 where
   pub reply : figure_reply answer ≡ rule

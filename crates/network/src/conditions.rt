@@ -1,9 +1,9 @@
-// Each condition's terms through `condition`: its row of coefficients and its misclosure, or refusal 4 or 5 with the condition's number; and its kind's letter.
+// Each condition's terms through `condition`: its row of coefficients and its misclosure, or refusal 4 or 5 with the condition's number; and its kind.
 ghost use Rattle.std.specs.Prelude.{◌≡◌, ◌≤◌, length, drop, MatchResult, Err};
 ghost use Rattle.text.specs.Lines.{lines_of};
 ghost use Rattle.reply.specs.Checks.{figure_of};
 ghost use Rattle.condition.specs.Rules.{coefficients_list};
-ghost use Rattle.network.specs.Net.{lent_of, condition_reply, misclosure_of, letter_of_kind, net_from};
+ghost use Rattle.network.specs.Net.{lent_of, condition_reply, misclosure_of, net_from};
 ghost use Rattle.network.specs.Turns.{turn_at};
 ghost use Rattle.network.specs.Gathered.{condition_of, condition_at, heading_in, Body, Opened, Fit, Closes, Forms};
 
@@ -14,6 +14,7 @@ use condition::Kind;
 use reply::Refusal;
 
 // A C line: the kind of its condition, the target, which is 0 for a side condition, and where its terms start.
+// A number and no Option: `condition` is lent a target with each kind, as C lends it, and reads that of an angle condition alone.
 #[derive(Clone, Copy, Debug, PartialEq, Eq)]
 pub struct Heading {
     pub kind: Kind,
@@ -42,17 +43,8 @@ fn heading_of(turn: Option<Turn>) -> Option<Heading>
     }
 }
 
-// The letter of a kind on its C line.
-fn letter_of(kind: Kind) -> u8
-    ensures { result ≡ letter_of_kind kind }
-{
-    match kind {
-        Kind::Angle => b'A',
-        Kind::Side => b'S',
-    }
-}
-
-// A condition as `condition` takes it.
+// A condition as `condition` takes it: list by list, as C lends them.
+// Nothing compares or prints lists that are lent, here and in lists.rt and terms.rt, so these structs derive neither.
 #[derive(Clone, Copy)]
 pub struct Asked<'a> {
     pub kind: Kind,
@@ -82,7 +74,7 @@ fn form(directions: &[i64], q: &[i64], c: Asked, row: &mut [i64], j: u64) -> Res
     closed.or(Err(Refusal::Misclosure(j)))
 }
 
-// The misclosure of one condition; and the first line after its terms: where it starts, and what is read there.
+// The misclosure of one condition; and the first line after its terms: where it starts, and what is read there, since reading it has shown their end.
 #[derive(Clone, Copy, Debug, PartialEq, Eq)]
 pub struct Closed {
     pub w: i64,
@@ -134,16 +126,16 @@ fn form_at(
     })
 }
 
-// Lists for what is formed of conditions: rows of coefficients, misclosures, and beside these the letters of their kinds.
+// Lists for what is formed of conditions: rows of coefficients, misclosures, and beside these their kinds.
 #[derive(Drop)]
 pub struct Rows {
     pub a: [i64; 1536],
     pub w: [i64; 24],
-    pub letters: [u8; 24],
+    pub kinds: [Kind; 24],
 }
 
 // All conditions that stand behind the directions that have been read, in their order: rows of a coefficient for each direction, misclosures, and
-// letters; how many conditions they are.
+// kinds; how many conditions they are.
 pub fn form_all(
     file: &[u8],
     read: Run,
@@ -155,7 +147,7 @@ pub fn form_all(
     requires opening { read.turn ≡ turn_at file.now read.at }
     requires first_len_bound { (length (net_from file.now read.at).conditions ≤ 24) × Fit (net_from file.now read.at).conditions
         × Opened (lines_of (drop read.at file.now)) }
-    ensures { Forms directions.now q.now (net_from file.now read.at).conditions result rows.new.a rows.new.w rows.new.letters }
+    ensures { Forms directions.now q.now (net_from file.now read.at).conditions result rows.new.a rows.new.w rows.new.kinds }
 {
     let m = directions.len();
     // For the proof alone: where the line that has been read starts. What is still to come is told from there.
@@ -177,7 +169,7 @@ pub fn form_all(
             n as u64 + 1,
         )?;
         rows.w[n] = closed.w;
-        rows.letters[n] = letter_of(heading.kind);
+        rows.kinds[n] = heading.kind;
         at += m;
         n += 1;
         start = closed.at;

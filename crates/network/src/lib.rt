@@ -43,6 +43,6 @@ pub fn table<'a>(file: &[u8], lists: &'a mut Lists) -> Result<NetTable<'a>, Refu
         q: &lists.q[..m],
         a: &rows.a[..n * m],
         w: &rows.w[..n],
-        letters: &rows.letters[..n],
+        kinds: &rows.kinds[..n],
     })
 }

@@ -2,6 +2,7 @@
 ghost use Rattle.std.specs.Prelude.{◌≡◌, ◌≤◌, length};
 
 use crate::conditions::Rows;
+use condition::Kind;
 
 // Lists that hold the table of any net.
 #[derive(Drop)]
@@ -19,21 +20,20 @@ impl Lists {
             rows: Rows {
                 a: [0; 1536],
                 w: [0; 24],
-                letters: [0; 24],
+                kinds: [Kind::Angle; 24],
             },
         }
     }
 }
 
-// The condition table of an accepted net: directions and q, rows of a coefficient for each direction, misclosures, and beside these the letters of the
-// conditions' kinds (A or S).
+// The condition table of an accepted net: directions and q, rows of a coefficient for each direction, misclosures, and beside these the conditions' kinds.
 #[derive(Clone, Copy)]
 pub struct NetTable<'a> {
     pub directions: &'a [i64],
     pub q: &'a [i64],
     pub a: &'a [i64],
     pub w: &'a [i64],
-    pub letters: &'a [u8],
+    pub kinds: &'a [Kind],
     ghost few: { (length directions.now ≤ 64) × (length w.now ≤ 24) },
-    ghost paired: { (length q.now ≡ length directions.now) × (length letters.now ≡ length w.now) },
+    ghost paired: { (length q.now ≡ length directions.now) × (length kinds.now ≡ length w.now) },
 }

@@ -22,6 +22,7 @@ pub enum Record {
     // C S.
     Sides,
     // P, F, L or R, by its letter, as `condition` is lent it. A field that the letter does not have is 0.
+    // No enum of four: its five fields go into five lists, where every letter has each of them.
     Term {
         letter: u8,
         value: i64,
@@ -38,7 +39,8 @@ pub struct Turn {
     pub next: usize,
 }
 
-// A run of lines of one kind: how many they are, and the first line behind them: where it starts, and what is read there.
+// A run of lines of one kind: how many they are, and the first line behind them: where it starts, and what is read there, since reading it has shown
+// the run's end.
 #[derive(Clone, Copy, Debug, PartialEq, Eq)]
 pub struct Run {
     pub count: usize,
@@ -47,6 +49,7 @@ pub struct Run {
 }
 
 // How many numbers the line of a letter has, if there is such a line. C stands for a line C A.
+// A byte and no enum, here and below: any byte may stand there, and the letter of a term goes on as it is.
 #[tactic(auto, unfolding(crate::specs::Turns::numbers_of))]
 fn numbers_of(letter: u8) -> Option<usize>
     ensures { result ≡ numbers_of letter }
@@ -63,8 +66,7 @@ fn numbers_of(letter: u8) -> Option<usize>
 
 // The record of a letter and the numbers x.
 #[tactic(auto, unfolding(crate::specs::Turns::record_with))]
-fn record_with(letter: u8, x: &[i64]) -> Record
-    requires { length x.now ≡ 4 }
+fn record_with(letter: u8, x: &[i64; 4]) -> Record
     ensures { result ≡ record_with letter x.now }
 {
     match letter {

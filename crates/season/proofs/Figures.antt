@@ -34,9 +34,9 @@ use Rattle.listing.specs.File.{room, net_reply, file_reply}
 use Rattle.touched.specs.Shared.{count, shares_three}
 use Rattle.totals.specs.Totals.{largest_at, joined, total, report_of}
 use Rattle.season.specs.Archive.{STOP, stops, onto, parts_in, parts_of}
-use Rattle.season.specs.Share.{counted_under, sum_to, most_to, size_at, figures, net_figures, share_with, share_of, left_share}
+use Rattle.season.specs.Share.{counted_under, sum_to, most_to, alike, size_at, figures, net_figures, share_with, share_of, left_share}
 use Rattle.season.specs.Season.{left_shares, shares_in, shares_of, season_report}
-use Rattle.network.specs.Net.{letters_of}
+use Rattle.network.specs.Net.{kinds_of}
 use Rattle.listing.proofs.Figure3.{file}
 
 -- the bytes of figure 3's file, two full stop lines, and a D
@@ -49,7 +49,7 @@ figure_parts = refl
 
 -- NETS 3, ACCEPTED 1, COUNT 1 1, COUNT 2 1; the two misclosures of figure 3 are 3,000 and 0, both of angle conditions, which share one direction
 pub figure_report : season_report (shares_of archive) ≡ 3 ∷ 1 ∷ 1 ∷ 1 ∷ 0 ∷ 0 ∷ 0 ∷ 0 ∷ 0 ∷ 0 ∷ 0 ∷ 3000 ∷ 3000 ∷ 0 ∷ 0 ∷ 0 ∷ []
-unfolding floor modulo first nearest sum tabulate directions_reply kind_of share angle part directions_miscounted terms_miscounted in_turn terms_check checks coefficient coefficients_reply coefficients_list misclosure misclosure_figure N reduced D L M weak_row weak back K V_of R_of u_of counts_amiss differs lengths_amiss coefficient_fault misclosure_fault table_reply rows_reply correlates_reply remainders_reply corrections_reply solution_reply input_reply adjust_reply on_first parted lines_of fields_of field_at letter_of read_digits unsigned_of plus minus numeral_within with direction_line angles_line sides_line condition_line angle_line fixed_line side_line line_of record_of term_fault same belongs out_of_turn one_too_many direction_reply angles_reply sides_reply term_reply line_reply counted end_fault end_reply scanned scan_reply line_before net_of refused_as figure_value zeros lent_of condition_reply formed_reply row_of misclosure_of rows_of misclosures_of room net_reply file_reply count shares_three largest_at joined total report_of stops onto parts_in parts_of counted_under sum_to most_to size_at figures net_figures share_with share_of left_share left_shares shares_in shares_of season_report letters_of
+unfolding floor modulo first nearest sum tabulate directions_reply kind_of share angle part directions_miscounted terms_miscounted in_turn terms_check checks coefficient coefficients_reply coefficients_list misclosure misclosure_figure N reduced D L M weak_row weak back K V_of R_of u_of counts_amiss differs lengths_amiss coefficient_fault misclosure_fault table_reply rows_reply correlates_reply remainders_reply corrections_reply solution_reply input_reply adjust_reply on_first parted lines_of fields_of field_at letter_of read_digits unsigned_of plus minus numeral_within with direction_line angles_line sides_line condition_line angle_line fixed_line side_line line_of record_of term_fault same belongs out_of_turn one_too_many direction_reply angles_reply sides_reply term_reply line_reply counted end_fault end_reply scanned scan_reply line_before net_of refused_as figure_value zeros lent_of condition_reply formed_reply row_of misclosure_of rows_of misclosures_of room net_reply file_reply count shares_three largest_at joined total report_of stops onto parts_in parts_of counted_under sum_to most_to alike size_at figures net_figures share_with share_of left_share left_shares shares_in shares_of season_report kinds_of
 figure_report = refl
 
 pub report_none : season_report (shares_of []) ≡ 0 ∷ 0 ∷ 0 ∷ 0 ∷ 0 ∷ 0 ∷ 0 ∷ 0 ∷ 0 ∷ 0 ∷ 0 ∷ 0 ∷ 0 ∷ 0 ∷ 0 ∷ 0 ∷ []

@@ -32,14 +32,15 @@ use Rattle.adjustment.specs.Promise.{adjust_reply}
 use Rattle.adjustment.proofs.Promising.{accepted_passed}
 use Rattle.touched.specs.Shared.{one_if, shares_three}
 use Rattle.text.specs.Lines.{lines_of}
-use Rattle.network.specs.Records.{letter_A, letter_S}
+use Rattle.condition.specs.declared.Kind.{Kind}
+use Rattle.condition.specs.declared.Kind.TheVariants.{Angle, Side}
 use Rattle.network.specs.Scan.{scan_reply}
-use Rattle.network.specs.Net.{Net, net_of, rows_of, misclosures_of, letters_of, table_reply, Tables}
+use Rattle.network.specs.Net.{Net, net_of, rows_of, misclosures_of, kinds_of, table_reply, Tables}
 use Rattle.network.specs.declared.lists.NetTable.{NetTable}
 use Rattle.listing.specs.File.{room, file_reply}
 use Rattle.listing.proofs.Tabling.{file_refused, file_reply_lem}
 use Rattle.listing.proofs.Filing.{solved}
-use Rattle.season.specs.Share.{counted_under, sum_to, most_to, size_at, figures, no_figures, net_figures, share_with, share_of, left_share, long_share}
+use Rattle.season.specs.Share.{counted_under, sum_to, most_to, alike, size_at, figures, no_figures, net_figures, share_with, share_of, left_share, long_share}
 use Rattle.season.specs.Inner.{IsShare}
 use Rattle.season.proofs.Numbering.{Few, few_file}
 use Rattle.std.specs.Prelude.{Result, Ok, Err}
@@ -87,14 +88,14 @@ most_most zero b f h = omega arith
 most_most (suc n) b f h = max-le (most_most n b f (λ i l. h i (omega arith))) (h n (omega arith))
 
 -- ---- the size of one condition's misclosure
-module _ (letter : ℕ) (letters : List ℕ) (w : List ℤ) (j : ℕ) where
-  pub size_most : nat_abs (get_or w j (pos 0)) ≤ 1000000 → size_at letter letters w j ≤ 1000000
+module _ (kind : Kind) (kinds : List Kind) (w : List ℤ) (j : ℕ) where
+  pub size_most : nat_abs (get_or w j (pos 0)) ≤ 1000000 → size_at kind kinds w j ≤ 1000000
   unfolding size_at
-  size_most l = by_kind (eqb (get_or letters j 0) letter)
+  size_most l = by_test (alike (get_or kinds j Angle) kind)
     where
-      by_kind : (b : Bool) → cond b (nat_abs (get_or w j (pos 0))) 0 ≤ 1000000
-      by_kind true = l
-      by_kind false = omega arith
+      by_test : (b : Bool) → cond b (nat_abs (get_or w j (pos 0))) 0 ≤ 1000000
+      by_test true = l
+      by_test false = omega arith
 
 -- ---- the share, by the reply
 module _ {reply : Reply} (five : List ℕ) {one : List ℕ} where
@@ -107,11 +108,11 @@ module _ {reply : Reply} (five : List ℕ) {one : List ℕ} where
   accepted_share e o = o ∙ sym (ap (λ (r : Reply). share_with r five) e)
 
 -- the figures of an accepted net, put into the share of one without
-module _ (letters : List ℕ) (w a : List ℤ) (m : ℕ) {one : List ℕ} (bare : one ≡ counted_under 0 ++ no_figures) {s b s' b' : ℕ}
-    (angles : s ≡ sum_to (length w) (size_at letter_A letters w)) (angle : b ≡ most_to (length w) (size_at letter_A letters w))
-    (sides : s' ≡ sum_to (length w) (size_at letter_S letters w)) (side : b' ≡ most_to (length w) (size_at letter_S letters w)) where
+module _ (kinds : List Kind) (w a : List ℤ) (m : ℕ) {one : List ℕ} (bare : one ≡ counted_under 0 ++ no_figures) {s b s' b' : ℕ}
+    (angles : s ≡ sum_to (length w) (size_at Angle kinds w)) (angle : b ≡ most_to (length w) (size_at Angle kinds w))
+    (sides : s' ≡ sum_to (length w) (size_at Side kinds w)) (side : b' ≡ most_to (length w) (size_at Side kinds w)) where
   pub figures_put : {shared : ℕ} → shared ≡ one_if (shares_three a m (length w))
-      → set (set (set (set (set one 11 s) 12 b) 13 s') 14 b') 15 shared ≡ counted_under 0 ++ figures letters w a m
+      → set (set (set (set (set one 11 s) 12 b) 13 s') 14 b') 15 shared ≡ counted_under 0 ++ figures kinds w a m
   unfolding counted_under tabulate figures
   figures_put e = rw (bare, angles, angle, sides, side, e)
 
@@ -127,12 +128,12 @@ module _ (file : List ℕ) where
   module _ {answer : Result NetTable Refusal} (is : Tables (table_reply file) net answer) {t : NetTable} (e : answer ≡ Ok t) where
     pub share_tabled :
         share_with (adjust_reply t.directions.now t.q.now t.a.now t.w.now (room (length t.directions.now) (length t.w.now)))
-        (figures t.letters.now t.w.now t.a.now (length t.directions.now))
+        (figures t.kinds.now t.w.now t.a.now (length t.directions.now))
         ≡ share_of file
     unfolding share_of net_figures
     share_tabled =
         let of = is.table t e in
-        ap₂ share_with (file_reply_lem file of (sym is.reply ∙ ap figure_reply e)) (rw (of.letters_are, of.misclosures_are, of.rows_are, of.directions_are))
+        ap₂ share_with (file_reply_lem file of (sym is.reply ∙ ap figure_reply e)) (rw (of.kinds_are, of.misclosures_are, of.rows_are, of.directions_are))
 
   pub long_net : 65535 < length file → share_of file ≡ long_share
   unfolding share_of file_reply scan_reply share_with long_share
@@ -171,19 +172,19 @@ modest_zeros = modest_first z (modest_first z (modest_first z (modest_first z (m
     z : 0 ≤ 24000000
     z = omega arith
 
-modest_figures : (letters : List ℕ) (w a : List ℤ) (m : ℕ) → length w ≤ 24 → Small 1000000 w (length w) → Modest (figures letters w a m)
+modest_figures : (kinds : List Kind) (w a : List ℤ) (m : ℕ) → length w ≤ 24 → Small 1000000 w (length w) → Modest (figures kinds w a m)
 unfolding figures
-modest_figures letters w a m n s =
-    modest_first (sum letter_A) (modest_first (most letter_A) (modest_first (sum letter_S) (modest_first (most letter_S) (modest_first (modest_one (shares_three a m (length w))) modest_none))))
+modest_figures kinds w a m n s =
+    modest_first (sum Angle) (modest_first (most Angle) (modest_first (sum Side) (modest_first (most Side) (modest_first (modest_one (shares_three a m (length w))) modest_none))))
   where
-    size : (letter i : ℕ) → i < length w → size_at letter letters w i ≤ 1000000
-    size letter i l = size_most letter letters w i (s i l)
+    size : (kind : Kind) (i : ℕ) → i < length w → size_at kind kinds w i ≤ 1000000
+    size kind i l = size_most kind kinds w i (s i l)
 
-    sum : (letter : ℕ) → sum_to (length w) (size_at letter letters w) ≤ 24000000
-    sum letter = omega (arith, sum_most (length w) (size_at letter letters w) (size letter))
+    sum : (kind : Kind) → sum_to (length w) (size_at kind kinds w) ≤ 24000000
+    sum kind = omega (arith, sum_most (length w) (size_at kind kinds w) (size kind))
 
-    most : (letter : ℕ) → most_to (length w) (size_at letter letters w) ≤ 24000000
-    most letter = omega (arith, most_most (length w) 1000000 (size_at letter letters w) (size letter))
+    most : (kind : Kind) → most_to (length w) (size_at kind kinds w) ≤ 24000000
+    most kind = omega (arith, most_most (length w) 1000000 (size_at kind kinds w) (size kind))
 
 -- ---- one net under one number
 sum_ext : (n : ℕ) (f g : ℕ → ℕ) → ((i : ℕ) → i < n → f i ≡ g i) → sum_to n f ≡ sum_to n g
@@ -228,7 +229,7 @@ unfolding share_of net_figures figures
 share_is file =
     with_is (file_reply file) (net_figures (net file)) (few_file file) refl
     (λ e. let n = net file in let s = (accepted_passed _ _ _ _ _ (solved file e)).sound in
-    modest_figures (letters_of n.conditions) (misclosures_of n.directions n.q n.conditions) (rows_of n.directions n.q n.conditions) (length n.directions) s.n_most s.w_most)
+    modest_figures (kinds_of n.conditions) (misclosures_of n.directions n.q n.conditions) (rows_of n.directions n.q n.conditions) (length n.directions) s.n_most s.w_most)
 
 pub left_is : IsShare left_share
 unfolding left_share

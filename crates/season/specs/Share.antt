@@ -1,13 +1,14 @@
 -- What one net has in the report: its share in each of the sixteen totals.
-use Rattle.std.specs.Prelude.{cond, List, [], ◌∷◌, ◌++◌, ℕ, zero, suc, ◌+◌, max, eqb, ℤ, pos, nat_abs, length, get_or}
+use Rattle.std.specs.Prelude.{Bool, true, false, cond, List, [], ◌∷◌, ◌++◌, ℕ, zero, suc, ◌+◌, max, eqb, ℤ, pos, nat_abs, length, get_or}
 use Rattle.exact.specs.Tabulate.{tabulate}
 use Rattle.reply.specs.Reply.{Reply}
 use Rattle.reply.specs.Checks.{leaves}
 use Rattle.reply.specs.Verdicts.{verdict_of}
 use Rattle.text.specs.Lines.{lines_of}
 use Rattle.touched.specs.Shared.{one_if, shares_three}
-use Rattle.network.specs.Records.{letter_A, letter_S}
-use Rattle.network.specs.Net.{Net, net_of, rows_of, misclosures_of, letters_of}
+use Rattle.condition.specs.declared.Kind.{Kind}
+use Rattle.condition.specs.declared.Kind.TheVariants.{Angle, Side}
+use Rattle.network.specs.Net.{Net, net_of, rows_of, misclosures_of, kinds_of}
 use Rattle.listing.specs.File.{file_reply}
 
 -- ---- "how many were accepted, how many refused under each number": one net, under its number, which is 0 where it is accepted
@@ -24,17 +25,24 @@ unfoldable pub most_to : ℕ → (ℕ → ℕ) → ℕ
 most_to zero f = 0
 most_to (suc n) f = max (most_to n f) (f n)
 
--- the size of condition j's misclosure, where it is of the kind with this letter
-unfoldable pub size_at : (letter : ℕ) (letters : List ℕ) (w : List ℤ) (j : ℕ) → ℕ
-size_at letter letters w j = cond (eqb (get_or letters j 0) letter) (nat_abs (get_or w j (pos 0))) 0
+-- two kinds are one
+unfoldable pub alike : Kind → Kind → Bool
+alike Angle Angle = true
+alike Angle Side = false
+alike Side Angle = false
+alike Side Side = true
 
--- the last five of an accepted net, whose conditions have these letters, misclosures and rows of m coefficients
-unfoldable pub figures : (letters : List ℕ) (w a : List ℤ) (m : ℕ) → List ℕ
-figures letters w a m =
-    sum_to (length w) (size_at letter_A letters w)
-    ∷ most_to (length w) (size_at letter_A letters w)
-    ∷ sum_to (length w) (size_at letter_S letters w)
-    ∷ most_to (length w) (size_at letter_S letters w)
+-- the size of condition j's misclosure, where it is of this kind
+unfoldable pub size_at : (kind : Kind) (kinds : List Kind) (w : List ℤ) (j : ℕ) → ℕ
+size_at kind kinds w j = cond (alike (get_or kinds j Angle) kind) (nat_abs (get_or w j (pos 0))) 0
+
+-- the last five of an accepted net, whose conditions have these kinds, misclosures and rows of m coefficients
+unfoldable pub figures : (kinds : List Kind) (w a : List ℤ) (m : ℕ) → List ℕ
+figures kinds w a m =
+    sum_to (length w) (size_at Angle kinds w)
+    ∷ most_to (length w) (size_at Angle kinds w)
+    ∷ sum_to (length w) (size_at Side kinds w)
+    ∷ most_to (length w) (size_at Side kinds w)
     -- "the number of nets with two conditions that share three or more directions"
     ∷ one_if (shares_three a m (length w))
     ∷ []
@@ -44,7 +52,7 @@ no_figures = 0 ∷ 0 ∷ 0 ∷ 0 ∷ 0 ∷ []
 
 unfoldable pub net_figures : Net → List ℕ
 net_figures net =
-    figures (letters_of net.conditions) (misclosures_of net.directions net.q net.conditions)
+    figures (kinds_of net.conditions) (misclosures_of net.directions net.q net.conditions)
     (rows_of net.directions net.q net.conditions) (length net.directions)
 
 -- ---- a net that is closed: as the adjusting program replies to it; figures "over the accepted nets" alone

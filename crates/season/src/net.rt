@@ -6,6 +6,7 @@ ghost use Rattle.listing.specs.File.{room};
 ghost use Rattle.season.specs.Share.{counted_under, sum_to, most_to, size_at, figures, no_figures, share_with, share_of, left_share, long_share};
 
 use adjustment::AnswerLists;
+use condition::Kind;
 use network::{Lists, NetTable};
 use reply::Refusal;
 
@@ -45,29 +46,29 @@ struct Sizes {
     most: u64,
 }
 
-// The size of condition j's misclosure, where it is of the kind with this letter; else 0.
-#[tactic(auto, unfolding(crate::specs::Share::size_at))]
-fn size_at(letter: u8, net: NetTable, j: usize) -> u64
+// The size of condition j's misclosure, where it is of this kind; else 0.
+#[tactic(auto, unfolding(crate::specs::Share::size_at, crate::specs::Share::alike))]
+fn size_at(kind: Kind, net: NetTable, j: usize) -> u64
     requires { j < length net.w.now }
-    ensures { result ≡ size_at letter net.entry.letters.now net.entry.w.now j }
+    ensures { result ≡ size_at kind net.entry.kinds.now net.entry.w.now j }
 {
-    if net.letters[j] == letter {
+    if net.kinds[j] == kind {
         net.w[j].unsigned_abs()
     } else {
         0
     }
 }
 
-// The sizes of the kind with this letter.
-fn sizes_of(letter: u8, net: NetTable) -> Sizes
+// The sizes of this kind.
+fn sizes_of(kind: Kind, net: NetTable) -> Sizes
     requires { Small 1000000 net.w.now (length net.w.now) }
-    ensures sum { result.sum ≡ sum_to (length net.entry.w.now) (size_at letter net.entry.letters.now net.entry.w.now) }
-    ensures most { result.most ≡ most_to (length net.entry.w.now) (size_at letter net.entry.letters.now net.entry.w.now) }
+    ensures sum { result.sum ≡ sum_to (length net.entry.w.now) (size_at kind net.entry.kinds.now net.entry.w.now) }
+    ensures most { result.most ≡ most_to (length net.entry.w.now) (size_at kind net.entry.kinds.now net.entry.w.now) }
 {
     let mut sum = 0;
     let mut most: u64 = 0;
     for j in 0..net.w.len() {
-        let size = size_at(letter, net, j);
+        let size = size_at(kind, net, j);
         sum += size;
         most = most.max(size);
     }
@@ -78,10 +79,10 @@ fn sizes_of(letter: u8, net: NetTable) -> Sizes
 fn accepted(net: NetTable) -> [u64; 16]
     requires w { Small 1000000 net.w.now (length net.w.now) }
     requires a { length net.w.now * length net.directions.now ≤ length net.a.now }
-    ensures { result ≡ counted_under 0 ++ figures net.entry.letters.now net.entry.w.now net.entry.a.now (length net.entry.directions.now) }
+    ensures { result ≡ counted_under 0 ++ figures net.entry.kinds.now net.entry.w.now net.entry.a.now (length net.entry.directions.now) }
 {
-    let angles = sizes_of(b'A', net);
-    let sides = sizes_of(b'S', net);
+    let angles = sizes_of(Kind::Angle, net);
+    let sides = sizes_of(Kind::Side, net);
     let mut one = under(0);
     one[11] = angles.sum;
     one[12] = angles.most;
@@ -106,7 +107,7 @@ fn table_share(net: NetTable) -> [u64; 16]
     ensures { result ≡ share_with
         (adjust_reply net.entry.directions.now net.entry.q.now net.entry.a.now net.entry.w.now
         (room (length net.entry.directions.now) (length net.entry.w.now)))
-        (figures net.entry.letters.now net.entry.w.now net.entry.a.now (length net.entry.directions.now)) }
+        (figures net.entry.kinds.now net.entry.w.now net.entry.a.now (length net.entry.directions.now)) }
 {
     match reply_to(net) {
         Ok(()) => accepted(net),

@@ -1,5 +1,5 @@
 -- `network::conditions::form_all` meets its contract: what has been formed and what the conditions left give are all. Assumes nothing.
-use mathlib.Core.Path.{sym, ◌∙◌}
+use mathlib.Core.Path.{refl, sym, ◌∙◌}
 use native.Mathlib.Omega.{arith}
 use borrow.Author.Rules.{rules}
 use Rattle.std.proofs.lemmas.Result.{err_from_is_err_and}
@@ -32,7 +32,7 @@ bounds-rows-n c =
 pub bounds-rows-n-in-loop-heading : goal.bounds-rows-n-in-loop-heading
 bounds-rows-n-in-loop-heading c =
     let f = c.loop-heading.invariant in
-    omega (arith, one_more_fits f (sym c.heading_of.ensures ∙ c.in-Some.is) c.requires.first_len_bound.0 c.requires.first_in_bounds.1, f.so_far.letters_long)
+    omega (arith, one_more_fits f (sym c.heading_of.ensures ∙ c.in-Some.is) c.requires.first_len_bound.0 c.requires.first_in_bounds.1, f.so_far.kinds_long)
 
 pub loop-heading-smaller : goal.loop-heading-smaller
 loop-heading-smaller c =
@@ -42,4 +42,4 @@ pub loop-heading-preserved : goal.loop-heading-preserved
 loop-heading-preserved c =
     let k = c.in_ok-closed.ensures.closed in
     onto c.loop-heading.invariant (sym c.heading_of.ensures ∙ c.in-Some.is) c.requires.first_len_bound.0 c.requires.first_in_bounds.1
-    c.in_ok-closed.ensures.list k.0 k.1 (read_at c.in_ok-closed.closed.w (search rules)) c.letter_of.ensures
+    c.in_ok-closed.ensures.list k.0 k.1 (read_at c.in_ok-closed.closed.w (search rules)) refl

@@ -5,7 +5,7 @@ use Rattle.network.proofs.Forming.{Formed}
 use Rattle.network.proofs.conditions.form_all.Given as goal
 
 abbrev pub invariant-loop-heading : goal.invariant-loop-heading
-invariant-loop-heading l = Formed l.file l.fn.read.at l.directions l.q l.rows.a l.rows.w l.rows.letters l.start l.turn l.at l.n
+invariant-loop-heading l = Formed l.file l.fn.read.at l.directions l.q l.rows.a l.rows.w l.rows.kinds l.start l.turn l.at l.n
 
 abbrev pub decreases-loop-heading : goal.decreases-loop-heading
 decreases-loop-heading l = length l.file - l.start

@@ -12,5 +12,5 @@ counted false = refl
 pub returns : goal.returns
 returns c =
     let net = c.args.net in let angles = c.sizes_of-angles.ensures in let sides = c.sizes_of-sides.ensures in
-    figures_put net.letters.now net.w.now net.a.now (length net.directions.now) c.under-one.ensures angles.sum angles.most sides.sum sides.most
+    figures_put net.kinds.now net.w.now net.a.now (length net.directions.now) c.under-one.ensures angles.sum angles.most sides.sum sides.most
     (c.from.ensures ∙ counted c.shares_three.result ∙ ap one_if c.shares_three.ensures)

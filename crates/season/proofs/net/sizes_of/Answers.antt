@@ -14,14 +14,14 @@ loop-j-init c = (sym (sum_none _), sym (most_none _))
 
 pub overflow_add-sum : goal.overflow_add-sum
 overflow_add-sum c =
-    let net = c.args.net in let j = c.loop-j.j in let size : ℕ → ℕ = size_at c.args.letter net.letters.now net.w.now in
+    let net = c.args.net in let j = c.loop-j.j in let size : ℕ → ℕ = size_at c.args.kind net.kinds.now net.w.now in
     let now = more j size c.loop-j.invariant.0 c.size_at-size.ensures in
-    let most = sum_most (j + 1) size (λ i h. size_most c.args.letter net.letters.now net.w.now i (c.requires i (omega arith))) in
+    let most = sum_most (j + 1) size (λ i h. size_most c.args.kind net.kinds.now net.w.now i (c.requires i (omega arith))) in
     record { fits = omega (arith, net.few.1, now, most) }
 
 pub loop-j-preserved : goal.loop-j-preserved
 loop-j-preserved c =
-    let net = c.args.net in let j = c.loop-j.j in let size : ℕ → ℕ = size_at c.args.letter net.letters.now net.w.now in (
+    let net = c.args.net in let j = c.loop-j.j in let size : ℕ → ℕ = size_at c.args.kind net.kinds.now net.w.now in (
       more j size c.loop-j.invariant.0 c.size_at-size.ensures,
       c.max-most.ensures ∙ ap₂ max c.loop-j.invariant.1 c.size_at-size.ensures ∙ sym (most_more j size),
     )

@@ -5,5 +5,5 @@ use Rattle.season.proofs.net.sizes_of.Given as goal
 
 abbrev pub invariant-loop-j : goal.invariant-loop-j
 invariant-loop-j l =
-    (l.sum ≡ sum_to l.j (size_at l.letter l.net.letters.now l.net.w.now))
-    × (l.most ≡ most_to l.j (size_at l.letter l.net.letters.now l.net.w.now))
+    (l.sum ≡ sum_to l.j (size_at l.kind l.net.kinds.now l.net.w.now))
+    × (l.most ≡ most_to l.j (size_at l.kind l.net.kinds.now l.net.w.now))

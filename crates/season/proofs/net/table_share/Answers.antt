@@ -14,7 +14,7 @@ under-requires c =
 pub returns-in-Err : goal.returns-in-Err
 returns-in-Err c =
     let net = c.args.net in
-    refused_share (figures net.letters.now net.w.now net.a.now (length net.directions.now)) (sym c.reply_to.ensures ∙ c.in-Err.is)
+    refused_share (figures net.kinds.now net.w.now net.a.now (length net.directions.now)) (sym c.reply_to.ensures ∙ c.in-Err.is)
     c.number.ensures c.under.ensures
 
 pub accepted-requires : goal.accepted-requires
@@ -26,4 +26,4 @@ accepted-requires c =
 pub returns-in-Ok : goal.returns-in-Ok
 returns-in-Ok c =
     let net = c.args.net in
-    accepted_share (figures net.letters.now net.w.now net.a.now (length net.directions.now)) (sym c.reply_to.ensures ∙ c.in-Ok.is) c.accepted.ensures
+    accepted_share (figures net.kinds.now net.w.now net.a.now (length net.directions.now)) (sym c.reply_to.ensures ∙ c.in-Ok.is) c.accepted.ensures
