@@ -40,7 +40,7 @@ use Rattle.season.specs.declared.stream.Place.{Place}
 use Rattle.season.proofs.Parting.{onto_none, onto_onto, parts_left, stop_line, other_line}
 use Rattle.season.proofs.Walking.{stop_byte, no_stop, stop_length}
 use Rattle.season.proofs.Sharing.{share_is, left_is, long_net}
-use Rattle.season.proofs.Leading.{shares_closed, shares_left, Leads, leads_none, leads_end, turn_fits, turn_past, none_within}
+use Rattle.season.proofs.Leading.{shares_closed, shares_left, Leads, leads_none, leads_end, count_fits, count_full, turn_fits, turn_past, none_within}
 use Rattle.season.proofs.Promising.{amiss, lengths_known}
 use Rattle.season.specs.Inner.{Sound}
 use Rattle.season.proofs.Streaming.{closes_by, taken_close, taken_kept, byte_sound, fed_sound}
@@ -250,9 +250,9 @@ module _ (shares : List (List ℕ)) (s : Stream) (byte : ℕ) (rest lines line :
     closed true f =
         going [] [] (rw f) (reading_none s.held (counted_in (open_share s.held s.place.bytes) s.totals) (past_after s.totals))
         (subst (λ (x : List (List ℕ)). Leads shares (counted_in (open_share s.held s.place.bytes) s.totals) (shares_in x)) (sym (onto_none (parts_of rest)))
-        (turn_fits here (sym f) (ap (λ (x : List ℕ). counted_in x s.totals) judged) (share_is lines) refl))
+        (turn_fits here (ap (λ (x : List ℕ). counted_in x s.totals) judged) (share_is lines) (count_fits s.totals f)))
     closed false f =
-        let p = turn_past here (sym f) (ap (λ (x : List ℕ). counted_in x s.totals) judged) refl in gone (rw f) p.1 p.0
+        let p = turn_past here (ap (λ (x : List ℕ). counted_in x s.totals) judged) (count_full s.totals f) in gone (rw f) p.1 p.0
 
   -- ---- it belongs to the open net
   module _ (e : closes byte s.place.line ≡ false) where
@@ -342,11 +342,11 @@ module _ (shares : List (List ℕ)) (s : Stream) where
     unfolding ended_totals ended_place past_reply left_shares past_after
     some_left e true f =
         let h = rw (ne_eqb (length (lines ++ line)) 0 e) at last in let b = ne_eqb s.place.bytes 0 (some_bytes e) in
-        let n = leads_end (turn_fits h (sym f) refl left_is refl) in
+        let n = leads_end (turn_fits h refl left_is (count_fits s.totals f)) in
         (rw (b, not_past) n.0, rw (b, not_past, f) (sym n.1))
     some_left e false f =
         let h = rw (ne_eqb (length (lines ++ line)) 0 e) at last in let b = ne_eqb s.place.bytes 0 (some_bytes e) in
-        let n = turn_past h (sym f) refl refl in
+        let n = turn_past h refl (count_full s.totals f) in
         (rw (b, not_past) n.1, rw (b, not_past, f) (sym n.0))
 
     by_left : (b : Bool) → eqb (length (lines ++ line)) 0 ≡ b → Answers

@@ -6,10 +6,12 @@
 --   leads_past                             a net past 100,000
 --   leads_end                              after the last
 --   counted_fits, counted_past             a net counted, by whether 100,000 have been
+--   count_fits, count_full, past_told      what is answered then, and what the stream's place tells of it
 --   turn_fits, turn_past                   what is then known of the totals and the shares to come
 --   none_within, counted_within            totals are no more than their nets can have put to them
 use mathlib.Core.Path.{◌≡◌, refl, sym, ◌∙◌, ap, subst}
-use mathlib.Core.Bool.{Bool, true, false}
+use mathlib.Core.Bool.{Bool, true, false, cond, not}
+use mir.Val.{bool_byte}
 use mathlib.Core.List.{List, [], ◌∷◌}
 use Prim.Native.Nat.{ℕ, suc, ◌+◌, ◌-◌, ◌≤◌, ◌<◌}
 use native.Mathlib.Decide.{dec_lt}
@@ -18,17 +20,20 @@ use borrow.Author.Tests.{lt-ltb, le-ltb, ltb-true, ltb-false}
 use lib.Dec.{ltb}
 use lib.ListN.{length, get_or, take}
 use lib.Seq.{take-nil}
+use Rattle.reply.specs.declared.Refusal.{Refusal}
 use Rattle.reply.specs.declared.Refusal.TheVariants.{Nets}
+use Rattle.reply.specs.Checks.{refuse_if}
 use Rattle.totals.specs.Totals.{largest_at, total, sum_of, report_of}
 use Rattle.totals.specs.Promise.{most_nets}
 use Rattle.totals.proofs.Totalling.{joined_sum, joined_most, sum_length, sum_at_lem, sum_none, sum_comm, sum_more, report_at, report_length}
 use Rattle.season.specs.Archive.{parts_of}
 use Rattle.season.specs.Share.{share_of}
 use Rattle.season.specs.Season.{left_shares, shares_in, season_reply, season_report}
-use Rattle.season.specs.Stream.{counted_in}
+use Rattle.season.specs.Stream.{count_reply, counted_in, past_after}
 use Rattle.season.specs.Inner.{IsShare, Within}
 use Rattle.season.proofs.Parting.{parts_some, more_than_last}
 use Rattle.std.specs.Prelude.{Ok, Err}
+use Rattle.std.specs.Result.{is_err}
 
 -- ---- the shares of parts
 pub shares_closed : (net rest : List ℕ) → shares_in (net ∷ parts_of rest) ≡ share_of net ∷ shares_in (parts_of rest)
@@ -99,18 +104,48 @@ module _ (share totals : List ℕ) where
   unfolding counted_in
   counted_past l = rw (le-ltb (get_or totals 0 0) most_nets l)
 
+-- what is answered then
+module _ (totals : List ℕ) where
+  pub count_fits : ltb (get_or totals 0 0) most_nets ≡ true → count_reply totals ≡ Ok tt
+  unfolding count_reply
+  count_fits e = rw e
+
+  pub count_full : ltb (get_or totals 0 0) most_nets ≡ false → count_reply totals ≡ Err (Nets 100001)
+  unfolding count_reply
+  count_full e = rw e
+
+  fits_so : (b : Bool) → refuse_if (not b) (Nets 100001) ≡ Ok tt → b ≡ true
+  fits_so true e = refl
+  fits_so false e = cc
+
+  full_so : (b : Bool) {why : Refusal} → refuse_if (not b) (Nets 100001) ≡ Err why → (b ≡ false) × (refuse_if true (Nets 100001) ≡ Err why)
+  full_so true e = cc
+  full_so false e = (refl, e)
+
+  -- the stream's place tells it
+  pub past_told : bool_byte (is_err (count_reply totals)) ≡ past_after totals
+  unfolding count_reply past_after
+  past_told = by_nets (ltb (get_or totals 0 0) most_nets)
+    where
+      by_nets : (b : Bool) → bool_byte (is_err (refuse_if (not b) (Nets 100001))) ≡ cond b 0 1
+      by_nets true = refl
+      by_nets false = refl
+
 -- a share to come has been counted, or not
-module _ {shares : List (List ℕ)} {totals share : List ℕ} {rest : List (List ℕ)} (l : Leads shares totals (share ∷ rest)) {fits : Bool} {left : List ℕ}
-    (f : fits ≡ ltb (get_or totals 0 0) most_nets) (c : left ≡ counted_in share totals) where
-  pub turn_fits : IsShare share → fits ≡ true → Leads shares left rest
+module _ {shares : List (List ℕ)} {totals share : List ℕ} {rest : List (List ℕ)} (l : Leads shares totals (share ∷ rest)) {left : List ℕ}
+    (c : left ≡ counted_in share totals) where
+  pub turn_fits : IsShare share → count_reply totals ≡ Ok tt → Leads shares left rest
+  unfolding count_reply
   turn_fits s e =
-      let below = ltb-true (get_or totals 0 0) most_nets (sym f ∙ e) in
+      let below = ltb-true (get_or totals 0 0) most_nets (fits_so totals (ltb (get_or totals 0 0) most_nets) e) in
       subst (λ (x : List ℕ). Leads shares x rest) (sym (c ∙ counted_fits share totals below)) (leads_more l s below)
 
-  pub turn_past : fits ≡ false → (season_reply shares ≡ Err (Nets 100001)) × (left ≡ season_report shares)
+  pub turn_past : {why : Refusal} → count_reply totals ≡ Err why → (season_reply shares ≡ Err why) × (left ≡ season_report shares)
+  unfolding count_reply
   turn_past e =
-      let full = ltb-false (get_or totals 0 0) most_nets (sym f ∙ e) in let p = leads_past l full in
-      (p.1, c ∙ counted_past share totals full ∙ p.0)
+      let so = full_so totals (ltb (get_or totals 0 0) most_nets) e in
+      let full = ltb-false (get_or totals 0 0) most_nets so.0 in let p = leads_past l full in
+      (p.1 ∙ so.1, c ∙ counted_past share totals full ∙ p.0)
 
 module _ (before : ℕ) where
   pub none_within : Within before (report_of [])

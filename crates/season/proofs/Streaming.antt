@@ -7,7 +7,7 @@
 --   fed_past, fed_more, fed_end        the bytes from a place on: none count any more, one more is taken, none is left
 --   fed_sound, fed_joined              a state that has been fed; bytes and others after them
 use mathlib.Core.Path.{◌≡◌, refl, sym, ◌∙◌, ap}
-use mathlib.Core.Bool.{Bool, true, false, cond, ◌&&◌, not}
+use mathlib.Core.Bool.{Bool, true, false, cond, ◌&&◌}
 use mir.Val.{bool_byte}
 use mathlib.Core.List.{List, [], ◌∷◌, ◌++◌}
 use Prim.Native.Nat.{ℕ, suc, ◌+◌, ◌-◌, ◌≤◌, ◌<◌}
@@ -22,10 +22,12 @@ use Rattle.text.specs.Lines.{LF}
 use Rattle.totals.specs.Promise.{most_nets}
 use Rattle.season.specs.Archive.{STOP}
 use Rattle.season.specs.Share.{share_of, long_share}
-use Rattle.season.specs.Stream.{Stream, stream, place_at, counted_in, past_after, kept_in, kept_bytes, line_after, open_share, closes, closed, taken, fed_byte, fed}
+use Rattle.season.specs.Stream.{Stream, stream, place_at, counted_in, count_reply, past_after, kept_in, kept_bytes, line_after, open_share, closes, closed, taken, fed_byte, fed}
 use Rattle.season.specs.Inner.{IsShare, Sound}
 use Rattle.season.proofs.Sharing.{share_is, long_is}
-use Rattle.season.proofs.Leading.{counted_within}
+use Rattle.season.proofs.Leading.{past_told, counted_within}
+use Rattle.reply.specs.Reply.{Reply}
+use Rattle.std.specs.Result.{is_err}
 
 pub open_is : (held : List ℕ) (bytes : ℕ) → IsShare (open_share held bytes)
 unfolding open_share
@@ -45,15 +47,10 @@ unfolding closes
 closes_by byte line e = let b = both_true (eqb byte LF) (eqb line 1) e in (eqb-true byte LF b.0, eqb-true line 1 b.1)
 
 -- the open net is closed
-module _ (s : Stream) {share totals : List ℕ} {fits : Bool} {past : ℕ} where
-  pub closed_is : share ≡ open_share s.held s.place.bytes → fits ≡ ltb (get_or s.totals 0 0) most_nets → totals ≡ counted_in share s.totals → past ≡ bool_byte (not fits)
+module _ (s : Stream) {share totals : List ℕ} {reply : Reply} {past : ℕ} where
+  pub closed_is : share ≡ open_share s.held s.place.bytes → reply ≡ count_reply s.totals → totals ≡ counted_in share s.totals → past ≡ bool_byte (is_err reply)
       → stream s.held totals (place_at 0 0 past) ≡ closed s
-  unfolding past_after
-  closed_is n f t p = rw (p, f, t, n) (ap (λ (x : ℕ). stream s.held (counted_in (open_share s.held s.place.bytes) s.totals) (place_at 0 0 x)) (by_nets (ltb (get_or s.totals 0 0) most_nets)))
-    where
-      by_nets : (b : Bool) → bool_byte (not b) ≡ cond b 0 1
-      by_nets true = refl
-      by_nets false = refl
+  closed_is n f t p = rw (p, f, t, n, past_told s.totals)
 
 module _ (byte : ℕ) (s : Stream) where
   pub taken_close : closes byte s.place.line ≡ true → taken byte s ≡ closed s

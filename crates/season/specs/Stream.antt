@@ -1,7 +1,7 @@
 -- An archive that comes in parts, in fixed memory: what the three lent lists hold, and what a byte does to them. That this gives the report of the
 -- archive, whatever the parts, is a theorem (proofs/Joining.antt).
 use Rattle.std.specs.Prelude.{Bool, cond, ◌||◌, ◌&&◌, not, List, [], ◌∷◌, ℕ, ◌+◌, ◌-◌, eqb, ltb, length, get_or, set, take}
-use Rattle.reply.specs.declared.Refusal.TheVariants.{Count, OutOfRange}
+use Rattle.reply.specs.declared.Refusal.TheVariants.{Count, OutOfRange, Nets}
 use Rattle.reply.specs.Reply.{Reply}
 use Rattle.reply.specs.Checks.{refuse_if, refuse_first, ◌and_then◌}
 use Rattle.text.specs.Lines.{LF}
@@ -33,6 +33,10 @@ place_at bytes line past = record { bytes = bytes; line = line; past = past }
 -- ---- a net is counted, where 100,000 have not been
 unfoldable pub counted_in : (share totals : List ℕ) → List ℕ
 counted_in share totals = cond (ltb (get_or totals 0 0) most_nets) (sum_of totals share) totals
+
+-- 30, where they have been
+unfoldable pub count_reply : (totals : List ℕ) → Reply
+count_reply totals = refuse_if (not (ltb (get_or totals 0 0) most_nets)) (Nets (most_nets + 1))
 
 unfoldable pub past_after : (totals : List ℕ) → ℕ
 past_after totals = cond (ltb (get_or totals 0 0) most_nets) 0 1

@@ -1,10 +1,9 @@
 // The nets of an archive that lies in memory: each is found where it stands, from full stop line to full stop line, and counted.
-ghost use Rattle.std.specs.Prelude.{◌≡◌, ◌-◌, ◌≤◌, [], ltb, length, get_or, take, drop};
-ghost use Rattle.totals.specs.Promise.{most_nets};
+ghost use Rattle.std.specs.Prelude.{◌≡◌, ◌-◌, ◌≤◌, [], length, take, drop};
 ghost use Rattle.totals.specs.Totals.{report_of};
 ghost use Rattle.season.specs.Archive.{stops};
 ghost use Rattle.season.specs.Season.{shares_of, season_reply, season_report};
-ghost use Rattle.season.specs.Stream.{counted_in};
+ghost use Rattle.season.specs.Stream.{count_reply, counted_in};
 ghost use Rattle.season.specs.Inner.{IsShare, Roomy, NextStop};
 
 use crate::net;
@@ -39,18 +38,18 @@ fn next_stop(archive: &[u8], start: usize) -> usize
     archive.len()
 }
 
-// Counts a net: its share is added where 100,000 have not been. Answers whether it was added.
-#[tactic(auto, unfolding(crate::specs::Stream::counted_in))]
-pub fn count(share: [u64; 16], totals: &mut [u64]) -> bool
+// Counts a net: its share is added, or it is refused where 100,000 have been (30).
+#[tactic(auto, unfolding(crate::specs::Stream::count_reply, crate::specs::Stream::counted_in))]
+pub fn count(share: [u64; 16], totals: &mut [u64]) -> Result<(), Refusal>
     requires { IsShare share × Roomy totals.old }
-    ensures fits { result ≡ ltb (get_or totals.old 0 0) most_nets }
+    ensures reply { result ≡ count_reply totals.old }
     ensures list { totals.new ≡ counted_in share totals.old }
 {
-    let fits = totals[0] < MOST_NETS;
-    if fits {
-        totals::add(totals, &share);
+    if totals[0] >= MOST_NETS {
+        return Err(Refusal::Nets(MOST_NETS + 1));
     }
-    fits
+    totals::add(totals, &share);
+    Ok(())
 }
 
 // Counts the nets of an archive, in totals that have none yet.
@@ -63,14 +62,12 @@ pub fn count_all(archive: &[u8], totals: &mut [u64]) -> Result<(), Refusal>
     let mut start = 0;
     let mut stop = next_stop(archive, start);
     while stop < archive.len() {
-        if !count(net::share(&archive[start..stop]), totals) {
-            return Err(Refusal::Nets(MOST_NETS + 1));
-        }
+        count(net::share(&archive[start..stop]), totals)?;
         start = stop + 2;
         stop = next_stop(archive, start);
     }
-    if start < archive.len() && !count(net::left(), totals) {
-        return Err(Refusal::Nets(MOST_NETS + 1));
+    if start < archive.len() {
+        count(net::left(), totals)?;
     }
     Ok(())
 }

@@ -121,11 +121,11 @@ impl<'a> Open<'a> {
         requires { 1 ≤ self.old.place.bytes }
         ensures { GoesTo self.old (closed (state self.old)) self.new }
     {
-        let fits = archive::count(self.share(), self.totals);
+        let counted = archive::count(self.share(), self.totals);
         self.place = Place {
             bytes: 0,
             line: 0,
-            past: u64::from(!fits),
+            past: u64::from(counted.is_err()),
         };
     }
 
@@ -259,7 +259,7 @@ pub fn next(
 }
 
 // The place after the end: bytes left are a net too, counted under 1. No method of `Open`: their bytes are not read, and `end` may not write to them.
-#[tactic(auto, unfolding(crate::specs::Stream::ended_place, crate::specs::Stream::ended_totals, crate::specs::Stream::past_after))]
+#[tactic(auto, unfolding(crate::specs::Stream::ended_place, crate::specs::Stream::ended_totals), using(crate::proofs::Leading::past_told))]
 fn finish(totals: &mut [u64], p: Place) -> Place
     requires { Roomy totals.old }
     ensures place { result ≡ ended_place totals.old p }
@@ -272,11 +272,11 @@ fn finish(totals: &mut [u64], p: Place) -> Place
             ..p
         };
     }
-    let fits = archive::count(net::left(), totals);
+    let counted = archive::count(net::left(), totals);
     Place {
         bytes: 0,
         line: 0,
-        past: u64::from(!fits),
+        past: u64::from(counted.is_err()),
     }
 }
 

@@ -5,6 +5,7 @@ use mathlib.Core.Bool.{Bool, cond}
 use Prim.Native.Nat.{ℕ, ◌+◌, ◌-◌, ◌≤◌, ◌<◌}
 use native.Mathlib.Omega.{arith}
 use borrow.Author.Tests.{eq-eqb, ne_eqb}
+use Rattle.std.proofs.lemmas.Result.{err_from_is_err_and}
 use lib.ListN.{length-drop, length, take, drop}
 use Rattle.totals.proofs.Totalling.{report_length}
 use Rattle.totals.specs.Totals.{report_of}
@@ -17,7 +18,6 @@ use Rattle.season.specs.Inner.{IsShare, Roomy, NextStop}
 use Rattle.season.proofs.Sharing.{share_is, left_is}
 use Rattle.season.proofs.Leading.{shares_closed, shares_left, Leads, leads_none, leads_end, turn_fits, turn_past, none_within, counted_within}
 use Rattle.season.proofs.archive.count_all.Goals as goal
-use Rattle.season.proofs.archive.count_all.Goals.{else-start-archive-via-then-start-archive+else-not-count-2, else-start-archive-via-else-start-archive}
 
 -- the totals are sixteen all the time
 sixteen : {totals lent : List ℕ} → Roomy totals → lent ≡ report_of [] → length totals ≡ length lent
@@ -55,14 +55,14 @@ module _ {archive totals : List ℕ} {start stop : ℕ} (so_far : Leads (shares_
       subst (λ (x : List (List ℕ)). Leads (shares_of archive) totals x)
       (ap shares_in (next.closed on).1 ∙ shares_closed net (drop (stop + 2) archive)) so_far
 
-pub returns-then-not-count : goal.returns-then-not-count
-returns-then-not-count c =
-    let i = c.loop-stop.invariant in
-    let p = turn_past (here i.1 i.3 c.loop-stop-test.true) c.count.ensures.fits (counted c.loop-stop.totals c.count.ensures.list c.share.ensures) c.if-not-count.true in
-    record {
+pub returns-in_err-count : goal.returns-in_err-count
+returns-in_err-count c =
+    let i = c.loop-stop.invariant in let why = err_from_is_err_and c.from_residual.result c.from_residual.ensures.1 in
+    let p = turn_past (here i.1 i.3 c.loop-stop-test.true) (counted c.loop-stop.totals c.count.ensures.list c.share.ensures) (sym c.count.ensures.reply ∙ c.in_err-count.was) in
+    rw (why.1, why.2) (record {
       reply = sym p.0;
       list = p.1;
-    }
+    })
 
 pub next_stop-stop-requires-in-loop-stop : goal.next_stop-stop-requires-in-loop-stop
 next_stop-stop-requires-in-loop-stop c = (c.loop-stop.invariant.3.closed c.loop-stop-test.true).0
@@ -74,7 +74,7 @@ pub loop-stop-preserved : goal.loop-stop-preserved
 loop-stop-preserved c =
     let i = c.loop-stop.invariant in let more = counted c.loop-stop.totals c.count.ensures.list c.share.ensures in (
       subst Roomy (sym more) (counted_within most_total _ c.loop-stop.totals (share_is _) i.0),
-      turn_fits (here i.1 i.3 c.loop-stop-test.true) c.count.ensures.fits more (share_is _) c.if-not-count.false,
+      turn_fits (here i.1 i.3 c.loop-stop-test.true) more (share_is _) (sym c.count.ensures.reply ∙ c.in_ok-count.was),
       (i.3.closed c.loop-stop-test.true).0,
       c.next_stop-stop-in-loop-stop.ensures,
     )
@@ -100,27 +100,28 @@ module _ {all totals : List ℕ} {start stop : ℕ} (so_far : Leads (shares_of a
       let d = length-drop start all in
       subst (λ (b : Bool). Leads (shares_of all) totals (cond b [] (left_share ∷ []))) (eq-eqb (length (drop start all)) 0 (omega (arith, d))) last
 
-pub returns-then-not-count-2 : goal.returns-then-not-count-2
-returns-then-not-count-2 c =
+pub returns-in_err-count-2 : goal.returns-in_err-count-2
+returns-in_err-count-2 c =
     let i = c.loop-stop.invariant in let n = c.count-then-start-archive.ensures in
-    let p = turn_past (some_left i.1 i.3 (omega arith) (omega arith)) n.fits (counted c.loop-stop.totals n.list c.left.ensures) c.if-not-count-2.true in record {
+    let why = err_from_is_err_and c.from_residual-in_err-count-2.result c.from_residual-in_err-count-2.ensures.1 in
+    let p = turn_past (some_left i.1 i.3 (omega arith) (omega arith)) (counted c.loop-stop.totals n.list c.left.ensures) (sym n.reply ∙ c.in_err-count-2.was) in
+    rw (why.1, why.2) (record {
       reply = sym p.0;
       list = p.1;
+    })
+
+pub returns-in_ok-count-2 : goal.returns-in_ok-count-2
+returns-in_ok-count-2 c =
+    let i = c.loop-stop.invariant in let n = c.count-then-start-archive.ensures in
+    let p = leads_end (turn_fits (some_left i.1 i.3 (omega arith) c.if-start-archive.true) (counted c.loop-stop.totals n.list c.left.ensures) left_is (sym n.reply ∙ c.in_ok-count-2.was)) in
+    record {
+      reply = sym p.1;
+      list = p.0;
     }
 
-pub returns : goal.returns
-returns c =
-    let i = c.loop-stop.invariant in let all = shares_of c.args.archive.now in let left = c.else-start-archive in
-    let counted_all : Leads all left.totals [] =
-    elim left.branch [
-      | else-start-archive-via-then-start-archive+else-not-count-2 w ↦
-          let n = w.count-then-start-archive.ensures in
-          rw w.totals-is
-          (turn_fits (some_left i.1 i.3 (omega arith) w.if-start-archive.true) n.fits (counted c.loop-stop.totals n.list w.left.ensures) left_is w.if-not-count-2.false)
-      | else-start-archive-via-else-start-archive w ↦ rw w.totals-is (none_left i.1 i.3 (omega arith) w.if-start-archive.false)
-    ] in
-    let p = leads_end counted_all in
-    record {
+pub returns-else-start-archive : goal.returns-else-start-archive
+returns-else-start-archive c =
+    let i = c.loop-stop.invariant in let p = leads_end (none_left i.1 i.3 (omega arith) c.if-start-archive.false) in record {
       reply = sym p.1;
       list = p.0;
     }

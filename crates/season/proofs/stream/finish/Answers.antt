@@ -4,5 +4,5 @@ use Rattle.season.specs.Inner.{IsShare}
 use Rattle.season.proofs.Sharing.{left_is}
 use Rattle.season.proofs.stream.finish.Goals as goal
 
-pub count-fits-requires : goal.count-fits-requires
-count-fits-requires c = (subst IsShare (sym c.left.ensures) left_is, c.requires)
+pub count-counted-requires : goal.count-counted-requires
+count-counted-requires c = (subst IsShare (sym c.left.ensures) left_is, c.requires)
