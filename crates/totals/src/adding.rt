@@ -8,7 +8,7 @@ ghost use Rattle.totals.specs.Text.{head_of};
 ghost use Rattle.totals.specs.Adding.{entry_with, entry_of, entry_at, line_after, due_after, nets_after, counted_after, miscounted, past_after, passes, added, sum_after};
 ghost use Rattle.totals.specs.Adding.{faulty, fault_in, entered, after_line, none_read, unfinished, answer_in, after_byte, after_bytes, stream_of};
 
-use crate::{MOST_NETS, MOST_TOTAL, report};
+use crate::{MOST_NETS, MOST_TOTAL, TOTALS, report};
 use reply::{Refusal, Verdict};
 use text::writer::Writer;
 use text::{LF, TAB, find, row};
@@ -20,6 +20,7 @@ pub const HELD: usize = 64;
 const DIGITS: usize = 18;
 
 // What is known of the reports read so far.
+// The line due is a number and no enum: report.rt has its fourteen lines by number, nine of them alike.
 #[derive(Clone, Copy, Debug, PartialEq, Eq)]
 pub struct Tally {
     // Lines read, and the line of a report that is due, from 0.
@@ -33,10 +34,11 @@ pub struct Tally {
     // The first line at fault.
     pub fault: Option<u64>,
     // The totals of all reports so far.
-    pub sum: [u64; 16],
+    pub sum: [u64; TOTALS],
 }
 
 // The same, and how many bytes of the next line the lent buffer holds.
+// That they are no more than it has room for is asked where bytes come, and is none of the type: `end` takes any such value.
 #[derive(Clone, Copy, Debug, PartialEq, Eq)]
 pub struct Adding {
     pub length: usize,
@@ -54,6 +56,7 @@ fn entry_with(x: i64, y: i64) -> Option<(u64, u64)>
 }
 
 // The numbers that stand from a start on: two, or one, and 0 for the second.
+// No Option for the second: the line due says whether there is one, and with an Option each step below would have to ask that both agree.
 fn numbers_from(text: &[u8], start: usize, pair: bool) -> Option<(u64, u64)>
     requires { start ≤ length text.now }
     ensures { result ≡ entry_of (row_within 18 text.now start (cond pair 2 1)) }
@@ -69,8 +72,7 @@ fn numbers_from(text: &[u8], start: usize, pair: bool) -> Option<(u64, u64)>
 }
 
 // What the line due begins with, up to its first number, from the start of a lent buffer; how many bytes that is.
-fn put_due(out: &mut [u8], due: usize) -> usize
-    requires { length out.old ≡ 32 }
+fn put_due(out: &mut [u8; 32], due: usize) -> usize
     ensures text { Wrote out.old 0 (head_of due ++ (TAB ∷ [])) out.new result }
     ensures within { result ≤ 32 }
 {
@@ -146,7 +148,7 @@ fn past_after(due: usize, past: bool, nets: u64, x: u64) -> bool
 
 // Whether a number of the line makes a total pass 18 digits.
 #[tactic(auto, unfolding(crate::specs::Adding::passes), using(crate::proofs::Printing::pair_within))]
-fn passes(sum: [u64; 16], due: usize, x: u64, y: u64) -> bool
+fn passes(sum: [u64; TOTALS], due: usize, x: u64, y: u64) -> bool
     ensures { result ≡ passes sum due x y }
 {
     let place = report::place_of(due);
@@ -156,7 +158,7 @@ fn passes(sum: [u64; 16], due: usize, x: u64, y: u64) -> bool
 
 // The numbers of the line added to the totals of their places.
 #[tactic(auto, unfolding(crate::specs::Adding::added), using(crate::proofs::Printing::pair_within, crate::proofs::Entering::fits, crate::proofs::Entering::second_fits))]
-fn added(sum: [u64; 16], due: usize, x: u64, y: u64) -> [u64; 16]
+fn added(sum: [u64; TOTALS], due: usize, x: u64, y: u64) -> [u64; TOTALS]
     requires { passes sum due x y ≡ false }
     ensures { result ≡ added sum due x y }
 {
@@ -190,7 +192,7 @@ fn faulty(t: Tally) -> Tally
 
 // The totals once a line has been read.
 #[tactic(auto, unfolding(crate::specs::Adding::sum_after))]
-fn sum_after(past: bool, sum: [u64; 16], due: usize, x: u64, y: u64) -> [u64; 16]
+fn sum_after(past: bool, sum: [u64; TOTALS], due: usize, x: u64, y: u64) -> [u64; TOTALS]
     requires { past ≡ false → passes sum due x y ≡ false }
     ensures { result ≡ sum_after past sum due x y }
 {
@@ -232,8 +234,8 @@ fn after_line(t: Tally, text: &[u8]) -> Tally
 }
 
 // One byte more.
-fn after_byte(b: u8, held: &mut [u8], a: Adding) -> Adding
-    requires { (length held.old ≡ 64) × (a.length ≤ 64) }
+fn after_byte(b: u8, held: &mut [u8; HELD], a: Adding) -> Adding
+    requires { a.length ≤ 64 }
     ensures stream { stream_of result held.new ≡ after_byte (stream_of a held.old) b }
     ensures within { result.length ≤ 64 }
 {
@@ -266,14 +268,14 @@ pub fn begin() -> Adding
             counted: 0,
             past: false,
             fault: None,
-            sum: [0; 16],
+            sum: [0; TOTALS],
         },
     }
 }
 
 // The next bytes of the stream, however many.
-pub fn next(bytes: &[u8], held: &mut [u8], a: Adding) -> Adding
-    requires { (length held.old ≡ 64) × (a.length ≤ 64) }
+pub fn next(bytes: &[u8], held: &mut [u8; HELD], a: Adding) -> Adding
+    requires { a.length ≤ 64 }
     ensures stream { stream_of result held.new ≡ after_bytes (stream_of a held.old) bytes.now }
     ensures within { result.length ≤ 64 }
 {

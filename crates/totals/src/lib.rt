@@ -38,17 +38,16 @@ fn joined(i: usize, x: u64, y: u64) -> u64
 }
 
 // The report of no nets.
-pub fn clear(totals: &mut [u64])
-    requires { length totals.old ≡ 16 }
+#[tactic(auto, unfolding(crate::specs::Totals::report_of, crate::specs::Totals::total, exact::specs::Tabulate::tabulate))]
+pub fn clear(totals: &mut [u64; TOTALS])
     ensures { totals.new ≡ report_of [] }
 {
-    totals.fill(0);
+    *totals = [0; TOTALS];
 }
 
 // Adds a report, or one net's share, to the totals.
-pub fn add(totals: &mut [u64], more: &[u64])
-    requires totals_len { (length totals.old ≡ 16) × (length more.now ≡ 16) }
-    requires by_index { (i : ℕ) → i < 16 → get_or totals.old i 0 + get_or more.now i 0 ≤ 18446744073709551615 }
+pub fn add(totals: &mut [u64; TOTALS], more: &[u64; TOTALS])
+    requires { (i : ℕ) → i < 16 → get_or totals.old i 0 + get_or more.now i 0 ≤ 18446744073709551615 }
     ensures { totals.new ≡ sum_of totals.old more.now }
 {
     for i in 0..TOTALS {
@@ -65,8 +64,7 @@ fn too_large(i: usize, x: u64, y: u64) -> bool
 }
 
 // Refuses the first place at which a number is past 18 digits, counted from 1.
-fn check(first: &[u64], second: &[u64]) -> Result<(), Refusal>
-    requires { (length first.now ≡ 16) × (length second.now ≡ 16) }
+fn check(first: &[u64; TOTALS], second: &[u64; TOTALS]) -> Result<(), Refusal>
     ensures { result ≡ sizes_reply first.now second.now }
 {
     for (i, x) in first.iter().enumerate() {
@@ -81,14 +79,14 @@ fn check(first: &[u64], second: &[u64]) -> Result<(), Refusal>
 pub fn add_reports(first: &[u64], second: &[u64], sum: &mut [u64]) -> Result<(), Refusal>
     ensures { Adds first.now second.now sum.old result sum.new }
 {
-    if first.len() != TOTALS || second.len() != TOTALS || sum.len() != TOTALS {
-        return Err(Refusal::Count(0));
-    }
+    let first = first.as_array().ok_or(Refusal::Count(0))?;
+    let second = second.as_array().ok_or(Refusal::Count(0))?;
+    let sum = sum.as_mut_array().ok_or(Refusal::Count(0))?;
     check(first, second)?;
     if first[0] + second[0] > MOST_NETS {
         return Err(Refusal::Nets(MOST_NETS + 1));
     }
-    sum.copy_from_slice(first);
+    *sum = *first;
     add(sum, second);
     Ok(())
 }

@@ -15,6 +15,7 @@ const LINES: usize = 14;
 pub const REPORT: usize = 1_060;
 
 // What a line begins with: at most 27 bytes.
+// Each function here asks room for its own part of a line: how much differs, so it is no fact of the writer's type.
 #[tactic(auto, unfolding(crate::specs::Text::head_of), using(text::proofs::Putting::count_most))]
 pub fn put_head(w: &mut Writer, line: usize)
     requires { w.old.at + 27 ≤ length w.old.out.now }
@@ -56,8 +57,8 @@ pub fn pair_on(line: usize) -> bool
 
 // What stands behind the line's first number.
 #[tactic(auto, unfolding(crate::specs::Text::ending_of), using(crate::proofs::Printing::pair_within, text::proofs::Putting::count_most))]
-fn put_ending(w: &mut Writer, line: usize, totals: &[u64])
-    requires { (w.old.at + 23 ≤ length w.old.out.now) × (length totals.now ≡ 16) }
+fn put_ending(w: &mut Writer, line: usize, totals: &[u64; TOTALS])
+    requires { w.old.at + 23 ≤ length w.old.out.now }
     ensures { Puts w.old (ending_of totals.now line) 23 w.new }
 {
     if pair_on(line) {
@@ -68,8 +69,8 @@ fn put_ending(w: &mut Writer, line: usize, totals: &[u64])
 
 // One line: at most 72 bytes.
 #[tactic(auto, using(text::proofs::Putting::count_most))]
-fn put_line(w: &mut Writer, line: usize, totals: &[u64])
-    requires { (w.old.at + 72 ≤ length w.old.out.now) × (length totals.now ≡ 16) }
+fn put_line(w: &mut Writer, line: usize, totals: &[u64; TOTALS])
+    requires { w.old.at + 72 ≤ length w.old.out.now }
     ensures { Puts w.old (line_of totals.now line) 72 w.new }
 {
     put_head(w, line);
@@ -78,8 +79,8 @@ fn put_line(w: &mut Writer, line: usize, totals: &[u64])
 }
 
 // The fourteen lines.
-fn put_lines(w: &mut Writer, totals: &[u64])
-    requires { (w.old.at + 1008 ≤ length w.old.out.now) × (length totals.now ≡ 16) }
+fn put_lines(w: &mut Writer, totals: &[u64; TOTALS])
+    requires { w.old.at + 1008 ≤ length w.old.out.now }
     ensures { Puts w.old (in_order 14 (line_of totals.now)) 1008 w.new }
 {
     for line in 0..LINES {
@@ -104,7 +105,10 @@ pub fn print(totals: &[u64], past: bool, out: &mut [u8]) -> usize
     ensures text { Wrote out.old 0 (report_in (length out.old) totals.now past) out.new result }
     ensures within { result ≤ length out.old }
 {
-    if totals.len() != TOTALS || out.len() < REPORT {
+    let Some(totals) = totals.as_array() else {
+        return 0;
+    };
+    if out.len() < REPORT {
         return 0;
     }
     let mut w = Writer { out, at: 0 };

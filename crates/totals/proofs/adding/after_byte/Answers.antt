@@ -1,5 +1,5 @@
 -- `totals::adding::after_byte` meets its contract. Assumes nothing.
-use Rattle.std.proofs.Common.{◌≡◌}
+use Rattle.std.proofs.Common.{◌≡◌, rules}
 use Rattle.std.specs.Prelude.{take}
 use Rattle.totals.specs.Adding.{stream_of, lengthened}
 use Rattle.totals.proofs.Streaming.{held_more, held_full, byte_ended, byte_held}
@@ -11,8 +11,8 @@ returns-then-b-eq-LF-clause-stream c =
     let a = c.args in let l = c.if-length-lt-HELD in
     let line : take l.length l.held ≡ lengthened (take a.a.length a.held.now) a.b =
     elim l.branch [
-      | then-length-lt-HELD w ↦ (held_more a.a.length a.held.now a.b l.length l.held c.requires.0 w.if-length-lt-HELD.true w.length-is w.held-is).text
-      | else-length-lt-HELD w ↦ (held_full a.a.length a.held.now a.b l.length l.held c.requires.0 w.if-length-lt-HELD.false c.requires.1 w.length-is w.held-is).text
+      | then-length-lt-HELD w ↦ (held_more a.a.length a.held.now a.b l.length l.held (search rules) w.if-length-lt-HELD.true w.length-is w.held-is).text
+      | else-length-lt-HELD w ↦ (held_full a.a.length a.held.now a.b l.length l.held (search rules) w.if-length-lt-HELD.false c.requires w.length-is w.held-is).text
     ] in
     byte_ended (stream_of a.a a.held.now) a.b line c.if-b-eq-LF.true c.after_line.ensures
 
@@ -21,7 +21,7 @@ returns-else-b-eq-LF-clause-stream c =
     let a = c.args in let l = c.if-length-lt-HELD in
     let line : take l.length l.held ≡ lengthened (take a.a.length a.held.now) a.b =
     elim l.branch [
-      | then-length-lt-HELD w ↦ (held_more a.a.length a.held.now a.b l.length l.held c.requires.0 w.if-length-lt-HELD.true w.length-is w.held-is).text
-      | else-length-lt-HELD w ↦ (held_full a.a.length a.held.now a.b l.length l.held c.requires.0 w.if-length-lt-HELD.false c.requires.1 w.length-is w.held-is).text
+      | then-length-lt-HELD w ↦ (held_more a.a.length a.held.now a.b l.length l.held (search rules) w.if-length-lt-HELD.true w.length-is w.held-is).text
+      | else-length-lt-HELD w ↦ (held_full a.a.length a.held.now a.b l.length l.held (search rules) w.if-length-lt-HELD.false c.requires w.length-is w.held-is).text
     ] in
     byte_held (stream_of a.a a.held.now) a.b line c.if-b-eq-LF.false
