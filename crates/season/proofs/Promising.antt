@@ -4,8 +4,8 @@
 --   amiss, lengths_known                  whether the lengths of a state are amiss, and what they are where not
 --   Passed, passed_state                  a state that the checks accept: its lengths, totals with room, and a place where a stream can stand
 --   refused_begins, begun                 `begin` keeps its promise, and so do `next` (refused_feeds, feeds) and `end` (refused_ends, ends)
-use mathlib.Core.Path.{◌≡◌, refl, sym, ◌∙◌, ap}
-use mathlib.Core.Bool.{Bool, true, false, cond, not}
+use mathlib.Core.Path.{◌≡◌, refl, sym, ◌∙◌, ap, ap₂}
+use mathlib.Core.Bool.{Bool, true, false, cond, not, ◌||◌}
 use mathlib.Core.List.{List, []}
 use Prim.Native.Nat.{ℕ, zero, suc, ◌+◌, ◌≤◌, ◌<◌}
 use native.Mathlib.Omega.{arith}
@@ -75,6 +75,20 @@ stop_amiss line zero e one = let t : line_amiss line zero ≡ true = rw one in n
 stop_amiss line (suc bytes) e one = omega arith
 
 -- ---- the lengths of a state
+pub amiss_any : (a b c : ℕ) → (a ≡ 65536 → b ≡ 16 → c ≡ 3 → ⊥) → lengths_amiss a b c ≡ true
+unfolding lengths_amiss
+amiss_any a b c n = by_tests (eqb a 65536) (eqb b 16) (eqb c 3) refl refl refl
+  where
+    by_tests : (p q r : Bool) → eqb a 65536 ≡ p → eqb b 16 ≡ q → eqb c 3 ≡ r → (not p || (not q || not r)) ≡ true
+    by_tests false q r e f g = refl
+    by_tests true false r e f g = refl
+    by_tests true true false e f g = refl
+    by_tests true true true e f g = absurd (n (eqb-true a 65536 e) (eqb-true b 16 f) (eqb-true c 3 g))
+
+pub none_amiss : {a b c : ℕ} → a ≡ 65536 → b ≡ 16 → c ≡ 3 → lengths_amiss a b c ≡ false
+unfolding lengths_amiss
+none_amiss {a} {b} {c} e f g = rw (eq-eqb a 65536 e, eq-eqb b 16 f, eq-eqb c 3 g)
+
 module _ (held totals place : List ℕ) where
   abbrev pub amiss : Bool
   amiss = lengths_amiss (length held) (length totals) (length place)
@@ -89,6 +103,12 @@ module _ (held totals place : List ℕ) where
     lengths_known =
         let a = neither (not (eqb (length held) 65536)) _ e in let b = neither (not (eqb (length totals) 16)) _ a.1 in
         (eqb-true (length held) 65536 (not-false _ a.0), eqb-true (length totals) 16 (not-false _ b.0), eqb-true (length place) 3 (not-false _ b.1))
+
+    -- what the checks of totals and place say, of the lists as they were lent or as arrays
+    pub by_checks : {reply : Reply} {totals' : List ℕ} {p : Place} → totals' ≡ totals → p ≡ place_of place
+        → reply ≡ (totals_reply totals' and_then place_reply p) → reply ≡ state_reply held totals place
+    unfolding state_reply
+    by_checks f g r = rw e (r ∙ ap₂ (λ (xs : List ℕ) (q : Place). totals_reply xs and_then place_reply q) f g)
 
     pub by_totals : (why : Refusal) → totals_reply totals ≡ Err why → state_reply held totals place ≡ Err why
     unfolding state_reply

@@ -9,7 +9,7 @@ ghost use Rattle.season.specs.Inner.{IsShare, Roomy, NextStop};
 use crate::net;
 use reply::Refusal;
 use text::{LF, find};
-use totals::MOST_NETS;
+use totals::{MOST_NETS, TOTALS};
 
 // Whether the line from `at` to `end`, where its LF stands, is a single full stop.
 fn is_stop(archive: &[u8], at: usize, end: usize) -> bool
@@ -40,7 +40,7 @@ fn next_stop(archive: &[u8], start: usize) -> usize
 
 // Counts a net: its share is added, or it is refused where 100,000 have been (30).
 #[tactic(auto, unfolding(crate::specs::Stream::count_reply, crate::specs::Stream::counted_in))]
-pub fn count(share: [u64; 16], totals: &mut [u64]) -> Result<(), Refusal>
+pub fn count(share: [u64; TOTALS], totals: &mut [u64; TOTALS]) -> Result<(), Refusal>
     requires { IsShare share × Roomy totals.old }
     ensures reply { result ≡ count_reply totals.old }
     ensures list { totals.new ≡ counted_in share totals.old }
@@ -54,7 +54,7 @@ pub fn count(share: [u64; 16], totals: &mut [u64]) -> Result<(), Refusal>
 
 // Counts the nets of an archive, in totals that have none yet.
 // A while loop: the full stop lines that it finds move it on, which no range says.
-pub fn count_all(archive: &[u8], totals: &mut [u64]) -> Result<(), Refusal>
+pub fn count_all(archive: &[u8], totals: &mut [u64; TOTALS]) -> Result<(), Refusal>
     requires { totals.old ≡ report_of [] }
     ensures reply { result ≡ season_reply (shares_of archive.now) }
     ensures list { totals.new ≡ season_report (shares_of archive.now) }

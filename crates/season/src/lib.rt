@@ -8,15 +8,12 @@ pub mod stream;
 ghost use Rattle.season.specs.Promise.{Reports};
 
 use reply::Refusal;
-use totals::TOTALS;
 
 // The report of an archive, into a lent list of sixteen totals; of its first 100,000 nets, where there are more (30).
 pub fn report(archive: &[u8], totals: &mut [u64]) -> Result<(), Refusal>
     ensures { Reports archive.now totals.old result totals.new }
 {
-    if totals.len() != TOTALS {
-        return Err(Refusal::Count(0));
-    }
+    let totals = totals.as_mut_array().ok_or(Refusal::Count(0))?;
     totals::clear(totals);
     archive::count_all(archive, totals)
 }

@@ -9,14 +9,15 @@ use adjustment::AnswerLists;
 use condition::Kind;
 use network::{Lists, NetTable};
 use reply::Refusal;
+use totals::TOTALS;
 
 // One net under this number, 0 where it is accepted, with no figures.
 // A number and no Result: the totals have a place for each number of the rules, and one for 0.
-fn under(number: u64) -> [u64; 16]
+fn under(number: u64) -> [u64; TOTALS]
     requires { number ≤ 9 }
     ensures { result ≡ counted_under number ++ no_figures }
 {
-    let mut one = [0u64; 16];
+    let mut one = [0u64; TOTALS];
     one[0] = 1;
     one[number as usize + 1] = 1;
     one
@@ -24,7 +25,7 @@ fn under(number: u64) -> [u64; 16]
 
 // The share of bytes left after the last full stop line.
 #[tactic(auto, unfolding(crate::specs::Share::left_share))]
-pub fn left() -> [u64; 16]
+pub fn left() -> [u64; TOTALS]
     ensures { result ≡ left_share }
 {
     under(1)
@@ -33,7 +34,7 @@ pub fn left() -> [u64; 16]
 // The share of a net that is too long.
 // `left` and `long` stand apart as the rules name their shares.
 #[tactic(auto, unfolding(crate::specs::Share::long_share))]
-pub fn long() -> [u64; 16]
+pub fn long() -> [u64; TOTALS]
     ensures { result ≡ long_share }
 {
     under(2)
@@ -76,7 +77,7 @@ fn sizes_of(kind: Kind, net: NetTable) -> Sizes
 }
 
 // The share of an accepted net.
-fn accepted(net: NetTable) -> [u64; 16]
+fn accepted(net: NetTable) -> [u64; TOTALS]
     requires w { Small 1000000 net.w.now (length net.w.now) }
     requires a { length net.w.now * length net.directions.now ≤ length net.a.now }
     ensures { result ≡ counted_under 0 ++ figures net.entry.kinds.now net.entry.w.now net.entry.a.now (length net.entry.directions.now) }
@@ -103,7 +104,7 @@ fn reply_to(net: NetTable) -> Result<(), Refusal>
 }
 
 // The share of a net by its condition table.
-fn table_share(net: NetTable) -> [u64; 16]
+fn table_share(net: NetTable) -> [u64; TOTALS]
     ensures { result ≡ share_with
         (adjust_reply net.entry.directions.now net.entry.q.now net.entry.a.now net.entry.w.now
         (room (length net.entry.directions.now) (length net.entry.w.now)))
@@ -116,7 +117,7 @@ fn table_share(net: NetTable) -> [u64; 16]
 }
 
 // The share of a net that is closed, from its bytes.
-pub fn share(net: &[u8]) -> [u64; 16]
+pub fn share(net: &[u8]) -> [u64; TOTALS]
     ensures { result ≡ share_of net.now }
 {
     let mut lists = Lists::new();

@@ -2,7 +2,8 @@
 // and the place, three numbers. Each byte is looked at once.
 ghost use Rattle.std.specs.Prelude.{◌≡◌, ◌≤◌, length};
 ghost use Rattle.season.specs.Stream.{stream, kept_in, kept_bytes, line_after, open_share, closes, closed, taken, fed, ended_place, ended_totals};
-ghost use Rattle.season.specs.Stream.{place_of, place_list, lengths_amiss, most_at, line_amiss, totals_reply, place_reply, state_reply};
+ghost use Rattle.season.specs.Stream.{place_of, place_list, most_at, line_amiss, totals_reply, place_reply};
+ghost use Rattle.reply.specs.Checks.{◌and_then◌};
 ghost use Rattle.totals.specs.Promise.{most_total};
 ghost use Rattle.season.specs.Inner.{Roomy, Sound};
 ghost use Rattle.season.specs.Promise.{Begins, Feeds, Ends};
@@ -31,8 +32,7 @@ pub struct Place {
 
 // The place that a lent list holds.
 #[tactic(auto, unfolding(crate::specs::Stream::place_of))]
-fn place_of(place: &[u64]) -> Place
-    requires { length place.now ≡ 3 }
+fn place_of(place: &[u64; PLACES]) -> Place
     ensures { result ≡ place_of place.now }
 {
     Place {
@@ -44,17 +44,15 @@ fn place_of(place: &[u64]) -> Place
 
 // The place, into a lent list.
 #[tactic(auto, unfolding(crate::specs::Stream::place_list))]
-fn store(p: Place, place: &mut [u64])
-    requires { length place.old ≡ 3 }
+fn store(p: Place, place: &mut [u64; PLACES])
     ensures { place.new ≡ place_list p }
 {
-    place.copy_from_slice(&[p.bytes, p.line, p.past]);
+    *place = [p.bytes, p.line, p.past];
 }
 
 // A byte of the open net is kept where there is room.
 #[tactic(auto, unfolding(crate::specs::Stream::kept_in))]
-fn keep(byte: u8, held: &mut [u8], bytes: u64)
-    requires { length held.old ≡ 65536 }
+fn keep(byte: u8, held: &mut [u8; ROOM], bytes: u64)
     ensures { held.new ≡ kept_in held.old bytes byte }
 {
     if bytes < ROOM as u64 {
@@ -90,11 +88,11 @@ fn closes(byte: u8, line: u64) -> bool
     byte == LF && line == 1
 }
 
-// A stream that has passed the checks: two of the lists that are lent, and the place that the third holds.
+// A stream that has passed the checks: two of the lists that are lent, and the place that the third holds. Nothing compares or prints it.
 #[derive(Drop)]
 struct Open<'a> {
-    held: &'a mut [u8],
-    totals: &'a mut [u64],
+    held: &'a mut [u8; ROOM],
+    totals: &'a mut [u64; TOTALS],
     place: Place,
     ghost sound: { Sound most_total (stream held.now totals.now place) },
 }
@@ -104,7 +102,7 @@ impl<'a> Open<'a> {
 
     // The share of the open net, without the full stop that closes it.
     #[tactic(auto, unfolding(crate::specs::Stream::open_share))]
-    fn share(&self) -> [u64; 16]
+    fn share(&self) -> [u64; TOTALS]
         requires { 1 ≤ self.now.place.bytes }
         ensures { result ≡ open_share self.now.held.now self.now.place.bytes }
     {
@@ -169,8 +167,7 @@ fn most_at(i: usize) -> u64
 }
 
 // Refuses the first total that no stream has.
-fn check_totals(totals: &[u64]) -> Result<(), Refusal>
-    requires { length totals.now ≡ 16 }
+fn check_totals(totals: &[u64; TOTALS]) -> Result<(), Refusal>
     ensures { result ≡ totals_reply totals.now }
 {
     for (i, total) in totals.iter().enumerate() {
@@ -206,34 +203,24 @@ fn check_place(p: Place) -> Result<(), Refusal>
     Ok(())
 }
 
-// Whether a list of the state has another length.
-#[tactic(auto, unfolding(crate::specs::Stream::lengths_amiss))]
-fn lengths_amiss(held: usize, totals: usize, place: usize) -> bool
-    ensures { result ≡ lengths_amiss held totals place }
-{
-    held != ROOM || totals != TOTALS || place != PLACES
-}
-
 // Refuses a state that no stream has.
-fn check(held: &[u8], totals: &[u64], place: &[u64]) -> Result<(), Refusal>
-    ensures { result ≡ state_reply held.now totals.now place.now }
+fn check(totals: &[u64; TOTALS], place: Place) -> Result<(), Refusal>
+    ensures { result ≡ (totals_reply totals.now and_then place_reply place) }
 {
-    if lengths_amiss(held.len(), totals.len(), place.len()) {
-        return Err(Refusal::Count(0));
-    }
     check_totals(totals)?;
-    check_place(place_of(place))
+    check_place(place)
 }
 
 // Begins a stream: no nets, and no bytes of an open one. The bytes that are lent stay as they are.
+// Here and below three lists and no struct of them: C lends them one by one. Within, `Open` has them together.
 pub fn begin(held: &[u8], totals: &mut [u64], place: &mut [u64]) -> Result<(), Refusal>
     ensures { Begins held.now totals.old place.old result totals.new place.new }
 {
-    if lengths_amiss(held.len(), totals.len(), place.len()) {
-        return Err(Refusal::Count(0));
-    }
+    held.as_array::<ROOM>().ok_or(Refusal::Count(0))?;
+    let totals = totals.as_mut_array().ok_or(Refusal::Count(0))?;
+    let place = place.as_mut_array().ok_or(Refusal::Count(0))?;
     totals::clear(totals);
-    place.fill(0);
+    *place = [0; PLACES];
     Ok(())
 }
 
@@ -247,20 +234,24 @@ pub fn next(
     ensures { Feeds bytes.now held.old totals.old place.old result
         held.new totals.new place.new }
 {
-    check(held, totals, place)?;
+    let held = held.as_mut_array().ok_or(Refusal::Count(0))?;
+    let totals = totals.as_mut_array().ok_or(Refusal::Count(0))?;
+    let lent = place.as_mut_array().ok_or(Refusal::Count(0))?;
+    let place = place_of(lent);
+    check(totals, place)?;
     let mut open = Open {
         held,
         totals,
-        place: place_of(place),
+        place,
     };
     open.feed(bytes);
-    store(open.place, place);
+    store(open.place, lent);
     Ok(())
 }
 
 // The place after the end: bytes left are a net too, counted under 1. No method of `Open`: their bytes are not read, and `end` may not write to them.
 #[tactic(auto, unfolding(crate::specs::Stream::ended_place, crate::specs::Stream::ended_totals), using(crate::proofs::Leading::past_told))]
-fn finish(totals: &mut [u64], p: Place) -> Place
+fn finish(totals: &mut [u64; TOTALS], p: Place) -> Place
     requires { Roomy totals.old }
     ensures place { result ≡ ended_place totals.old p }
     ensures list { totals.new ≡ ended_totals totals.old p }
@@ -284,9 +275,13 @@ fn finish(totals: &mut [u64], p: Place) -> Place
 pub fn end(held: &[u8], totals: &mut [u64], place: &mut [u64]) -> Result<(), Refusal>
     ensures { Ends held.now totals.old place.old result totals.new place.new }
 {
-    check(held, totals, place)?;
-    let ended = finish(totals, place_of(place));
-    store(ended, place);
+    held.as_array::<ROOM>().ok_or(Refusal::Count(0))?;
+    let totals = totals.as_mut_array().ok_or(Refusal::Count(0))?;
+    let lent = place.as_mut_array().ok_or(Refusal::Count(0))?;
+    let place = place_of(lent);
+    check(totals, place)?;
+    let ended = finish(totals, place);
+    store(ended, lent);
     if ended.past == 1 {
         return Err(Refusal::Nets(MOST_NETS + 1));
     }
