@@ -96,6 +96,7 @@ fn angles_reply(place: u64, c: Counts, target: i64) -> Result<(), Refusal>
     Ok(())
 }
 
+// The fields one by one, as the rule and `condition` take them.
 #[tactic(auto, unfolding(crate::specs::Scan::term_reply))]
 fn term_reply(
     place: u64,

@@ -8,6 +8,7 @@ use text::LF;
 use text::writer::Writer;
 
 // Two counts, and the end of the line.
+// Each function here asks room for just its own bytes: how much differs, so it is no fact of the writer's type.
 #[tactic(auto, using(text::proofs::Putting::count_most))]
 fn put_counts(w: &mut Writer, first: u64, second: u64)
     requires { w.old.at + 45 ≤ length w.old.out.now }

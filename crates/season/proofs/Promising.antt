@@ -1,7 +1,7 @@
 -- The promises of the operations on an archive, from what their steps have said. Assumes nothing.
 --   long_reports, short_reports           `report` keeps its promise: with sixteen totals, and with another number of them
---   by_lengths, by_totals, by_place       the reply to a state, where the checks before have accepted
---   amiss, lengths_known                  whether the lengths of a state are amiss, and what they are where not
+--   amiss, amiss_any, none_amiss          whether the lengths of a state are amiss
+--   by_lengths, by_checks                 the reply to a state whose lengths are amiss, and to one whose are not
 --   Passed, passed_state                  a state that the checks accept: its lengths, totals with room, and a place where a stream can stand
 --   refused_begins, begun                 `begin` keeps its promise, and so do `next` (refused_feeds, feeds) and `end` (refused_ends, ends)
 use mathlib.Core.Path.{◌≡◌, refl, sym, ◌∙◌, ap, ap₂}
@@ -98,7 +98,7 @@ module _ (held totals place : List ℕ) where
   by_lengths e = rw e
 
   module _ (e : amiss ≡ false) where
-    pub lengths_known : (length held ≡ 65536) × (length totals ≡ 16) × (length place ≡ 3)
+    lengths_known : (length held ≡ 65536) × (length totals ≡ 16) × (length place ≡ 3)
     unfolding lengths_amiss
     lengths_known =
         let a = neither (not (eqb (length held) 65536)) _ e in let b = neither (not (eqb (length totals) 16)) _ a.1 in
@@ -109,14 +109,6 @@ module _ (held totals place : List ℕ) where
         → reply ≡ (totals_reply totals' and_then place_reply p) → reply ≡ state_reply held totals place
     unfolding state_reply
     by_checks f g r = rw e (r ∙ ap₂ (λ (xs : List ℕ) (q : Place). totals_reply xs and_then place_reply q) f g)
-
-    pub by_totals : (why : Refusal) → totals_reply totals ≡ Err why → state_reply held totals place ≡ Err why
-    unfolding state_reply
-    by_totals why f = rw (e, f)
-
-    pub by_place : totals_reply totals ≡ Ok tt → state_reply held totals place ≡ place_reply (place_of place)
-    unfolding state_reply
-    by_place f = rw (e, f)
 
   pub passed_state : state_reply held totals place ≡ Ok tt → Passed held totals place
   unfolding state_reply place_reply

@@ -5,7 +5,8 @@ ghost use Rattle.text.specs.Written.{signed_field, count_field, Puts};
 
 use crate::TAB;
 
-// A lent buffer, and the place in it where the next byte goes.
+// A lent buffer, and the place in it where the next byte goes. Nothing compares or prints it.
+// Each method asks room for its own bytes: a fact of the type would ask the most of every call.
 #[derive(Drop)]
 pub struct Writer<'a> {
     pub out: &'a mut [u8],
