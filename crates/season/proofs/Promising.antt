@@ -1,6 +1,6 @@
 -- The promises of the operations on an archive, from what their steps have said. Assumes nothing.
 --   long_reports, short_reports           `report` keeps its promise: with sixteen totals, and with another number of them
---   amiss, amiss_any, none_amiss          whether the lengths of a state are amiss
+--   amiss, amiss_any, none_amiss          whether the lengths of a state are amiss; lengths_known: what they are where not
 --   by_lengths, by_checks                 the reply to a state whose lengths are amiss, and to one whose are not
 --   Passed, passed_state                  a state that the checks accept: its lengths, totals with room, and a place where a stream can stand
 --   refused_begins, begun                 `begin` keeps its promise, and so do `next` (refused_feeds, feeds) and `end` (refused_ends, ends)
@@ -98,7 +98,7 @@ module _ (held totals place : List ℕ) where
   by_lengths e = rw e
 
   module _ (e : amiss ≡ false) where
-    lengths_known : (length held ≡ 65536) × (length totals ≡ 16) × (length place ≡ 3)
+    pub lengths_known : (length held ≡ 65536) × (length totals ≡ 16) × (length place ≡ 3)
     unfolding lengths_amiss
     lengths_known =
         let a = neither (not (eqb (length held) 65536)) _ e in let b = neither (not (eqb (length totals) 16)) _ a.1 in
