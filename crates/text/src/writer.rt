@@ -14,6 +14,7 @@ pub struct Writer<'a> {
 }
 
 impl<'a> Writer<'a> {
+    // One byte.
     pub fn byte(&mut self, b: u8)
         requires { self.old.at + 1 ≤ length self.old.out.now }
         ensures { Puts self.old (b ∷ []) 1 self.new }
@@ -22,6 +23,7 @@ impl<'a> Writer<'a> {
         self.at += 1;
     }
 
+    // A word as it stands, of any bytes.
     #[tactic(auto, using(crate::proofs::Putting::copied))]
     pub fn word(&mut self, word: &[u8])
         requires { self.old.at + length word.now ≤ length self.old.out.now }
