@@ -1,8 +1,9 @@
 // The answer: for each object the number of its pairs, and the mean of their directions.
+// An object j stands alone here and in `pair::base`, below 16: the bound of an index, of which a type would say no more.
 ghost use Rattle.std.specs.Prelude.{◌≡◌, ◌<◌, length};
 ghost use Rattle.station.specs.Means.{P, sum_of_e, direction, base, directions, pair_counts};
 
-use crate::table::Table;
+use crate::table::{PairAt, Table};
 use crate::{OBJECTS, POSITIONS, pair};
 use direction::CIRCLE;
 
@@ -13,7 +14,11 @@ fn pairs_of(table: &Table, j: usize) -> i64
 {
     let mut n: i64 = 0;
     for i in 0..POSITIONS {
-        if table.seen(i, j) {
+        let at = PairAt {
+            position: i,
+            object: j,
+        };
+        if table.seen(at) {
             n += 1;
         }
     }
@@ -27,8 +32,12 @@ fn sum_from_base(table: &Table, j: usize, b: i64) -> i64
 {
     let mut total: i64 = 0;
     for i in 0..POSITIONS {
-        if table.seen(i, j) {
-            total += pair::from_base(table, i, j, b);
+        let at = PairAt {
+            position: i,
+            object: j,
+        };
+        if table.seen(at) {
+            total += pair::from_base(table, at, b);
         }
     }
     total

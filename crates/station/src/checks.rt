@@ -4,7 +4,7 @@ ghost use Rattle.station.specs.Means.{faces_fault, initial_fault, apart_fault, s
 ghost use Rattle.station.specs.Replies.{fault, refusal, check_of, table_reply};
 
 use crate::pair::{base, faces_differ, from_base};
-use crate::table::Table;
+use crate::table::{PairAt, Table};
 use crate::{OBJECTS, PLACES};
 use reply::Refusal;
 
@@ -28,41 +28,37 @@ pub enum Check {
 
 // 23: the object was sighted in the position, but not once left and once right.
 #[tactic(auto, unfolding(crate::specs::Means::faces_fault))]
-fn faces_fault(table: &Table, i: usize, j: usize) -> bool
-    requires { (i < 16) × (j < 16) }
-    ensures { result ≡ faces_fault table.now.count i j }
+fn faces_fault(table: &Table, at: PairAt) -> bool
+    ensures { result ≡ faces_fault table.now.count at.position at.object }
 {
-    table.seen(i, j) && !(table.left_count(i, j) == 1 && table.right_count(i, j) == 1)
+    table.seen(at) && !(table.left_count(at) == 1 && table.right_count(at) == 1)
 }
 
 // 24: the object was sighted in the position, and object 1 was not.
 #[tactic(auto, unfolding(crate::specs::Means::initial_fault))]
-fn initial_fault(table: &Table, i: usize, j: usize) -> bool
-    requires { (i < 16) × (j < 16) }
-    ensures { result ≡ initial_fault table.now.count i j }
+fn initial_fault(table: &Table, at: PairAt) -> bool
+    ensures { result ≡ initial_fault table.now.count at.position at.object }
 {
-    table.seen(i, j) && !table.seen(i, 0)
+    table.seen(at) && !table.seen(at.initial())
 }
 
 // 25: the faces of the pair are over 60,000 apart.
 #[tactic(auto, unfolding(crate::specs::Means::apart_fault))]
-fn apart_fault(table: &Table, i: usize, j: usize) -> bool
-    requires { (i < 16) × (j < 16) }
-    ensures { result ≡ apart_fault table.now.count table.now.sums i j }
+fn apart_fault(table: &Table, at: PairAt) -> bool
+    ensures { result ≡ apart_fault table.now.count table.now.sums at.position at.object }
 {
-    table.seen(i, j) && MOST_APART < exact::magnitude(faces_differ(table, i, j))
+    table.seen(at) && MOST_APART < exact::magnitude(faces_differ(table, at))
 }
 
 // 26: the pair's doubled direction is over 120,000 from that of the object's lowest position.
 #[tactic(auto, unfolding(crate::specs::Means::spread_fault))]
-fn spread_fault(table: &Table, i: usize, j: usize) -> bool
-    requires { (i < 16) × (j < 16) }
-    ensures { result ≡ spread_fault table.now.count table.now.sums i j }
+fn spread_fault(table: &Table, at: PairAt) -> bool
+    ensures { result ≡ spread_fault table.now.count table.now.sums at.position at.object }
 {
-    let Some(b) = base(table, j) else {
+    let Some(b) = base(table, at.object) else {
         return false;
     };
-    table.seen(i, j) && MOST_SPREAD < exact::magnitude(from_base(table, i, j, b))
+    table.seen(at) && MOST_SPREAD < exact::magnitude(from_base(table, at, b))
 }
 
 // The fault of a check at the k-th place of its order.
@@ -73,11 +69,19 @@ pub fn fault_at(check: Check, table: &Table, k: usize) -> bool
 {
     let row = k / OBJECTS;
     let column = k % OBJECTS;
+    let by_position = PairAt {
+        position: row,
+        object: column,
+    };
+    let by_object = PairAt {
+        position: column,
+        object: row,
+    };
     match check {
-        Check::PairsWhole => faces_fault(table, row, column),
-        Check::InitialSeen => initial_fault(table, row, column),
-        Check::FacesClose => apart_fault(table, row, column),
-        Check::PositionsAgree => spread_fault(table, column, row),
+        Check::PairsWhole => faces_fault(table, by_position),
+        Check::InitialSeen => initial_fault(table, by_position),
+        Check::FacesClose => apart_fault(table, by_position),
+        Check::PositionsAgree => spread_fault(table, by_object),
     }
 }
 

@@ -3,7 +3,7 @@ ghost use Rattle.std.specs.Prelude.{◌≡◌, ◌<◌, ◌≤◌, pos, nat_abs,
 ghost use Rattle.station.specs.Means.{centred, s, g, lowest, base, e};
 
 use crate::POSITIONS;
-use crate::table::Table;
+use crate::table::{PairAt, Table};
 use direction::CIRCLE;
 
 // Half of the circle, and its double.
@@ -20,24 +20,23 @@ fn centred(z: i64, half: i64) -> i64
 }
 
 // s: how far the two faces of a pair are from half a circle apart.
-pub fn faces_differ(table: &Table, i: usize, j: usize) -> i64
-    requires { (i < 16) × (j < 16) }
-    ensures { result ≡ s table.now.sums i j }
+pub fn faces_differ(table: &Table, at: PairAt) -> i64
+    ensures { result ≡ s table.now.sums at.position at.object }
 {
     centred(
-        table.right_reading(i, j) - table.left_reading(i, j) - HALF_CIRCLE,
+        table.right_reading(at) - table.left_reading(at) - HALF_CIRCLE,
         HALF_CIRCLE,
     )
 }
 
-// g: twice the direction from the initial, by the pair of a position and an object.
-fn doubled_direction(table: &Table, i: usize, j: usize) -> i64
-    requires { (i < 16) × (j < 16) }
-    ensures { result ≡ g table.now.sums i j }
+// g: twice the direction from the initial, by a pair.
+fn doubled_direction(table: &Table, at: PairAt) -> i64
+    ensures { result ≡ g table.now.sums at.position at.object }
 {
-    let turned = 2 * (table.left_reading(i, j) - table.left_reading(i, 0));
+    let initial = at.initial();
+    let turned = 2 * (table.left_reading(at) - table.left_reading(initial));
     exact::modulo(
-        turned + faces_differ(table, i, j) - faces_differ(table, i, 0),
+        turned + faces_differ(table, at) - faces_differ(table, initial),
         DOUBLE_CIRCLE,
     )
 }
@@ -48,17 +47,21 @@ pub fn base(table: &Table, j: usize) -> Option<i64>
     ensures { MatchOption result (16 ≤ lowest table.now.count j) (λ b. (lowest table.now.count j < 16) × (b ≡ base table.now.count table.now.sums j)) }
 {
     for i in 0..POSITIONS {
-        if table.seen(i, j) {
-            return Some(doubled_direction(table, i, j));
+        let at = PairAt {
+            position: i,
+            object: j,
+        };
+        if table.seen(at) {
+            return Some(doubled_direction(table, at));
         }
     }
     None
 }
 
 // e: how far g of a position is from the base b of its object.
-pub fn from_base(table: &Table, i: usize, j: usize, b: i64) -> i64
-    requires { (i < 16) × ((j < 16) × (b ≡ base table.now.count table.now.sums j)) }
-    ensures { result ≡ e table.now.count table.now.sums i j }
+pub fn from_base(table: &Table, at: PairAt, b: i64) -> i64
+    requires { b ≡ base table.now.count table.now.sums at.object }
+    ensures { result ≡ e table.now.count table.now.sums at.position at.object }
 {
-    centred(doubled_direction(table, i, j) - b, CIRCLE)
+    centred(doubled_direction(table, at) - b, CIRCLE)
 }

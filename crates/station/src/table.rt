@@ -12,6 +12,26 @@ use crate::{OBJECTS, PLACES};
 // The places of a table: those of the left face, and then those of the right.
 const SLOTS: usize = 2 * PLACES;
 
+// Where in the table a pair stands; position and object count from 0.
+#[derive(Clone, Copy, Debug, PartialEq, Eq)]
+pub struct PairAt {
+    pub position: usize,
+    pub object: usize,
+    ghost inside: { (position < 16) × (object < 16) },
+}
+
+impl PairAt {
+    // The pair of object 1 in the same position.
+    pub fn initial(self) -> PairAt
+        ensures { (result.position ≡ self.position) × (result.object ≡ 0) }
+    {
+        PairAt {
+            position: self.position,
+            object: 0,
+        }
+    }
+}
+
 // The counts are of at most 512 sightings, and so are the readings that are summed.
 // Two lists and no list of pairs: the rules' tables of counts and of sums are two, and `clear` and `entry` serve both.
 #[derive(Drop)]
@@ -34,12 +54,12 @@ pub fn slot_of(face: i64, position: i64, object: i64) -> usize
     PLACES * f + OBJECTS * (p - 1) + (o - 1)
 }
 
-// What a part of the table has of a face, a position and an object.
-fn entry(part: &[i64; SLOTS], f: usize, i: usize, j: usize) -> i64
-    requires { (f < 2) × ((i < 16) × (j < 16)) }
-    ensures { result ≡ entry part.now f i j }
+// What a part of the table has of a face and a pair.
+fn entry(part: &[i64; SLOTS], f: usize, at: PairAt) -> i64
+    requires { f < 2 }
+    ensures { result ≡ entry part.now f at.position at.object }
 {
-    part[PLACES * f + OBJECTS * i + j]
+    part[PLACES * f + OBJECTS * at.position + at.object]
 }
 
 // Clears from a part of the table what has a reason.
@@ -75,42 +95,37 @@ impl Table {
         }
     }
 
-    // How many left sightings there are of a position and an object, and how many right ones.
-    pub fn left_count(&self, i: usize, j: usize) -> i64
-        requires { (i < 16) × (j < 16) }
-        ensures { result ≡ entry self.now.count 0 i j }
+    // How many left sightings there are of a pair, and how many right ones.
+    pub fn left_count(&self, at: PairAt) -> i64
+        ensures { result ≡ entry self.now.count 0 at.position at.object }
     {
-        entry(&self.count, 0, i, j)
+        entry(&self.count, 0, at)
     }
 
-    pub fn right_count(&self, i: usize, j: usize) -> i64
-        requires { (i < 16) × (j < 16) }
-        ensures { result ≡ entry self.now.count 1 i j }
+    pub fn right_count(&self, at: PairAt) -> i64
+        ensures { result ≡ entry self.now.count 1 at.position at.object }
     {
-        entry(&self.count, 1, i, j)
+        entry(&self.count, 1, at)
     }
 
     // What they read: L and R, where there is one of each.
-    pub fn left_reading(&self, i: usize, j: usize) -> i64
-        requires { (i < 16) × (j < 16) }
-        ensures { result ≡ L self.now.sums i j }
+    pub fn left_reading(&self, at: PairAt) -> i64
+        ensures { result ≡ L self.now.sums at.position at.object }
     {
-        entry(&self.sums, 0, i, j)
+        entry(&self.sums, 0, at)
     }
 
-    pub fn right_reading(&self, i: usize, j: usize) -> i64
-        requires { (i < 16) × (j < 16) }
-        ensures { result ≡ R self.now.sums i j }
+    pub fn right_reading(&self, at: PairAt) -> i64
+        ensures { result ≡ R self.now.sums at.position at.object }
     {
-        entry(&self.sums, 1, i, j)
+        entry(&self.sums, 1, at)
     }
 
     // The object was sighted in the position, by either face.
-    pub fn seen(&self, i: usize, j: usize) -> bool
-        requires { (i < 16) × (j < 16) }
-        ensures { result ≡ seen self.now.count i j }
+    pub fn seen(&self, at: PairAt) -> bool
+        ensures { result ≡ seen self.now.count at.position at.object }
     {
-        0 < self.left_count(i, j) + self.right_count(i, j)
+        0 < self.left_count(at) + self.right_count(at)
     }
 
     // Clears what has a reason: the table is then that of the list without it.

@@ -18,7 +18,7 @@ pub returns-after-left_count-eq1 : goal.returns-after-left_count-eq1
 unfolding faces_fault
 returns-after-left_count-eq1 c = rw (sym c.seen.ensures ∙ c.if-seen.true) (ap not both)
   where
-    both : c.if-left_count-eq1.result ≡ (same (entry c.args.table.now.count 0 c.args.i c.args.j) (pos 1) && same (entry c.args.table.now.count 1 c.args.i c.args.j) (pos 1))
+    both : c.if-left_count-eq1.result ≡ (same (entry c.args.table.now.count 0 c.args.at.position c.args.at.object) (pos 1) && same (entry c.args.table.now.count 1 c.args.at.position c.args.at.object) (pos 1))
     both = elim c.if-left_count-eq1.branch [
       | then-left_count-eq1 w ↦ rw (← is_one c.left_count.type_inv c.left_count.ensures, eq-eqb (of_z w64 c.left_count.result) 1 w.if-left_count-eq1.true) (w.result-is ∙ is_one w.right_count.type_inv w.right_count.ensures)
       | else-left_count-eq1 w ↦ rw (← is_one c.left_count.type_inv c.left_count.ensures, ne_eqb (of_z w64 c.left_count.result) 1 w.if-left_count-eq1.false) (w.result-is ∙ ne_eqb (of_z w64 c.left_count.result) 1 w.if-left_count-eq1.false)

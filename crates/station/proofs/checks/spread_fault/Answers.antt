@@ -7,10 +7,10 @@ use Rattle.station.proofs.checks.spread_fault.Goals as goal
 
 pub returns-in_default : goal.returns-in_default
 unfolding spread_fault
-returns-in_default c = rw (lowest_none _ _ c.in_default.ensures _ c.requires.0)
+returns-in_default c = rw (lowest_none _ _ c.in_default.ensures _ c.args.at.inside.0)
 
 pub from_base-requires : goal.from_base-requires
-from_base-requires c = (c.requires.0, (c.requires.1, g_read _ _ _ c.in-Some.ensures.1))
+from_base-requires c = g_read _ _ _ c.in-Some.ensures.1
 
 pub returns-then-seen : goal.returns-then-seen
 unfolding spread_fault

@@ -7,4 +7,4 @@ use Rattle.station.proofs.pair.faces_differ.Goals as goal
 
 pub returns : goal.returns
 unfolding s
-returns c = let a = c.args in let small = a.table.now.small in grind (arith, to_z-of_z, small (slot 0 a.i a.j), small (slot 1 a.i a.j))
+returns c = let a = c.args in let small = a.table.now.small in grind (arith, to_z-of_z, small (slot 0 a.at.position a.at.object), small (slot 1 a.at.position a.at.object))
