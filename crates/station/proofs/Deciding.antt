@@ -2,19 +2,23 @@
 --   LengthsFit, lengths_fit_lem        what the test of the lengths tells
 --   in_range                       lists that pass 21 and 22 are in range
 --   reply_lengths, reply_fields    the reply where 21 refuses, and where it accepts
-use mathlib.Core.Path.{◌≡◌}
-use mathlib.Core.Bool.{Bool, true, false}
+--   no_room                        21 refuses answer lists of another length than 16
+--   reply_opened, rescue_opened    the replies of both operations, past those
+use mathlib.Core.Path.{◌≡◌, refl, sym}
+use mathlib.Core.Bool.{Bool, true, false, ◌&&◌, and-false}
 use Prim.Native.Nat.{ℕ, ◌+◌, ◌≤◌}
 use borrow.Author.Tests.{leb-true, eqb-true}
 use lib.Dec.{leb, eqb}
 use lib.ListN.{length}
-use Rattle.reply.specs.declared.Refusal.TheVariants.{Sightings, Field}
-use Rattle.reply.specs.Checks.{◌and_then◌}
+use Rattle.reply.specs.declared.Refusal.TheVariants.{Sightings, Field, NothingLeft}
+use Rattle.reply.specs.Reply.{Reply}
+use Rattle.reply.specs.Checks.{refuse_if, ◌and_then◌}
 use Rattle.reply.proofs.Checking.{none_refused}
 use Rattle.station.specs.Sightings.{Book, sightings, lengths_fit, field_fault}
-use Rattle.station.specs.Bounds.{InRange}
+use Rattle.station.specs.Bounds.{InRange, opening}
 use Rattle.station.specs.Table.{counts, readings}
-use Rattle.station.specs.Replies.{fields_reply, table_reply, reply_of}
+use Rattle.station.specs.Replies.{lengths_reply, fields_reply, table_reply, reply_of}
+use Rattle.station.specs.Rescue.{nothing_left, rescue_reply}
 use Rattle.station.proofs.Tests.{and_true}
 use Rattle.std.specs.Prelude.{Ok, Err}
 
@@ -67,3 +71,20 @@ module _ (b : Book) (d p : ℕ) where
           readings = f.readings_fit;
           sound = none_refused (sightings b) (field_fault b) (λ h. Field (h + 1)) a;
         }
+
+-- ---- the lent lists by themselves, and then the sightings
+pub no_room : (b : Book) (d p : ℕ) → (eqb d 16 && eqb p 16) ≡ false → fit b d p ≡ false
+unfolding lengths_fit
+no_room b d p e = simp (e, and-false)
+
+grouped : (r s t : Reply) → ((r and_then s) and_then t) ≡ (r and_then (s and_then t))
+grouped (Ok _) s t = refl
+grouped (Err why) s t = refl
+
+pub reply_opened : (b : Book) → reply_of b 16 16 ≡ (opening b and_then table_reply (counts b) (readings b))
+unfolding reply_of
+reply_opened b = sym (grouped (lengths_reply b 16 16) (fields_reply b) (table_reply (counts b) (readings b)))
+
+pub rescue_opened : (b : Book) → rescue_reply b true ≡ (opening b and_then refuse_if (nothing_left b) NothingLeft)
+unfolding rescue_reply
+rescue_opened b = sym (grouped (lengths_reply b 16 16) (fields_reply b) (refuse_if (nothing_left b) NothingLeft))

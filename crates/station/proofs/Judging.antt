@@ -1,8 +1,6 @@
 -- The laws of the rescue's order of checks. Assumes nothing.
---   rescue_lengths, rescue_room, rescue_fields
---                                  the reply where 21 refuses, for the book's own lists or for those lent for the answer, and where both are accepted
+--   rescue_lengths, rescue_room    the reply where 21 refuses, for the book's own lists or for those lent for the answer
 --   too_many                       over 512 sightings are refused with 21
---   placed                         positions and objects of a list in range
 --   left_lem                       whether something is left, by the reasons of the tables
 --   reasons_long, keeps, drops_ordinals, drops_reasons      a list parted by its reasons
 --   RoomsFit, rooms_all, rooms_fit_lem      the test of the lent lists, and what it tells
@@ -23,20 +21,18 @@ use Rattle.exact.specs.Tabulate.{tabulate}
 use Rattle.exact.proofs.Filling.{tabulate_length, tabulate_at}
 use Rattle.exact.proofs.Gathering.{gather_ext}
 use Rattle.exact.proofs.Searching.{first_ext}
-use Rattle.reply.specs.Checks.{refuse_if, ◌and_then◌, figure_of, leaves}
+use Rattle.reply.specs.Checks.{figure_of, leaves}
 use Rattle.reply.specs.Reply.{Reply}
 use Rattle.reply.specs.Verdicts.{verdict_of}
 use Rattle.reply.specs.declared.Refusal.{Refusal}
-use Rattle.reply.specs.declared.Refusal.TheVariants.{Sightings, NothingLeft}
+use Rattle.reply.specs.declared.Refusal.TheVariants.{Sightings}
 use Rattle.station.specs.Bounds.{InRange}
 use Rattle.station.specs.Sightings.{Book, sightings, lengths_fit}
 use Rattle.station.specs.Table.{counts, readings}
-use Rattle.station.specs.Replies.{fields_reply}
 use Rattle.station.specs.Rescue.{place_of, is_kept, is_dropped, reason, ordinals, reasons, nothing_left, rescue_reply, kept, Lent, rooms_fit, rooms, filled, Rescues}
-use Rattle.station.specs.Steps.{free, why_after, Placed}
+use Rattle.station.specs.Steps.{free, why_after}
 use Rattle.station.proofs.Deciding.{fit}
 use Rattle.station.proofs.Tests.{and_true}
-use Rattle.station.proofs.Tallying.{in_fields}
 use Rattle.station.proofs.Sifting.{why_free, kept_free}
 use Rattle.std.specs.Prelude.{Ok, Err}
 
@@ -58,23 +54,10 @@ rescue_room b room e = by_fit (fit b 16 16) refl
     by_fit true f = rw (f, e)
     by_fit false f = rw f
 
-module _ (b : Book) (room : Bool) (e : fit b 16 16 ≡ true) (r : room ≡ true) where
-  pub rescue_fields : rescue_reply b room ≡ (fields_reply b and_then refuse_if (nothing_left b) NothingLeft)
-  unfolding rescue_reply
-  rescue_fields = rw (e, r)
-
 -- ---- what stays
-module _ (b : Book) (s : InRange b) where
-  pub placed : Placed b.position b.object
-  placed = record {
-    long = s.objects;
-    position_in = λ h l. (in_fields b h (s.sound h l)).positions.1;
-    object_in = λ h l. (in_fields b h (s.sound h l)).objects.1;
-  }
-
-  pub left_lem : nothing_left b ≡ not (some_below (sightings b) (λ h. free (why_after 4 (counts b) (readings b)) (place_of b h)))
-  unfolding nothing_left
-  left_lem = ap (λ (k : ℕ). not (ltb k (sightings b))) (sym (first_ext (sightings b) _ _ (λ h l. why_free b s 4 h l)))
+pub left_lem : (b : Book) → InRange b → nothing_left b ≡ not (some_below (sightings b) (λ h. free (why_after 4 (counts b) (readings b)) (place_of b h)))
+unfolding nothing_left
+left_lem b s = ap (λ (k : ℕ). not (ltb k (sightings b))) (sym (first_ext (sightings b) _ _ (λ h l. why_free b s 4 h l)))
 
 -- ---- the list parted by its reasons
 module _ (b : Book) (rs : List ℕ) (e : rs ≡ tabulate (sightings b) (reason b)) where

@@ -1,7 +1,10 @@
 -- What the inner functions ask of a list and of its tables. No rule: a caller outside sees none of it.
 use Rattle.std.specs.Prelude.{◌≡◌, false, List, ℕ, ◌<◌, ◌≤◌, ℤ, length}
 use Rattle.exact.specs.Within.{Within}
+use Rattle.reply.specs.Checks.{◌and_then◌}
+use Rattle.reply.specs.Reply.{Reply}
 use Rattle.station.specs.declared.fields.Sightings.{Sightings}
+use Rattle.station.specs.Replies.{lengths_reply, fields_reply}
 use Rattle.station.specs.Sightings.{Book, book, sightings, field_fault}
 
 -- lists of one length
@@ -27,3 +30,7 @@ SumTable r = Within 663552000000 r
 -- the sightings that the code's four lists have
 abbrev pub book_of : Sightings → Book
 book_of s = book s.position.now s.object.now s.face.now s.reading.now
+
+-- 21 by the four lists alone, and then 22: what sightings have passed that are sound
+abbrev pub opening : Book → Reply
+opening b = lengths_reply b 16 16 and_then fields_reply b

@@ -1,6 +1,6 @@
 -- What the inner functions of the rescue hand each other: why each position and object is dropped, by its place in the order of the checks, and the
 -- tables of the list that is left. No rule: a caller outside sees none of it.
-use Rattle.std.specs.Prelude.{◌≡◌, Bool, cond, List, ℕ, zero, suc, ◌%◌, ◌<◌, ◌≤◌, eqb, ℤ, pos, nat_abs, length, get_or, replicate}
+use Rattle.std.specs.Prelude.{Bool, cond, List, ℕ, zero, suc, ◌%◌, eqb, ℤ, pos, get_or, replicate}
 use Rattle.exact.specs.Tabulate.{tabulate}
 use Rattle.station.specs.declared.checks.Check.{Check}
 use Rattle.station.specs.Replies.{fault}
@@ -22,9 +22,3 @@ cleared why table = tabulate 512 (λ k. cond (free why (k % 256)) (get_or table 
 unfoldable pub why_after : ℕ → (n r : List ℤ) → List ℕ
 why_after zero n r = replicate 256 0
 why_after (suc k) n r = noted (step_check k) (suc k) (cleared (why_after k n r) n) (cleared (why_after k n r) r) (why_after k n r)
-
--- positions and objects in their ranges, as many of the ones as of the others
-pub record Placed (positions objects : List ℤ) : Type 0 where
-  pub long : length objects ≡ length positions
-  pub position_in : (h : ℕ) → h < length positions → (1 ≤ nat_abs (get_or positions h (pos 0))) × (nat_abs (get_or positions h (pos 0)) ≤ 16)
-  pub object_in : (h : ℕ) → h < length positions → (1 ≤ nat_abs (get_or objects h (pos 0))) × (nat_abs (get_or objects h (pos 0)) ≤ 16)

@@ -50,16 +50,16 @@ pub fn means(
 ) -> Result<(), Refusal>
     ensures { Answers (book position.now object.now face.now reading.now) direction.old pairs.old result direction.new pairs.new }
 {
+    if direction.len() != OBJECTS || pairs.len() != OBJECTS {
+        return Err(Refusal::Sightings);
+    }
     let sightings = Sightings {
         position,
         object,
         face,
         reading,
-    };
-    if !sightings.fit(direction.len(), pairs.len()) {
-        return Err(Refusal::Sightings);
     }
-    sightings.check()?;
+    .checked()?;
     let mut table = Table::new();
     table.tally(&sightings);
     checks::make_all(&table)?;
@@ -78,16 +78,16 @@ pub fn judge(
 ) -> Result<(), Refusal>
     ensures { Judges (book position.now object.now face.now reading.now) reason.old result reason.new }
 {
+    if reason.len() != position.len() {
+        return Err(Refusal::Sightings);
+    }
     let sightings = Sightings {
         position,
         object,
         face,
         reading,
-    };
-    if !sightings.fit(OBJECTS, OBJECTS) || reason.len() != position.len() {
-        return Err(Refusal::Sightings);
     }
-    sightings.check()?;
+    .checked()?;
     let mut table = Table::new();
     table.tally(&sightings);
     let why = steps::all(&mut table);

@@ -4,12 +4,13 @@
 ghost use Rattle.std.specs.Prelude.{◌≡◌, ◌<◌, length, get_or};
 ghost use Rattle.exact.specs.First.{some_below};
 ghost use Rattle.exact.specs.Tabulate.{tabulate};
-ghost use Rattle.station.specs.Rescue.{place_in};
-ghost use Rattle.station.specs.Steps.{noted, cleared, why_after, Placed, free};
+ghost use Rattle.station.specs.Bounds.{book_of};
+ghost use Rattle.station.specs.Rescue.{place_of};
+ghost use Rattle.station.specs.Steps.{noted, cleared, why_after, free};
 
 use crate::PLACES;
 use crate::checks::{Check, fault_at};
-use crate::fields::Sightings;
+use crate::fields::SoundSightings;
 use crate::table::{Table, slot_of};
 
 // Notes the step at each place that its check finds at fault.
@@ -47,32 +48,26 @@ pub fn all(table: &mut Table) -> [u8; PLACES]
 }
 
 // The place of the position and object of the sighting at h.
-fn place_of(sightings: &Sightings, h: usize) -> usize
-    requires { Placed sightings.now.position.now sightings.now.object.now × (h < length sightings.now.position.now) }
-    ensures { (result ≡ place_in sightings.now.position.now sightings.now.object.now h) × (result < 256) }
+fn place_of(sightings: &SoundSightings, h: usize) -> usize
+    requires { h < length sightings.now.lists.position.now }
+    ensures { (result ≡ place_of (book_of sightings.now.lists) h) × (result < 256) }
 {
-    slot_of(0, sightings.position[h], sightings.object[h])
+    slot_of(0, sightings.lists.position[h], sightings.lists.object[h])
 }
 
 // Some sighting stays.
-pub fn any_kept(sightings: &Sightings, why: &[u8; PLACES]) -> bool
-    requires { Placed sightings.now.position.now sightings.now.object.now }
-    ensures { result ≡ some_below (length sightings.now.position.now) (λ h. free why.now (place_in sightings.now.position.now sightings.now.object.now h)) }
+pub fn any_kept(sightings: &SoundSightings, why: &[u8; PLACES]) -> bool
+    ensures { result ≡ some_below (length sightings.now.lists.position.now) (λ h. free why.now (place_of (book_of sightings.now.lists) h)) }
 {
-    for h in 0..sightings.position.len() {
-        if why[place_of(sightings, h)] == 0 {
-            return true;
-        }
-    }
-    false
+    (0..sightings.lists.position.len()).any(|h| why[place_of(sightings, h)] == 0)
 }
 
 // The reason of each sighting.
-pub fn write_reasons(sightings: &Sightings, why: &[u8; PLACES], reason: &mut [u8])
-    requires { Placed sightings.now.position.now sightings.now.object.now × (length reason.old ≡ length sightings.now.position.now) }
-    ensures { reason.new ≡ tabulate (length sightings.now.position.now) (λ h. get_or why.now (place_in sightings.now.position.now sightings.now.object.now h) 0) }
+pub fn write_reasons(sightings: &SoundSightings, why: &[u8; PLACES], reason: &mut [u8])
+    requires { length reason.old ≡ length sightings.now.lists.position.now }
+    ensures { reason.new ≡ tabulate (length sightings.now.lists.position.now) (λ h. get_or why.now (place_of (book_of sightings.now.lists) h) 0) }
 {
-    for h in 0..sightings.position.len() {
+    for h in 0..sightings.lists.position.len() {
         reason[h] = why[place_of(sightings, h)];
     }
 }

@@ -4,9 +4,9 @@ ghost use Rattle.std.specs.Prelude.{◌≡◌, ◌-◌, ◌<◌, ◌≤◌, pos,
 ghost use Rattle.station.specs.Table.{slot, entry, counts, readings};
 ghost use Rattle.station.specs.Means.{L, R, seen};
 ghost use Rattle.station.specs.Steps.{cleared};
-ghost use Rattle.station.specs.Bounds.{book_of, InRange, CountTable, SumTable};
+ghost use Rattle.station.specs.Bounds.{book_of, CountTable, SumTable};
 
-use crate::fields::Sightings;
+use crate::fields::SoundSightings;
 use crate::{OBJECTS, PLACES};
 
 // The places of a table: those of the left face, and then those of the right.
@@ -83,15 +83,16 @@ impl Table {
         }
     }
 
-    // Fills an empty table from a list whose fields are in range. A sighting is counted where its own face, position and object say.
-    pub fn tally(&mut self, sightings: &Sightings)
-        requires { InRange (book_of sightings.now) × ((self.old.count ≡ replicate 512 (pos 0)) × (self.old.sums ≡ replicate 512 (pos 0))) }
-        ensures { (self.new.count ≡ counts (book_of sightings.now)) × (self.new.sums ≡ readings (book_of sightings.now)) }
+    // Fills an empty table from a list. (The table is not made here: it would be copied to the caller.) A sighting is counted where its own face, position and object say.
+    pub fn tally(&mut self, sightings: &SoundSightings)
+        requires { (self.old.count ≡ replicate 512 (pos 0)) × (self.old.sums ≡ replicate 512 (pos 0)) }
+        ensures { (self.new.count ≡ counts (book_of sightings.now.lists)) × (self.new.sums ≡ readings (book_of sightings.now.lists)) }
     {
-        for (h, position) in sightings.position.iter().enumerate() {
-            let k = slot_of(sightings.face[h], *position, sightings.object[h]);
+        let lists = sightings.lists;
+        for (h, position) in lists.position.iter().enumerate() {
+            let k = slot_of(lists.face[h], *position, lists.object[h]);
             self.count[k] += 1;
-            self.sums[k] += sightings.reading[h];
+            self.sums[k] += lists.reading[h];
         }
     }
 

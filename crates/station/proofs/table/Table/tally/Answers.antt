@@ -9,13 +9,13 @@ use Rattle.station.proofs.table.Table.tally.Goals as goal
 use Rattle.station.proofs.table.Table.tally.Goals.{Start, In-loop-h, After-slot_of-k}
 
 abbrev sighted : Start → Book
-sighted s = book_of s.args.sightings.now
+sighted s = book_of s.args.sightings.now.lists
 
 pub loop-h-init : goal.loop-h-init
-loop-h-init c = let b = sighted (goal.at.loop-h-init c).Start in (c.requires.1.0 ∙ tallied_none b one, c.requires.1.1 ∙ tallied_none b (reading_at b))
+loop-h-init c = let b = sighted (goal.at.loop-h-init c).Start in (c.requires.0 ∙ tallied_none b one, c.requires.1 ∙ tallied_none b (reading_at b))
 
 fields : (c : In-loop-h) → InFields (sighted (goal.at.In-loop-h c).Start) c.loop-h.h
-fields c = in_fields (sighted (goal.at.In-loop-h c).Start) c.loop-h.h (c.requires.0.sound c.loop-h.h c.loop-h-test.true)
+fields c = in_fields (sighted (goal.at.In-loop-h c).Start) c.loop-h.h (c.args.sightings.now.sound.sound c.loop-h.h c.loop-h-test.true)
 
 pub slot_of-k-requires : goal.slot_of-k-requires
 slot_of-k-requires c = let f = fields (goal.at.slot_of-k-requires c).In-loop-h in omega (arith, ints, f.faces.1.1, f.positions.1, f.objects.1)
@@ -47,8 +47,8 @@ pub invariant_of-self : goal.invariant_of-self
 invariant_of-self c =
     let at = (goal.at.invariant_of-self c).After-slot_of-k in
     record {
-      few = counts_so_far (b at) c.requires.0 (c.loop-h.h + 1) (omega arith) (counted at);
-      small = readings_so_far (b at) c.requires.0 (c.loop-h.h + 1) (omega arith) (summed at);
+      few = counts_so_far (b at) c.args.sightings.now.sound (c.loop-h.h + 1) (omega arith) (counted at);
+      small = readings_so_far (b at) c.args.sightings.now.sound (c.loop-h.h + 1) (omega arith) (summed at);
     }
 
 pub loop-h-preserved : goal.loop-h-preserved
@@ -56,7 +56,7 @@ loop-h-preserved c = let at = (goal.at.loop-h-preserved c).After-slot_of-k in (c
 
 pub returns : goal.returns
 returns c =
-    let b = sighted (goal.at.returns c).Start in let e : c.loop-h.h ≡ length c.args.sightings.now.position.now = omega arith in (
+    let b = sighted (goal.at.returns c).Start in let e : c.loop-h.h ≡ length c.args.sightings.now.lists.position.now = omega arith in (
       c.loop-h.invariant.0 ∙ ap (tallied b one) e ∙ tallied_all b one,
       c.loop-h.invariant.1 ∙ ap (tallied b (reading_at b)) e ∙ tallied_all b (reading_at b),
     )

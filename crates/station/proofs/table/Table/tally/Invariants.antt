@@ -8,5 +8,5 @@ use Rattle.station.proofs.table.Table.tally.Given as goal
 
 abbrev pub invariant-loop-h : goal.invariant-loop-h
 invariant-loop-h l =
-    let b = book_of l.sightings in
+    let b = book_of l.sightings.lists in
     (l.self.count ≡ tallied b one l.h) × (l.self.sums ≡ tallied b (reading_at b) l.h)
