@@ -55,10 +55,10 @@ fn apart_fault(table: &Table, at: PairAt) -> bool
 fn spread_fault(table: &Table, at: PairAt) -> bool
     ensures { result ≡ spread_fault table.now.count table.now.sums at.position at.object }
 {
-    let Some(b) = base(table, at.object) else {
-        return false;
-    };
-    table.seen(at) && MOST_SPREAD < exact::magnitude(from_base(table, at, b))
+    table.seen(at)
+        && base(table, at.object).is_some_and(|b| {
+            MOST_SPREAD < exact::magnitude(from_base(table, at, b))
+        })
 }
 
 // The fault of a check at the k-th place of its order.
@@ -113,12 +113,10 @@ fn refusal(check: Check, k: usize) -> Refusal
 fn make(check: Check, table: &Table) -> Result<(), Refusal>
     ensures { result ≡ check_of check table.now.count table.now.sums }
 {
-    for k in 0..PLACES {
-        if fault_at(check, table, k) {
-            return Err(refusal(check, k));
-        }
+    match (0..PLACES).find(|k| fault_at(check, table, *k)) {
+        Some(k) => Err(refusal(check, k)),
+        None => Ok(()),
     }
-    Ok(())
 }
 
 // The checks of the table, in their order.

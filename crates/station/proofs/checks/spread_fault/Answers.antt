@@ -1,17 +1,24 @@
--- `checks::spread_fault` meets its contract: an object without a base was not sighted. Assumes nothing.
-use Rattle.std.proofs.Common.{◌∙◌, ap, sym, ltb, nat_abs}
-use Rattle.station.specs.Means.{spread_fault}
-use Rattle.station.proofs.Figures.{told, g_read}
+-- `checks::spread_fault` meets its contract: an object that was sighted has a base. Assumes nothing.
+use Rattle.std.proofs.Common.{◌≡◌, ◌∙◌, sym, refl, rules, tests, ltb, nat_abs, Bool, false, ℤ, Option, MatchOption}
+use Rattle.std.specs.Prelude.{Some, None}
+use Rattle.exact.proofs.Searching.{not_both}
+use Rattle.station.specs.Means.{spread_fault, e}
 use Rattle.station.proofs.Positions.{lowest_none}
 use Rattle.station.proofs.checks.spread_fault.Goals as goal
 
-pub returns-in_default : goal.returns-in_default
-unfolding spread_fault
-returns-in_default c = rw (lowest_none _ _ c.in_default.ensures _ c.args.at.inside.0)
-
-pub from_base-requires : goal.from_base-requires
-from_base-requires c = g_read _ _ _ c.in-Some.ensures.1
+-- an answer that is told in both cases of what it was made from
+told_by : (r : Option ℤ) {N : Type 0} {S P : ℤ → Type 0} {answer due : Bool} → MatchOption r N S → MatchOption r (answer ≡ false) P
+    → (N → due ≡ false) → ((b : ℤ) → S b → P b → answer ≡ due) → answer ≡ due
+told_by None m p none some = p ∙ sym (none m)
+told_by (Some b) m p none some = some b m p
 
 pub returns-then-seen : goal.returns-then-seen
 unfolding spread_fault
-returns-then-seen c = rw (sym c.seen.ensures ∙ c.if-seen.true) (ap (ltb 120000) (c.magnitude.ensures ∙ ap nat_abs (told c.from_base.type_inv c.from_base.ensures)))
+returns-then-seen c =
+    let a = c.args in
+    told_by c.base.result c.base.ensures c.is_some_and.ensures
+    (λ l. not_both (sym c.if-seen.true ∙ c.seen.ensures ∙ lowest_none _ _ l _ a.at.inside.0))
+    (λ b s p.
+    let n = a.table.now.count in let r = a.table.now.sums in
+    let far : c.is_some_and.result ≡ ltb 120000 (nat_abs (e n r a.at.position a.at.object)) = search (rules, tests) in
+    far ∙ rw (sym c.seen.ensures ∙ c.if-seen.true) refl)
