@@ -6,6 +6,7 @@ pub mod Clearing
 pub mod Sweeping
 pub mod Sifting
 pub mod Positions
+pub mod Chains
 pub mod Deciding
 pub mod Accepting
 pub mod Pairing

@@ -1,5 +1,5 @@
 // The answer: for each object the number of its pairs, and the mean of their directions.
-// An object j stands alone here and in `pair::base`, below 16: the bound of an index, of which a type would say no more.
+// An object stands alone here and in `pair::base`, below 16: the bound of an index, of which a type would say no more.
 ghost use Rattle.std.specs.Prelude.{◌≡◌, ◌<◌, length};
 ghost use Rattle.station.specs.Means.{P, sum_of_e, direction, base, directions, pair_counts};
 
@@ -8,34 +8,24 @@ use crate::{OBJECTS, POSITIONS, pair};
 use direction::CIRCLE;
 
 // P: the number of positions that have a pair of the object.
-fn pairs_of(table: &Table, j: usize) -> i64
-    requires { j < 16 }
-    ensures { result ≡ P table.now.count j }
+fn pairs_of(table: &Table, object: usize) -> i64
+    requires { object < 16 }
+    ensures { result ≡ P table.now.count object }
 {
-    let mut n: i64 = 0;
-    for i in 0..POSITIONS {
-        let at = PairAt {
-            position: i,
-            object: j,
-        };
-        if table.seen(at) {
-            n += 1;
-        }
-    }
-    n
+    (0..POSITIONS)
+        .map(|position| PairAt::new(position, object))
+        .filter(|at| table.seen(*at))
+        .count() as i64
 }
 
 // The sum of e over the positions that have a pair of the object.
-fn sum_from_base(table: &Table, j: usize, b: i64) -> i64
-    requires { (j < 16) × (b ≡ base table.now.count table.now.sums j) }
-    ensures { result ≡ sum_of_e table.now.count table.now.sums j }
+fn sum_from_base(table: &Table, object: usize, b: i64) -> i64
+    requires { (object < 16) × (b ≡ base table.now.count table.now.sums object) }
+    ensures { result ≡ sum_of_e table.now.count table.now.sums object }
 {
     let mut total: i64 = 0;
-    for i in 0..POSITIONS {
-        let at = PairAt {
-            position: i,
-            object: j,
-        };
+    for position in 0..POSITIONS {
+        let at = PairAt { position, object };
         if table.seen(at) {
             total += pair::from_base(table, at, b);
         }
@@ -44,15 +34,15 @@ fn sum_from_base(table: &Table, j: usize, b: i64) -> i64
 }
 
 // The direction of an object, halves upward; 0 for an object never sighted.
-fn direction_of(table: &Table, j: usize) -> i64
-    requires { j < 16 }
-    ensures { result ≡ direction table.now.count table.now.sums j }
+fn direction_of(table: &Table, object: usize) -> i64
+    requires { object < 16 }
+    ensures { result ≡ direction table.now.count table.now.sums object }
 {
-    let Some(b) = pair::base(table, j) else {
+    let Some(b) = pair::base(table, object) else {
         return 0;
     };
-    let p = pairs_of(table, j);
-    let t = p * b + sum_from_base(table, j, b);
+    let p = pairs_of(table, object);
+    let t = p * b + sum_from_base(table, object, b);
     exact::modulo(exact::floor(t + p, 2 * p), CIRCLE)
 }
 

@@ -69,14 +69,8 @@ pub fn fault_at(check: Check, table: &Table, k: usize) -> bool
 {
     let row = k / OBJECTS;
     let column = k % OBJECTS;
-    let by_position = PairAt {
-        position: row,
-        object: column,
-    };
-    let by_object = PairAt {
-        position: column,
-        object: row,
-    };
+    let by_position = PairAt::new(row, column);
+    let by_object = PairAt::new(column, row);
     match check {
         Check::PairsWhole => faces_fault(table, by_position),
         Check::InitialSeen => initial_fault(table, by_position),

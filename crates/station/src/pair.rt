@@ -42,20 +42,16 @@ fn doubled_direction(table: &Table, at: PairAt) -> i64
 }
 
 // b: g of the lowest position in which the object was sighted.
-pub fn base(table: &Table, j: usize) -> Option<i64>
-    requires { j < 16 }
-    ensures { MatchOption result (16 ≤ lowest table.now.count j) (λ b. (lowest table.now.count j < 16) × (b ≡ base table.now.count table.now.sums j)) }
+pub fn base(table: &Table, object: usize) -> Option<i64>
+    requires { object < 16 }
+    ensures { MatchOption result
+        (16 ≤ lowest table.now.count object)
+        (λ b. (lowest table.now.count object < 16) × (b ≡ base table.now.count table.now.sums object)) }
 {
-    for i in 0..POSITIONS {
-        let at = PairAt {
-            position: i,
-            object: j,
-        };
-        if table.seen(at) {
-            return Some(doubled_direction(table, at));
-        }
-    }
-    None
+    (0..POSITIONS)
+        .map(|position| PairAt::new(position, object))
+        .find(|at| table.seen(*at))
+        .map(|at| doubled_direction(table, at))
 }
 
 // e: how far g of a position is from the base b of its object.

@@ -21,14 +21,19 @@ pub struct PairAt {
 }
 
 impl PairAt {
+    // As a function, for a chain over positions: a closure hands on what a function requires, and not a ghost field.
+    pub fn new(position: usize, object: usize) -> PairAt
+        requires { (position < 16) × (object < 16) }
+        ensures { (result.position ≡ position) × (result.object ≡ object) }
+    {
+        PairAt { position, object }
+    }
+
     // The pair of object 1 in the same position.
     pub fn initial(self) -> PairAt
         ensures { (result.position ≡ self.position) × (result.object ≡ 0) }
     {
-        PairAt {
-            position: self.position,
-            object: 0,
-        }
+        PairAt::new(self.position, 0)
     }
 }
 

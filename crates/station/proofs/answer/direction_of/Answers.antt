@@ -47,7 +47,7 @@ module _ (c : After-sum_from_base) where
   r = c.args.table.now.sums
 
   abbrev j : ℕ
-  j = c.args.j
+  j = c.args.object
 
   p_read : to_z w64 (of_z w64 c.pairs_of-p.result) ≡ p n r j
   p_read = told c.pairs_of-p.type_inv c.pairs_of-p.ensures
@@ -61,7 +61,7 @@ module _ (c : After-sum_from_base) where
 pub overflow_mul-t : goal.overflow_mul-t
 overflow_mul-t c =
     let a = c.args in let t = a.table.now in
-    rw (told c.pairs_of-p.type_inv c.pairs_of-p.ensures, g_read t.sums (lowest t.count a.j) a.j c.in-Some.ensures.1) (product_fits t.count t.sums a.j)
+    rw (told c.pairs_of-p.type_inv c.pairs_of-p.ensures, g_read t.sums (lowest t.count a.object) a.object c.in-Some.ensures.1) (product_fits t.count t.sums a.object)
 
 pub overflow_add-t : goal.overflow_add-t
 overflow_add-t c = rw (p_read c, b_read c, read (product_fits (n c) (r c) (j c)), es_read c) (t_fits (n c) (r c) (j c))
