@@ -6,6 +6,7 @@ ghost use Rattle.station.specs.Means.{P, sum_of_e, direction, base, directions, 
 use crate::table::{PairAt, Table};
 use crate::{OBJECTS, POSITIONS, pair};
 use direction::CIRCLE;
+use std::array;
 
 // P: the number of positions that have a pair of the object.
 fn pairs_of(table: &Table, object: usize) -> i64
@@ -46,13 +47,15 @@ fn direction_of(table: &Table, object: usize) -> i64
     exact::modulo(exact::floor(t + p, 2 * p), CIRCLE)
 }
 
-// Direction and pairs of all 16 objects, into the lent lists.
-pub fn write(table: &Table, direction: &mut [i64], pairs: &mut [i64])
-    requires { (length direction.old ≡ 16) × (length pairs.old ≡ 16) }
-    ensures { (direction.new ≡ directions table.now.count table.now.sums) × (pairs.new ≡ pair_counts table.now.count) }
+// Direction and pairs of all 16 objects.
+pub fn directions(table: &Table) -> [i64; OBJECTS]
+    ensures { result ≡ directions table.now.count table.now.sums }
 {
-    for j in 0..OBJECTS {
-        direction[j] = direction_of(table, j);
-        pairs[j] = pairs_of(table, j);
-    }
+    array::from_fn(|object| direction_of(table, object))
+}
+
+pub fn pair_counts(table: &Table) -> [i64; OBJECTS]
+    ensures { result ≡ pair_counts table.now.count }
+{
+    array::from_fn(|object| pairs_of(table, object))
 }

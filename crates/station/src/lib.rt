@@ -63,7 +63,8 @@ pub fn means(
     let mut table = Table::new();
     table.tally(&sightings);
     checks::make_all(&table)?;
-    answer::write(&table, direction, pairs);
+    direction.copy_from_slice(&answer::directions(&table));
+    pairs.copy_from_slice(&answer::pair_counts(&table));
     Ok(())
 }
 
