@@ -36,7 +36,6 @@ fn step(check: Check, number: u8, table: &mut Table, why: &mut [u8; PLACES])
 
 // The reasons of the four steps. A reason is the number of its step, 1 to 4, as the rules and C have it.
 pub fn all(table: &mut Table) -> [u8; PLACES]
-    requires { (length table.old.count ≡ 512) × (length table.old.sums ≡ 512) }
     ensures { result ≡ why_after 4 table.old.count table.old.sums }
 {
     let mut why = [0u8; PLACES];

@@ -4,7 +4,7 @@ use Rattle.std.proofs.lemmas.Result.{err_from_is_err_and}
 use borrow.Author.Tests.{eq-eqb, ne_eqb}
 use Rattle.exact.specs.First.{some_below}
 use Rattle.exact.specs.Tabulate.{tabulate}
-use Rattle.exact.proofs.Filling.{tabulate_length, tabulate_ext}
+use Rattle.exact.proofs.Filling.{tabulate_ext}
 use Rattle.reply.specs.Checks.{refuse_if, ◌and_then◌}
 use Rattle.reply.specs.declared.Refusal.TheVariants.{NothingLeft}
 use Rattle.station.specs.declared.fields.Sightings.{Sightings}
@@ -46,9 +46,6 @@ returns-in_err-sightings c =
 -- sound sightings are those of the lists
 sound : (c : In_ok-sightings) → InRange (sighted (goal.at.In_ok-sightings c).Start)
 sound c = subst (λ (lists : Sightings). InRange (book_of lists)) c.in_ok-sightings.ensures.0 c.in_ok-sightings.sightings.sound
-
-pub all-why-requires : goal.all-why-requires
-all-why-requires c = (ap length c.tally.ensures.0 ∙ tabulate_length 512 _, ap length c.tally.ensures.1 ∙ tabulate_length 512 _)
 
 -- the reasons, as the four steps left them
 why_is : (c : After-all-why) → let b = sighted (goal.at.After-all-why c).Start in c.all-why.result ≡ why_after 4 (counts b) (readings b)
