@@ -1,5 +1,5 @@
 // The lines of a sighting book, entered into one list for each field.
-ghost use Rattle.std.specs.Prelude.{◌≡◌, pos, length, get_or, set};
+ghost use Rattle.std.specs.Prelude.{◌≡◌};
 ghost use Rattle.book.specs.Inner.{EnteredAs, put_at};
 
 use reply::Refusal;
@@ -52,12 +52,10 @@ impl Fields {
         let mut n = 0;
         // A while loop: each line says where the next one starts.
         while start < file.len() {
-            let Some(next) = row::read_behind(MOST_DIGITS, file, start, b'S', 4, &mut x) else {
-                return Err(Refusal::Malformed((n + 1) as u64));
-            };
+            let malformed = Refusal::Malformed((n + 1) as u64);
+            start = row::read_behind(MOST_DIGITS, file, start, b'S', 4, &mut x).ok_or(malformed)?;
             self.enter(n, &x);
             n += 1;
-            start = next;
         }
         if MOST < n {
             return Err(Refusal::Sightings);
