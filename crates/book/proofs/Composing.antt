@@ -1,37 +1,40 @@
 -- The lines of a station's listing: their count and their bytes. Assumes nothing.
---   seen_none, seen_more, seen_few       how many of the first objects are seen, counted one by one
+--   seen_counted                         how many objects are seen, as std counts them
 --   line_seen, line_unseen               the line of an object, and none
 --   object_most, means_most              an O line takes at most 68 bytes, the listing 1,136
-use mathlib.Core.Path.{◌≡◌, refl}
+use mathlib.Core.Path.{◌≡◌, refl, sym, ◌∙◌, ap}
 use mathlib.Core.Bool.{Bool, true, false, cond}
 use mathlib.Core.List.{List, [], ◌∷◌}
 use Prim.Native.Nat.{ℕ, zero, suc, ◌+◌, ◌≤◌}
 use native.Mathlib.Numerals.{add-one}
 use native.Mathlib.Omega.{arith}
 use lib.IntN.{ℤ, pos}
-use lib.ListN.{length, get_or, length-append}
+use lib.ListN.{length, get_or, take, length-append}
+use Rattle.std.proofs.Math.Seq.{take-length}
+use lib.Signed.{lt_z}
+use Rattle.std.specs.List.{filter, count_by}
+use Rattle.std.proofs.lemmas.List.Sums.{length-filter, count_by_more_yes, count_by_more_no}
 use Rattle.text.specs.Written.{in_order}
 use Rattle.text.proofs.Putting.{lines_most}
 use Rattle.page.proofs.Composing.{heading_most, numbered_most}
 use Rattle.book.specs.Listing.{sta_line, o_line, seen, objects_seen, object_line, means_lines}
 
+-- the count of pairs of an object that is seen
+abbrev pub has_pair : ℤ → Bool
+has_pair p = lt_z (pos 0) p
+
 module _ (pairs : List ℤ) where
-  pub seen_none : objects_seen pairs 0 ≡ 0
+  seen_first : (n : ℕ) → n ≤ length pairs → count_by has_pair (take n pairs) ≡ objects_seen pairs n
   unfolding objects_seen
-  seen_none = refl
+  seen_first zero l = refl
+  seen_first (suc n) l = by_test (seen pairs n) refl (seen_first n (omega arith))
+    where
+      by_test : (b : Bool) → seen pairs n ≡ b → count_by has_pair (take n pairs) ≡ objects_seen pairs n → count_by has_pair (take (suc n) pairs) ≡ objects_seen pairs n + cond (seen pairs n) 1 0
+      by_test true e r = ap (λ (k : ℕ). count_by has_pair (take k pairs)) (sym (add-one n)) ∙ count_by_more_yes has_pair pairs n (pos 0) (omega arith) e ∙ rw (r, e) refl
+      by_test false e r = ap (λ (k : ℕ). count_by has_pair (take k pairs)) (sym (add-one n)) ∙ count_by_more_no has_pair pairs n (pos 0) (omega arith) e ∙ rw (r, e) (omega arith)
 
-  pub seen_more : (j : ℕ) (b : Bool) → seen pairs j ≡ b → objects_seen pairs (j + 1) ≡ objects_seen pairs j + cond b 1 0
-  unfolding objects_seen
-  seen_more j b e = rw (add-one j, e)
-
-  few_step : (n : ℕ) (b : Bool) → cond b 1 0 ≤ 1
-  few_step n true = omega arith
-  few_step n false = omega arith
-
-  pub seen_few : (n : ℕ) → objects_seen pairs n ≤ n
-  unfolding objects_seen
-  seen_few zero = omega arith
-  seen_few (suc n) = omega (arith, seen_few n, few_step n (seen pairs n))
+  pub seen_counted : length (filter has_pair pairs) ≡ objects_seen pairs (length pairs)
+  seen_counted = length-filter has_pair pairs ∙ ap (count_by has_pair) (sym (take-length pairs)) ∙ seen_first (length pairs) (omega arith)
 
 module _ (directions pairs : List ℤ) (j : ℕ) where
   pub line_seen : seen pairs j ≡ true → o_line (j + 1) (get_or directions j (pos 0)) (get_or pairs j (pos 0)) ≡ object_line directions pairs j

@@ -10,39 +10,17 @@ mod spoiled;
 
 ghost use Rattle.std.specs.Prelude.{◌≤◌, length};
 ghost use Rattle.text.specs.Written.{Wrote};
-ghost use Rattle.page.specs.Page.{ListedBy};
-ghost use Rattle.station.specs.Sightings.{book};
-ghost use Rattle.station.specs.Replies.{reply_of};
-ghost use Rattle.book.specs.Listing.{station_listing};
 ghost use Rattle.book.specs.File.{MeansOf, listing_in};
 ghost use Rattle.book.specs.Rescue.{RescuedOf, rescue_listing_in};
 
 use entries::Fields;
 use parts::Part;
 use reply::Refusal;
-use station::MOST;
+use station::{MOST, OBJECTS};
 use text::writer::Writer;
 
 // The longest listing: that of 16 objects, with the longest numbers.
 pub const LISTING: usize = 1136;
-
-// The listing of sightings in lent lists.
-fn list_sightings(
-    position: &[i64],
-    object: &[i64],
-    face: &[i64],
-    reading: &[i64],
-    out: &mut [u8],
-) -> Result<usize, Refusal>
-    requires { 1136 ≤ length out.old }
-    ensures { ListedBy (reply_of (book position.now object.now face.now reading.now) 16 16)
-        (station_listing (book position.now object.now face.now reading.now)) out.old result out.new }
-{
-    let mut directions = [0; 16];
-    let mut pairs = [0; 16];
-    station::means(position, object, face, reading, &mut directions, &mut pairs)?;
-    Ok(lines::put_means(out, position.len() as u64, &directions, &pairs))
-}
 
 // The station means of a sighting book. The listing of an accepted one goes into the lent buffer, which must have room for LISTING bytes; a refusal leaves
 // it as it was.
@@ -54,13 +32,17 @@ pub fn means(file: &[u8], out: &mut [u8]) -> Result<usize, Refusal>
     }
     let mut fields = Fields::new();
     let n = fields.read(file)?;
-    list_sightings(
+    let mut directions = [0; OBJECTS];
+    let mut pairs = [0; OBJECTS];
+    station::means(
         &fields.position[..n],
         &fields.object[..n],
         &fields.face[..n],
         &fields.reading[..n],
-        out,
-    )
+        &mut directions,
+        &mut pairs,
+    )?;
+    Ok(lines::put_means(out, n as u64, &directions, &pairs))
 }
 
 // The listing of any book, an accepted one's or the line of its refusal; how many bytes it has. A buffer of fewer than LISTING bytes stays as it was, and

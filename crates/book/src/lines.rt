@@ -4,25 +4,19 @@ ghost use Rattle.text.specs.Written.{Wrote, Puts, in_order};
 ghost use Rattle.book.specs.Listing.{objects_seen, object_line, means_lines};
 
 use page::lines;
+use station::OBJECTS;
 use text::writer::Writer;
 
 // How many objects have a pair.
-fn objects_seen(pairs: &[i64]) -> u64
-    requires { length pairs.now ≡ 16 }
+fn objects_seen(pairs: &[i64; OBJECTS]) -> u64
     ensures { result ≡ objects_seen pairs.now 16 }
 {
-    let mut n = 0;
-    for (j, p) in pairs.iter().enumerate() {
-        if 0 < *p {
-            n += 1;
-        }
-    }
-    n
+    pairs.iter().filter(|p| 0 < **p).count() as u64
 }
 
 // The line of object j + 1, where it has a pair: O, object, direction, P.
-fn put_object(w: &mut Writer, directions: &[i64], pairs: &[i64], j: usize)
-    requires { (w.old.at + 68 ≤ length w.old.out.now) × (length directions.now ≡ 16) × (length pairs.now ≡ 16) × (j < 16) }
+fn put_object(w: &mut Writer, directions: &[i64; OBJECTS], pairs: &[i64; OBJECTS], j: usize)
+    requires { (w.old.at + 68 ≤ length w.old.out.now) × (j < 16) }
     ensures { Puts w.old (object_line directions.now pairs.now j) 68 w.new }
 {
     if 0 < pairs[j] {
@@ -30,18 +24,23 @@ fn put_object(w: &mut Writer, directions: &[i64], pairs: &[i64], j: usize)
     }
 }
 
-fn put_objects(w: &mut Writer, directions: &[i64], pairs: &[i64])
-    requires { (w.old.at + 1088 ≤ length w.old.out.now) × (length directions.now ≡ 16) × (length pairs.now ≡ 16) }
+fn put_objects(w: &mut Writer, directions: &[i64; OBJECTS], pairs: &[i64; OBJECTS])
+    requires { w.old.at + 1088 ≤ length w.old.out.now }
     ensures { Puts w.old (in_order 16 (object_line directions.now pairs.now)) 1088 w.new }
 {
-    for j in 0..16 {
+    for j in 0..OBJECTS {
         put_object(w, directions, pairs, j);
     }
 }
 
 // The listing of an accepted station, from the start of the buffer.
-pub fn put_means(out: &mut [u8], sightings: u64, directions: &[i64], pairs: &[i64]) -> usize
-    requires { (1136 ≤ length out.old) × (length directions.now ≡ 16) × (length pairs.now ≡ 16) }
+pub fn put_means(
+    out: &mut [u8],
+    sightings: u64,
+    directions: &[i64; OBJECTS],
+    pairs: &[i64; OBJECTS],
+) -> usize
+    requires { 1136 ≤ length out.old }
     ensures { Wrote out.old 0 (means_lines sightings directions.now pairs.now) out.new result }
 {
     let mut w = Writer { out, at: 0 };

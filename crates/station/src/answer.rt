@@ -1,6 +1,6 @@
 // The answer: for each object the number of its pairs, and the mean of their directions.
 // An object stands alone here and in `pair::base`, below 16: the bound of an index, of which a type would say no more.
-ghost use Rattle.std.specs.Prelude.{◌≡◌, ◌<◌, length};
+ghost use Rattle.std.specs.Prelude.{◌≡◌, ◌<◌};
 ghost use Rattle.station.specs.Means.{P, sum_of_e, direction, base, directions, pair_counts};
 
 use crate::table::{PairAt, Table};

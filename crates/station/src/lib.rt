@@ -12,7 +12,6 @@ mod parting;
 mod steps;
 mod table;
 
-ghost use Rattle.std.specs.Prelude.{◌≡◌, true, length};
 ghost use Rattle.station.specs.Sightings.{book};
 ghost use Rattle.station.specs.Replies.{Answers};
 ghost use Rattle.station.specs.Rescue.{lent, rooms, Rescues, Judges};
@@ -27,7 +26,7 @@ pub const MOST: usize = 512;
 // The positions of a station, and its objects, for each of which an answer list has a place.
 const POSITIONS: usize = 16;
 
-const OBJECTS: usize = 16;
+pub const OBJECTS: usize = 16;
 
 // The positions and objects together, in the order of the checks; a station's table has each of them for either face.
 const PLACES: usize = POSITIONS * OBJECTS;

@@ -1,19 +1,14 @@
--- `book::lines::objects_seen` meets its contract: n counts the objects seen before j. Assumes nothing.
-use mathlib.Core.Path.{sym}
-use native.Mathlib.Omega.{arith}
-use Rattle.std.proofs.lemmas.Grind.{common_steps}
-use Rattle.book.proofs.Composing.{seen_none, seen_more, seen_few}
+-- `book::lines::objects_seen` meets its contract, by what `count` answers of a filtered list. Assumes nothing.
+use Rattle.std.proofs.Common.{◌≡◌, ◌∙◌, ap, rules, tests, arith, length}
+use Rattle.std.proofs.lemmas.Iterator.{YieldsList-from_slice}
+use Rattle.std.proofs.lemmas.Iterator.Consumers.{YieldsList-at, YieldsList-from_filter, count_from_yields_List}
+use Rattle.book.specs.Listing.{objects_seen}
+use Rattle.book.proofs.Composing.{has_pair, seen_counted}
 use Rattle.book.proofs.lines.objects_seen.Goals as goal
-use Rattle.book.proofs.lines.objects_seen.Goals.{then-p-gt0, else-p-gt0}
 
-pub loop-j-init : goal.loop-j-init
-loop-j-init c = sym (seen_none c.args.pairs.now)
-
-pub overflow_add-n : goal.overflow_add-n
-overflow_add-n c = omega (arith, seen_few c.args.pairs.now c.loop-j.j)
-
-pub loop-j-preserved : goal.loop-j-preserved
-loop-j-preserved c = elim c.if-p-gt0.branch [
-  | then-p-gt0 w ↦ grind (arith, common_steps, seen_more)
-  | else-p-gt0 w ↦ grind (arith, common_steps, seen_more)
-]
+pub returns : goal.returns
+returns c =
+    let pairs = c.args.pairs.now in let all : length pairs ≡ 16 = omega arith in
+    count_from_yields_List c.filter.result _ c.count.ensures.ran
+    (YieldsList-from_filter _ has_pair (YieldsList-at c.filter.ensures.source (YieldsList-from_slice pairs cc)) c.filter.ensures.closure (λ x b q k. search (rules, tests)))
+    ∙ seen_counted pairs ∙ ap (objects_seen pairs) all

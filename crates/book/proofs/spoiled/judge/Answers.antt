@@ -6,12 +6,12 @@ use Rattle.book.proofs.spoiled.judge.Goals as goal
 pub returns-in_err-n : goal.returns-in_err-n
 returns-in_err-n c =
     let p = err_from_is_err_and c.from_residual.result c.from_residual.ensures.1 in
-    rw (p.1, p.2) (judged_refused c.args.file.now _ c.requires c.in_err-n.ensures.1)
+    rw (p.1, p.2) (judged_refused c.args.file.now _ c.told-reason c.in_err-n.ensures.1)
 
 pub returns-in_err-judge : goal.returns-in_err-judge
 returns-in_err-judge c =
     let p = err_from_is_err_and c.from_residual-in_err-judge.result c.from_residual-in_err-judge.ensures.1 in
-    rw (p.1, p.2) (judged_by_station c.args.file.now c.in_ok-n.ensures c.args.reason.now c.requires _ c.in_err-judge.ensures)
+    rw (p.1, p.2) (judged_by_station c.args.file.now c.in_ok-n.ensures c.args.reason.now c.told-reason _ c.in_err-judge.ensures)
 
 pub returns : goal.returns
-returns c = judged_as c.args.file.now c.in_ok-n.ensures c.args.reason.now c.requires c.in_ok-judge.ensures
+returns c = judged_as c.args.file.now c.in_ok-n.ensures c.args.reason.now c.told-reason c.in_ok-judge.ensures
