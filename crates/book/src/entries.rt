@@ -7,7 +7,7 @@ use station::MOST;
 use text::{MOST_BYTES, MOST_DIGITS, row};
 
 // The fields of sightings, with room for as many as a station takes.
-// A list for each field and no list of sightings: `station` is lent them so, as C lends them.
+// A list for each field and no list of sightings: `station` is lent them so, as C lends them. Nothing compares or prints them.
 #[derive(Drop)]
 pub struct Fields {
     pub position: [i64; MOST],

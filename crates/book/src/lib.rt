@@ -14,6 +14,7 @@ ghost use Rattle.book.specs.File.{MeansOf, listing_in};
 ghost use Rattle.book.specs.Rescue.{RescuedOf, rescue_listing_in};
 
 use entries::Fields;
+use lines::Means;
 use parts::Part;
 use reply::Refusal;
 use station::{MOST, OBJECTS};
@@ -32,17 +33,19 @@ pub fn means(file: &[u8], out: &mut [u8]) -> Result<usize, Refusal>
     }
     let mut fields = Fields::new();
     let n = fields.read(file)?;
-    let mut directions = [0; OBJECTS];
-    let mut pairs = [0; OBJECTS];
+    let mut means = Means {
+        directions: [0; OBJECTS],
+        pairs: [0; OBJECTS],
+    };
     station::means(
         &fields.position[..n],
         &fields.object[..n],
         &fields.face[..n],
         &fields.reading[..n],
-        &mut directions,
-        &mut pairs,
+        &mut means.directions,
+        &mut means.pairs,
     )?;
-    Ok(lines::put_means(out, n as u64, &directions, &pairs))
+    Ok(means.put(n as u64, out))
 }
 
 // The listing of any book, an accepted one's or the line of its refusal; how many bytes it has. A buffer of fewer than LISTING bytes stays as it was, and
@@ -73,7 +76,7 @@ pub fn rescue(part: Part, file: &[u8], out: &mut [u8]) -> Result<usize, Refusal>
 }
 
 // The same of any book, or the line of its refusal; how many bytes it has. A buffer without room for that part of any book stays as it was, and the answer
-// is 0, as for the means.
+// is 0, as for the means. Not one function with `list`: the room and the operation are all that either has.
 pub fn list_rescued(part: Part, file: &[u8], out: &mut [u8]) -> usize
     ensures listing { Wrote out.old 0 (rescue_listing_in part file.now (length out.old)) out.new result }
     ensures within { result ≤ length out.old }

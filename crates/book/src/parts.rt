@@ -1,4 +1,5 @@
 // The two parts of a spoiled book: the lines that are kept, as they stand in it, and a line for each sighting that is dropped.
+// Each function asks for the room of its own lines, so each says how much. A reason is the number that `station::judge` writes and an X line prints.
 ghost use Rattle.std.specs.Prelude.{◌≡◌, ℕ, ◌+◌, ◌<◌, ◌≤◌, length, get_or};
 ghost use Rattle.exact.specs.Tabulate.{tabulate};
 ghost use Rattle.text.specs.Lines.{lines_in, line_no};

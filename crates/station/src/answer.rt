@@ -34,7 +34,7 @@ fn sum_from_base(table: &Table, object: usize, b: i64) -> i64
     total
 }
 
-// The direction of an object, halves upward; 0 for an object never sighted.
+// The direction of an object, halves upward; 0 for an object never sighted, which is the rules' answer for it and no code.
 fn direction_of(table: &Table, object: usize) -> i64
     requires { object < 16 }
     ensures { result ≡ direction table.now.count table.now.sums object }

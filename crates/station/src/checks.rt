@@ -13,7 +13,8 @@ const MOST_APART: u64 = 60000;
 
 const MOST_SPREAD: u64 = 120000;
 
-// What a check over the table asks of each place. The rules say its fault and its refusal by its name, and the rescue's steps go by it too.
+// What a check over the table asks of each place. An enum and no closure: the rules say its fault and its refusal by its name, and the rescue's steps
+// go by it too.
 #[derive(Clone, Copy, Debug, PartialEq, Eq)]
 pub enum Check {
     // 23: each object sighted in a position has one left and one right sighting there.
@@ -61,7 +62,7 @@ fn spread_fault(table: &Table, at: PairAt) -> bool
         })
 }
 
-// The fault of a check at the k-th place of its order.
+// The fault of a check at the k-th place of its order. `k < 256`, here and below, is the bound of a place that a loop goes through.
 #[tactic(auto, unfolding(crate::specs::Replies::fault))]
 pub fn fault_at(check: Check, table: &Table, k: usize) -> bool
     requires { k < 256 }

@@ -2,6 +2,7 @@
 // The list is read twice, once to check its fields (`fields`) and once into a table by face, position and object (`table`). All that follows works
 // on the table: the checks of pairs and positions (`checks`) on the figures of a pair (`pair`), and the directions (`answer`).
 // A spoiled list is rescued by the same table and checks (`steps`): what they find at fault is dropped, and the list is parted (`parting`).
+// Each operation is lent a list for each field, and lists of numbers for its answers: so C lends them, and the promises in specs/ name each.
 #![tactic(auto)]
 
 mod answer;
@@ -68,7 +69,7 @@ pub fn means(
 }
 
 // Why each sighting of a spoiled list is dropped, 1 to 4 by the step that drops it, and 0 where it is kept, into a lent list of as many places; or why the
-// sightings are refused, and the list stays as it was.
+// sightings are refused, and the list stays as it was. The list holds numbers, with 0 for none, since `Judges` says so.
 pub fn judge(
     position: &[i64],
     object: &[i64],

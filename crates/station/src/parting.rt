@@ -1,4 +1,5 @@
 // The sightings of a spoiled list parted, by their reasons, into those that are kept and those that are dropped.
+// The lists are the caller's, so that their lengths are asked here: `rescue` has tested them, each against the number of sightings.
 ghost use Rattle.std.specs.Prelude.{◌≡◌, ◌==◌, not, ◌+◌, pos, length, get_or};
 ghost use Rattle.std.specs.List.{list_all};
 ghost use Rattle.std.proofs.lemmas.List.Edits.{sets};

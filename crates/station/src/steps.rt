@@ -1,6 +1,7 @@
 // The rescue of a spoiled list. Whether a sighting stays hangs on its position and object alone, so the four steps go over the station's table: each
 // notes at its place why a position and object is dropped, and clears it from the table, which is then that of the list as the step left it.
-// The place of a position and object is that in the order of the checks, 0 to 255; a reason is the number of the step, and 0 where it stays.
+// The place of a position and object is that in the order of the checks, 0 to 255; a reason is the number of the step, and 0 where it stays: a number,
+// since these are the ones that `judge` writes into its lent list.
 ghost use Rattle.std.specs.Prelude.{◌≡◌, ◌<◌, length, get_or};
 ghost use Rattle.exact.specs.First.{some_below};
 ghost use Rattle.exact.specs.Tabulate.{tabulate};

@@ -38,7 +38,7 @@ impl PairAt {
 }
 
 // The counts are of at most 512 sightings, and so are the readings that are summed.
-// Two lists and no list of pairs: the rules' tables of counts and of sums are two, and `clear` and `entry` serve both.
+// Two lists and no list of pairs: the rules' tables of counts and of sums are two, and `clear` and `entry` serve both. Nothing compares or prints it.
 #[derive(Drop)]
 pub struct Table {
     pub count: [i64; SLOTS],

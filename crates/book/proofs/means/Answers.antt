@@ -31,4 +31,4 @@ returns c =
     let n = c.in_ok-n.n in
     let many = ap length c.in_ok-n.ensures.positions ∙ tabulate_length (lines_in c.args.file.now) _ ∙ sym c.in_ok-n.ensures.count in
     listed_as c.args.file.now c.args.out.now c.if-out-lt-LISTING.false c.in_ok-n.ensures
-    (listed_accepted (sym c.means.ensures.replied ∙ e) (rewrote (ap (λ (k : ℕ). means_lines k c.means.new.direction c.means.new.pairs) (sym many) ∙ station_listed c.means.ensures e) c.put_means.ensures))
+    (listed_accepted (sym c.means.ensures.replied ∙ e) (rewrote (ap (λ (k : ℕ). means_lines k c.means.new.direction c.means.new.pairs) (sym many) ∙ station_listed c.means.ensures e) c.put.ensures))

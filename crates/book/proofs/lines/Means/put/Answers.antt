@@ -2,7 +2,7 @@
 use Rattle.std.proofs.Common.{refl, ap, rules}
 use Rattle.text.proofs.Putting.{puts_as, puts_then, put_whole}
 use Rattle.book.specs.Listing.{sta_line}
-use Rattle.book.proofs.lines.put_means.Goals as goal
+use Rattle.book.proofs.lines.Means.put.Goals as goal
 
 pub returns : goal.returns
 returns c =
