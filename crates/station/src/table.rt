@@ -88,7 +88,8 @@ impl Table {
         }
     }
 
-    // Fills an empty table from a list. (The table is not made here: it would be copied to the caller.) A sighting is counted where its own face, position and object say.
+    // Fills an empty table from a list: a sighting is counted where its own face, position and object say. The caller lends the table, since one that is made
+    // here would be copied out.
     pub fn tally(&mut self, sightings: &SoundSightings)
         requires { (self.old.count ≡ replicate 512 (pos 0)) × (self.old.sums ≡ replicate 512 (pos 0)) }
         ensures { (self.new.count ≡ counts (book_of sightings.now.lists)) × (self.new.sums ≡ readings (book_of sightings.now.lists)) }
