@@ -22,6 +22,7 @@ fn past(reply: Result<(), Refusal>) -> bool
 }
 
 // An archive that is being read: the three lists in which its stream stands (`season::stream`). They are the program's own, so nothing is refused of them.
+// Nothing compares or prints it, here and of `Reports`: it is a buffer.
 #[derive(Drop)]
 struct Archive {
     held: [u8; stream::ROOM],

@@ -197,7 +197,7 @@ fn name_of(rt: &impl Env, i: usize, name: &mut [u8]) -> usize
     }
 }
 
-// A program: the system that it runs on, and the name under which it says what it cannot do.
+// A program: the system that it runs on, and the name under which it says what it cannot do. It lends both, and nothing compares it.
 #[derive(Clone, Copy)]
 pub struct Program<'a> {
     rt: &'a HostRuntime,
