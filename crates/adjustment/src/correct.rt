@@ -1,6 +1,6 @@
 // What follows from a table and its correlates alone, whoever found them: corrections V, remainders R, printed corrections u, adjusted directions
 // and printed remainders Q. R is formed as the sum of a*V, which equals the sum of N*K, so no entry of N is formed twice.
-// The bounds of K, V and u stand in the clauses, and in no type: docs/PROMISES.md names these functions for lists with them, and a type would ask more.
+// The bounds of K, V and u, and the room of lists, stand in the clauses and in no type: docs/PROMISES.md names these functions, and a type would ask more.
 ghost use Rattle.std.specs.Prelude.{◌≡◌, ℕ, ◌≤◌, ◌<◌, ltb, length, get_or, pos, nat_abs, ◌+ℤ◌, ◌*ℤ◌};
 ghost use Rattle.exact.specs.Sum.{sum};
 ghost use Rattle.exact.specs.Circle.{C, modulo};
