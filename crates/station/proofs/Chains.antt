@@ -3,20 +3,13 @@
 --   column_found, column_counted    the first of them at which a test holds, and how many they are
 --   lowest_found            where the object was sighted first
 --   seen_counted            in how many positions it was
---   made_from               the array that std's `from_fn` makes
 use mathlib.Core.Path.{◌≡◌, refl, sym, ◌∙◌, ap, subst}
 use mathlib.Core.Bool.{Bool, true, false, cond}
 use mathlib.Core.List.{List, map, ◌∷◌}
 use Prim.Native.Nat.{ℕ, zero, suc, ◌+◌, ◌<◌, ◌≤◌}
 use native.Mathlib.Omega.{arith}
 use lib.IntN.{ℤ, pos, ◌+ℤ◌, +ℤ_idl}
-use native.Mathlib.Decide.{dec_lt}
-use denote.Param.Members.{Mut}
-use lib.ListN.{length, get_or}
-use Rattle.std.specs.Array.{IsFromFnResult, IsFromFnResultFrom}
-use Rattle.std.specs.Fn.{Called}
-use Rattle.exact.specs.Tabulate.{tabulate}
-use Rattle.exact.proofs.Filling.{tabulate_is}
+use lib.ListN.{length}
 use Rattle.std.proofs.lemmas.Int.{ints}
 use Rattle.std.specs.Prelude.{Option, Some, None, MatchOption}
 use Rattle.std.specs.Option.{option_map}
@@ -96,19 +89,3 @@ module _ (n : List ℤ) (j : ℕ) where
   pub seen_counted : pos (length (filter is_seen (column j 0 16))) ≡ P n j
   unfolding P
   seen_counted = column_counted is_seen j 0 16 ∙ sum_ext 16 _ _ (λ i l. ap (λ (k : ℕ). cond (seen n k j) (pos 1) (pos 0)) (omega arith))
-
--- ---- an array of what a closure answers at each place, which it leaves as it is
-module _ {F B : Type 0} (g : Mut F (ℕ × Unit {0}) B) (f : F) (h : ℕ → B) (each : (i : ℕ) (y : B) (q : F) → Called g f (i, tt) y q → (q ≡ f) × (y ≡ h i)) (d : B) where
-  made_at : (ys : List B) (i n : ℕ) → IsFromFnResultFrom g f ys i n → (m : ℕ) → i ≤ m → m < i + n → get_or ys m d ≡ h m
-  made_at ys i zero e m low high = absurd (omega arith)
-  made_at ys i (suc n) e m low high = by_order (dec_lt i m) (λ l. made_at ys (i + 1) n rest m l (omega arith))
-    where
-      rest : IsFromFnResultFrom g f ys (i + 1) n
-      rest = subst (λ (q : F). IsFromFnResultFrom g q ys (i + 1) n) (each i e.1 e.0 e.3).0 e.4
-
-      by_order : Dec (i < m) → (i + 1 ≤ m → get_or ys m d ≡ h m) → get_or ys m d ≡ h m
-      by_order (yes l) later = later (omega arith)
-      by_order (no l) later = let here : i ≡ m = omega arith in subst (λ (k : ℕ). get_or ys k d ≡ h k) here (e.2.1 d ∙ (each i e.1 e.0 e.3).1)
-
-  pub made_from : (ys : List B) (n : ℕ) → IsFromFnResult g f ys n → ys ≡ tabulate n h
-  made_from ys n e = tabulate_is d n h ys e.long (λ i l. made_at ys 0 n e.each i (omega arith) (omega arith))

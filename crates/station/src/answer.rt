@@ -1,12 +1,11 @@
 // The answer: for each object the number of its pairs, and the mean of their directions.
 // An object stands alone here and in `pair::base`, below 16: the bound of an index, of which a type would say no more.
-ghost use Rattle.std.specs.Prelude.{◌≡◌, ◌<◌};
+ghost use Rattle.std.specs.Prelude.{◌≡◌, ◌<◌, length};
 ghost use Rattle.station.specs.Means.{P, sum_of_e, direction, base, directions, pair_counts};
 
 use crate::table::{PairAt, Table};
 use crate::{OBJECTS, POSITIONS, pair};
 use direction::CIRCLE;
-use std::array;
 
 // P: the number of positions that have a pair of the object.
 fn pairs_of(table: &Table, object: usize) -> i64
@@ -47,15 +46,15 @@ fn direction_of(table: &Table, object: usize) -> i64
     exact::modulo(exact::floor(t + p, 2 * p), CIRCLE)
 }
 
-// Direction and pairs of all 16 objects.
-pub fn directions(table: &Table) -> [i64; OBJECTS]
-    ensures { result ≡ directions table.now.count table.now.sums }
+// Direction and pairs of all 16 objects, into the lent lists.
+// Slices, whose lengths are asked, since `means` has tested the lists that it is lent. Turned into arrays by `try_from`, a refusal would no longer be known
+// to leave them as they were (tried); arrays that are made here and copied take 160 bytes more of stack, above the limit in tests/office/stack.
+pub fn write(table: &Table, direction: &mut [i64], pairs: &mut [i64])
+    requires { (length direction.old ≡ 16) × (length pairs.old ≡ 16) }
+    ensures { (direction.new ≡ directions table.now.count table.now.sums) × (pairs.new ≡ pair_counts table.now.count) }
 {
-    array::from_fn(|object| direction_of(table, object))
-}
-
-pub fn pair_counts(table: &Table) -> [i64; OBJECTS]
-    ensures { result ≡ pair_counts table.now.count }
-{
-    array::from_fn(|object| pairs_of(table, object))
+    for object in 0..OBJECTS {
+        direction[object] = direction_of(table, object);
+        pairs[object] = pairs_of(table, object);
+    }
 }

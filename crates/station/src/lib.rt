@@ -63,8 +63,7 @@ pub fn means(
     let mut table = Table::new();
     table.tally(&sightings);
     checks::make_all(&table)?;
-    direction.copy_from_slice(&answer::directions(&table));
-    pairs.copy_from_slice(&answer::pair_counts(&table));
+    answer::write(&table, direction, pairs);
     Ok(())
 }
 

@@ -58,5 +58,4 @@ pub returns : goal.returns
 returns c =
     let f = filled (goal.at.returns c).After-tally in
     answers_kept (sym c.in_ok-make_all.was ∙ checked (goal.at.returns c).After-make_all)
-    (c.copy_from_slice.ensures.after ∙ c.directions.ensures ∙ (λ t. directions (f.0 t) (f.1 t)))
-    (c.copy_from_slice-2.ensures.after ∙ c.pair_counts.ensures ∙ (λ t. pair_counts (f.0 t)))
+    (c.write.ensures.0 ∙ (λ t. directions (f.0 t) (f.1 t))) (c.write.ensures.1 ∙ (λ t. pair_counts (f.0 t)))
