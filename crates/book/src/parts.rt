@@ -43,8 +43,9 @@ fn put_kept(w: &mut Writer, file: &[u8], reason: &[u8])
     ensures { Puts w.old (in_order (length reason.now) (kept_by file.now reason.now)) 10752 w.new }
 {
     let mut start = 0;
-    for (h, why) in reason.iter().enumerate() {
+    for why in reason {
         let end = find::place_from(file, LF, start) + 1;
+        // a name for the test, which a wrong version turns round
         let kept = *why == 0;
         if kept {
             w.word(&file[start..end]);

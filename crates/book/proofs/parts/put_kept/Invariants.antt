@@ -5,5 +5,5 @@ use Rattle.text.proofs.Stepping.{Reached}
 use Rattle.book.specs.Rescue.{kept_by}
 use Rattle.book.proofs.parts.put_kept.Given as goal
 
-abbrev pub invariant-loop-h : goal.invariant-loop-h
-invariant-loop-h l = Reached l.file l.start l.h × Puts l.initial.w (in_order l.h (kept_by l.file l.reason)) (l.h * 21) l.w
+abbrev pub invariant-loop-why : goal.invariant-loop-why
+invariant-loop-why l = Reached l.file l.start l.why-index × Puts l.initial.w (in_order l.why-index (kept_by l.file l.reason)) (l.why-index * 21) l.w
