@@ -22,7 +22,7 @@ use reply::Refusal;
 // The largest printed correction that is no blunder, one minute.
 pub const MINUTE: u64 = 60000;
 
-// Directions: 1 to 64. Conditions: 1 to 24, and not more than directions.
+// Directions: 1 to 64. Conditions: 1 to 24, and not more than directions. The limits are this crate's own, as its rule has them.
 #[tactic(auto, unfolding(crate::specs::Refusals::counts_amiss))]
 pub fn counts_amiss(m: usize, n: usize) -> bool
     ensures { result ≡ counts_amiss m n }

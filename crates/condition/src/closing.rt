@@ -42,7 +42,8 @@ impl<'a> Directions<'a> {
         exact::modulo(self.at(t.k) - self.at(t.i), direction::CIRCLE)
     }
 
-    // What one term adds: an angle, a fixed angle, or a logarithm, on the right with its sign turned.
+    // What one term adds: an angle, a fixed angle, or a logarithm, on the right with its sign turned. No letter, which the checks leave nowhere, adds 0, as the
+    // rules' `part` says: a checked term would be a second type.
     #[tactic(auto, unfolding(crate::specs::Terms::part))]
     fn part(self, t: Term) -> i64
         requires { Sound (length self.values.now) t }

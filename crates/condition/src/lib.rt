@@ -18,6 +18,7 @@ mod term;
 mod terms;
 
 // The kind of a condition. An angle condition has a target; a side condition has none. C lends a target beside each kind, so it stands beside the kind here too.
+// It is matched where the rules differ, since specs/ says them case by case.
 #[derive(Clone, Copy, Debug, PartialEq, Eq)]
 pub enum Kind {
     Angle,
@@ -27,7 +28,7 @@ pub enum Kind {
 // The coefficients of one condition, into the lent list a: of directions 1 to m, which are lent with their inverse weights q. The terms are lent
 // by their fields, the kind of each as the code of its letter. A refusal is 1 to 3 of the checks, or 4, and leaves a as it was.
 // The lists come side by side, as C lends them: a struct of all nine would be made here and in `misclosure`, to be taken apart in checks.rt.
-// The limits of a coefficient and of w stand in `adjustment` too: neither crate uses the other.
+// The limits of a coefficient and of w stand in `adjustment` too: each crate's rule in specs/ has them by itself.
 pub fn coefficients(
     directions: &[i64],
     q: &[i64],

@@ -42,7 +42,7 @@ impl Tally {
         self.add(t.k as usize, x);
     }
 
-    // What one term adds. A fixed angle adds nothing, and its i and k are not read.
+    // What one term adds. A fixed angle adds nothing, and its i and k are not read; nor does a term without a letter, as the rules' `share` says.
     #[tactic(auto, unfolding(crate::specs::Terms::share))]
     fn add_term(&mut self, t: Term)
         requires term { Sound 64 t }

@@ -12,6 +12,7 @@ use crate::SoundTable;
 
 // A row: its coefficients at their places, and its constant at the last place. In the triangle row j has D(j,k) from place j on, L(j), and before place j
 // the multipliers M(i,j) of the rows above; its own stand in the rows below, where those read them.
+// One array and no struct of two: coefficients and constant go through the same steps, by their places (`with_above`, `put`).
 pub type Row = [i64; 25];
 
 // The place of a row's constant.
@@ -37,6 +38,7 @@ pub fn plus_product(s: i64, x: i64, y: i64) -> i64
 }
 
 // What direction i adds to row j: q(i)*a(j,i)*a(k,i) to the entry at each place k from j on; nothing where the condition does not touch the direction.
+// That j is a condition is asked as the bound of an index, here and below.
 #[tactic(auto, using(std::proofs::lemmas::Nat::rows))]
 fn add_direction(table: SoundTable, j: usize, i: usize, row: &mut Row)
     requires touched { (j < length table.w.now) × (i < length table.q.now) }

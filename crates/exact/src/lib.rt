@@ -1,4 +1,5 @@
 // Whole numbers, exactly: the steps on 64-bit numbers that every layer shares. Each says its value in ℤ; none can overflow.
+// Some are std's own methods under the rules' names, which docs/PROMISES.md promises.
 #![tactic(auto)]
 
 ghost use Rattle.std.specs.Prelude.{◌≡◌, ltb, ℤ, pos, nat_abs, ◌<ℤ◌};

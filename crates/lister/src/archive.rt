@@ -93,7 +93,7 @@ impl Archive {
     }
 }
 
-// The report of an archive that is open.
+// The report of an archive that is open. Not one with `sums::add_open` over a trait: each is three calls, and archives are joined as well.
 pub fn report_open(rt: &impl Print, input: &mut impl Read) -> Result<(), Trouble> {
     let mut archive = Archive::begin();
     archive.feed(input)?;

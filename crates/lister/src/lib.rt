@@ -27,6 +27,7 @@ use std::io::{ErrorKind, Read};
 use std::process::ExitCode;
 
 // One byte more than the longest file has, so that a longer one is seen by its length, however long it is.
+// An array and no Vec: of a longer file nothing past this is read.
 const ROOM: usize = 65536;
 
 // Room for any file's name, and for the parts in which a long input is read.

@@ -56,7 +56,7 @@ pub struct Asked<'a> {
     pub k: &'a [i64],
 }
 
-// Condition j: its coefficients, into its row, and its misclosure; or 4, or 5.
+// Condition j: its coefficients, into its row, and its misclosure; or 4, or 5. Directions and q come one by one, here and below, as `condition` takes them.
 fn form(directions: &[i64], q: &[i64], c: Asked, row: &mut [i64], j: u64) -> Result<i64, Refusal>
     requires { length row.old ≡ length directions.now }
     ensures figure { result ≡ figure_of
@@ -126,7 +126,8 @@ fn form_at(
     })
 }
 
-// Lists for what is formed of conditions: rows of coefficients, misclosures, and beside these their kinds.
+// Lists for what is formed of conditions: rows of coefficients, misclosures, and beside these their kinds, since `adjustment` is lent misclosures as a list.
+// Arrays, of which the first places are used, as in terms.rt.
 #[derive(Drop)]
 pub struct Rows {
     pub a: [i64; 1536],
@@ -150,7 +151,7 @@ pub fn form_all(
     ensures { Forms directions.now q.now (net_from file.now read.at).conditions result rows.new.a rows.new.w rows.new.kinds }
 {
     let m = directions.len();
-    // For the proof alone: where the line that has been read starts. What is still to come is told from there.
+    // For the proof alone: where the line that has been read starts. What is still to come is told from there. (The language has no ghost local.)
     let mut start = read.at;
     let mut turn = read.turn;
     let mut at = 0;

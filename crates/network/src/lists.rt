@@ -4,7 +4,7 @@ ghost use Rattle.std.specs.Prelude.{◌≡◌, ◌≤◌, length};
 use crate::conditions::Rows;
 use condition::Kind;
 
-// Lists that hold the table of any net.
+// Lists that hold the table of any net. Nothing compares or prints them, or the table.
 #[derive(Drop)]
 pub struct Lists {
     pub(crate) directions: [i64; 64],

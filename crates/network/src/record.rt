@@ -6,7 +6,7 @@ ghost use Rattle.network.specs.Turns.{numbers_of, record_with, numbered_at, turn
 
 use text::{LF, MOST_DIGITS, TAB, row};
 
-// What a line says.
+// What a line says. It is matched where the rules differ, since specs/ says them case by case.
 #[derive(Clone, Copy, Debug, PartialEq, Eq)]
 pub enum Record {
     // D: number, direction, q.
@@ -133,7 +133,7 @@ fn heading(file: &[u8], start: usize) -> Option<Turn>
     }
 }
 
-// The line at a start, by its letter.
+// The line at a start, by its letter. The start is asked to be in the file, as in text's number.rt.
 #[tactic(auto, using(crate::proofs::Recording::short_said, crate::proofs::Recording::no_tab_said, crate::proofs::Recording::numbers_said))]
 pub fn read(file: &[u8], start: usize) -> Option<Turn>
     requires { start ≤ length file.now }

@@ -9,7 +9,7 @@ use crate::record::{Record, Turn};
 use condition::Kind;
 use reply::Refusal;
 
-// The most directions, conditions and terms of a condition.
+// The most directions, conditions and terms of a condition. Each crate's rule in specs/ has its limits by itself, and these are that rule's.
 const MOST_DIRECTIONS: u64 = 64;
 
 const MOST_CONDITIONS: u64 = 24;

@@ -8,7 +8,8 @@ ghost use Rattle.network.specs.Gathered.{Body, Gathers};
 use crate::record;
 use crate::record::{Record, Run, Turn};
 
-// Lists for the terms of a condition: their fields, as `condition` takes them.
+// Lists for the terms of a condition: their fields, as `condition` takes them. Arrays, of which the first places are used: no operation takes from the heap
+// (docs/COSTS.md).
 #[derive(Drop)]
 pub struct Terms {
     pub kinds: [i64; 12],

@@ -30,7 +30,8 @@ use sheet::Opinion;
 use station::Rescued;
 use text::line::LineStatus;
 
-// The kind of condition that a letter names: A is an angle condition, S a side condition.
+// The kind of condition that a letter names: A is an angle condition, S a side condition. A function and no TryFrom: `Kind` is another crate's type, and
+// `condition` knows no letters of kinds.
 fn kind_named(letter: u8) -> Option<Kind>
     ensures { result ≡ heading_of letter }
 {

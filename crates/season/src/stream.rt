@@ -89,6 +89,7 @@ fn closes(byte: u8, line: u64) -> bool
 }
 
 // A stream that has passed the checks: two of the lists that are lent, and the place that the third holds. Nothing compares or prints it.
+// The place is in numbers here too: the rules step them (`line_after`, `closes`), and they go back into the list.
 #[derive(Drop)]
 struct Open<'a> {
     held: &'a mut [u8; ROOM],

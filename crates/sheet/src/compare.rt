@@ -96,6 +96,7 @@ fn first_condition(
 
 // The opinion on a listing of those counts: the tests of its counts, of the sizes of its K, of its V lines and of its K lines, up to the first that fails. The
 // contract speaks of whatever listing the numbers are of, since the function is handed only numbers.
+// Lists of its own and no `AnswerLists`: those hold what a net's own K give, and here K are the listing's.
 pub fn opinion(directions: &[i64], table: SoundTable, x: &[i64; NUMBERS], counts: Size) -> Opinion
     requires in_circle { (length directions.now ≡ length table.q.now) × Small 1296000000 directions.now (length table.q.now) }
     ensures { (listing : List ℕ) → WellFormed listing counts.m counts.n x.now →

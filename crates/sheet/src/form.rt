@@ -1,5 +1,5 @@
 // The lines of a listing, each read once: the ADJ line, and by its counts the V and K lines that are due. Their numbers go into one list, four places to a
-// line, whatever its kind.
+// line, whatever its kind: no list of rows, since each line is read into the places from its own on.
 ghost use Rattle.std.specs.Prelude.{◌≡◌, ◌+◌, ◌<◌, ◌≤◌, length, take};
 ghost use Rattle.text.specs.Parts.{place_from};
 ghost use Rattle.text.specs.Lines.{LF};
@@ -14,7 +14,7 @@ use text::{find, row};
 // The most digits of a number in a listing.
 const MOST_DIGITS: usize = 18;
 
-// Places for the numbers of 64 V lines and 24 K lines.
+// Places for the numbers of 64 V lines and 24 K lines, the limits of the rule in specs/.
 pub const NUMBERS: usize = 352;
 
 // The two counts of the ADJ line.
@@ -62,7 +62,7 @@ fn due_line(listing: &[u8], start: usize, m: usize, i: usize, x: &mut [i64]) -> 
     numbered_line(listing, start, b'K', 4, i - m + 1, x)
 }
 
-// The lines behind the ADJ line, which ends at `start`, and that nothing follows them.
+// The lines behind the ADJ line, which ends at `start`, and that nothing follows them. m and n are a `Size` only once their lines have been read.
 fn lines(
     listing: &[u8],
     start: usize,

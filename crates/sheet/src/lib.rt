@@ -36,6 +36,7 @@ pub fn check(net: &[u8], listing: &[u8]) -> Result<Opinion, Refusal>
     let table = network::table(net, &mut lists)?;
     let mut x = [0; form::NUMBERS];
     let counts = form::read(listing, &mut x)?;
+    // No From: that the table is sound is proved here, of a net that is accepted, and is no fact of a NetTable.
     Ok(compare::opinion(
         table.directions,
         SoundTable {
@@ -48,7 +49,7 @@ pub fn check(net: &[u8], listing: &[u8]) -> Result<Opinion, Refusal>
     ))
 }
 
-// An opinion as a line.
+// An opinion as a line, in room for the longest answer.
 #[tactic(auto, using(text::proofs::Putting::count_most))]
 fn put_answer(w: &mut Writer, opinion: Result<Opinion, Refusal>)
     requires { w.old.at + 52 ≤ length w.old.out.now }

@@ -1,5 +1,4 @@
-// Where a byte first stands in a text, for the line reader and for the walk through an archive, which look for an LF; and whether a text begins
-// with a word.
+// Where a byte first stands in a text, and whether a text begins with a word.
 ghost use Rattle.std.specs.Prelude.{◌≡◌};
 ghost use Rattle.text.specs.Parts.{place_from, begins};
 
@@ -13,7 +12,7 @@ pub fn place_from(text: &[u8], byte: u8, start: usize) -> usize
     start + before.unwrap_or(after.len())
 }
 
-// Whether the text begins with the word.
+// Whether the text begins with the word: std's own test under the rules' name.
 #[tactic(auto, using(crate::proofs::Parting::begins_is))]
 pub fn begins(text: &[u8], word: &[u8]) -> bool
     ensures { result ≡ begins word.now text.now }

@@ -17,7 +17,8 @@ pub struct Read {
     pub next: usize,
 }
 
-// The digits from a start on, up to the first byte that is none or until there are `most`.
+// The digits from a start on, up to the first byte that is none or until there are `most`. By hand and no `parse`: that takes a plus and leading zeros, and
+// no bound on the digits, so that each of these tests would stand beside it.
 // Each function here asks the start to be in the text and `most` to be small: a type for such a place would be made anew for each number, and say no more.
 fn digits_from(most: usize, text: &[u8], start: usize) -> Span
     requires { (most ≤ 18) × (start ≤ length text.now) }

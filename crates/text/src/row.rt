@@ -6,6 +6,7 @@ use crate::number::Read;
 use crate::{LF, TAB, number};
 
 // The numbers of the line at `start`, `count` of them with at most so many digits and no other field, into the first places of x.
+// The start is asked to be in the text, as in number.rt.
 // A count beside the list: one list serves lines of other counts, and a list with more places is promised to keep their number.
 pub fn read(most: usize, file: &[u8], start: usize, count: usize, x: &mut [i64]) -> Option<usize>
     requires { (most ≤ 18) × (start ≤ length file.now) × (1 ≤ count) × (count ≤ length x.old) }

@@ -34,7 +34,8 @@ impl<'a> Writer<'a> {
         self.at = end;
     }
 
-    // The digits of n: at most 20 bytes. It asks for the room of just these.
+    // The digits of n: at most 20 bytes. It asks for the room of just these. By hand and no `write!`: that answers a Result, which could only be thrown away
+    // here, where the room is asked.
     #[tactic(auto, using(crate::proofs::Putting::digit_steps))]
     pub fn digits(&mut self, n: u64)
         requires { self.old.at + length (digits_of n) ≤ length self.old.out.now }

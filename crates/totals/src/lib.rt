@@ -20,7 +20,7 @@ pub const MOST_NETS: u64 = 100_000;
 // The most that a number of a report may be: 18 digits.
 pub const MOST_TOTAL: u64 = 999_999_999_999_999_999;
 
-// The places of the largest sizes.
+// The places of the largest sizes, in C's list of sixteen, as specs/Totals has them.
 #[tactic(auto, unfolding(crate::specs::Totals::largest_at))]
 fn largest_at(i: usize) -> bool
     ensures { result ≡ largest_at i }
