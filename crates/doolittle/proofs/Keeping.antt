@@ -1,19 +1,20 @@
 -- The rows in their one table, as one row after another is written. Assumes nothing.
 --   row_put                         the rows, one of them replaced
+--   zero_rows, shape_put            24 rows of 25 places: before anything is written, and with one row replaced
 --   kept_none, kept_put, kept_then  what a function leaves as it was: nothing written, one row replaced, one step after another
 --   column_more                     a column of the rows, written downwards, one number more
 --   rows_kept                       the first rows of a table stay its first rows
-use mathlib.Core.Path.{◌≡◌, refl, sym, ◌∙◌, subst}
+use mathlib.Core.Path.{◌≡◌, refl, sym, ◌∙◌, ap, subst}
 use mathlib.Core.List.{List, []}
 use Prim.Native.Nat.{ℕ, suc, ◌+◌, ◌≤◌, ◌<◌}
 use native.Mathlib.Decide.{ℕ_discrete}
 use native.Mathlib.Omega.{arith}
 use borrow.Author.Count.{below_more}
-use lib.ListN.{length, set, length-set}
+use lib.ListN.{length, set, replicate, length-set, length-replicate, get_or-replicate}
 use lib.Seq.{get_or-set_same, get_or-set_other}
 use lib.IntN.{ℤ, pos}
 use Rattle.doolittle.specs.Table.{Table, at}
-use Rattle.doolittle.specs.Inner.{From, Before, Kept, Rows, row_at, cell}
+use Rattle.doolittle.specs.Inner.{From, Before, Shaped, Kept, Rows, row_at, cell}
 
 module _ (rows : List (List ℤ)) where
   module _ (g : ℕ) (row : List ℤ) (l : g < length rows) where
@@ -49,6 +50,19 @@ module _ (rows : List (List ℤ)) where
 
   pub kept_none : (j : ℕ) → Kept j rows rows
   kept_none j = record { long = refl; above = λ h l. refl; left = λ h k l. refl }
+
+-- ---- the shape
+pub zero_rows : Shaped (replicate 24 (replicate 25 (pos 0)))
+zero_rows = record {
+  long = length-replicate 24 (replicate 25 (pos 0));
+  wide = λ h l. ap length (get_or-replicate 24 h (replicate 25 (pos 0)) [] l) ∙ length-replicate 25 (pos 0);
+}
+
+pub shape_put : (rows : List (List ℤ)) → Shaped rows → (g : ℕ) (row : List ℤ) → g < 24 → length row ≡ 25 → Shaped (set rows g row)
+shape_put rows shape g row l w = record {
+  long = length-set rows g row ∙ shape.long;
+  wide = λ h k. row_cases rows g row (omega (arith, shape.long)) (λ h r. length r ≡ 25) w h (shape.wide h k);
+}
 
 pub kept_then : {j : ℕ} {rows next last : List (List ℤ)} → Kept j rows next → Kept j next last → Kept j rows last
 kept_then a b = record {

@@ -63,6 +63,11 @@ share t j k i = inverse_weight t i *ℤ t.a j i *ℤ t.a k i
 
 -- ---- the triangle: row j has the multipliers M(i,j) of the rows above it at places i before j, D(j,k) from place j on, and L(j) at the last place
 
+-- 24 rows of 25 places, which in the code is their type
+pub record Shaped (rows : List (List ℤ)) : Type 0 where
+  pub long : length rows ≡ 24
+  pub wide : (h : ℕ) → h < 24 → length (row_at rows h) ≡ 25
+
 -- the first j rows are as they were, and in every row the places before j
 pub record Kept (j : ℕ) (rows next : List (List ℤ)) : Type 0 where
   pub long : length next ≡ length rows
