@@ -19,20 +19,23 @@ use lib.ListN.{length, get_or, take, length-append}
 use lib.Seq.{take_all}
 use Rattle.text.specs.Fields.{letter_of}
 use Rattle.text.specs.Lines.{LF}
-use Rattle.text.specs.Parts.{bytes_before, parted}
+use Rattle.text.specs.Parts.{bytes_before, onto, parted}
+use Rattle.text.proofs.Parting.{onto_none}
 use Rattle.totals.specs.Totals.{largest_at, total, sum_of, report_of}
 use Rattle.totals.specs.Promise.{most_nets}
 use Rattle.totals.specs.Text.{report_text}
 use Rattle.totals.specs.Adding.{sum_text}
 use Rattle.totals.proofs.Totalling.{joined_sum, joined_most, sum_at_lem, report_length, report_at, report_joined}
 use Rattle.totals.proofs.ReadingReports.{counts_in, Report, sums_back}
-use Rattle.season.specs.Archive.{STOP, stops, onto, parts_in, parts_of}
+use Rattle.season.specs.Archive.{STOP, stops, parts_in, parts_of}
 use Rattle.season.specs.Share.{sum_to, share_of, left_share}
 use Rattle.season.specs.Season.{left_shares, shares_in, shares_of, season_reply, season_report}
 use Rattle.season.specs.Inner.{IsShare}
-use Rattle.season.proofs.Parting.{onto_none, onto_onto, parts_some, more_than_last}
-use Rattle.season.proofs.Sharing.{share_is, left_is}
+use Rattle.season.proofs.Parting.{onto_onto, parts_some, more_than_last}
+use Rattle.season.proofs.Sharing.{sum_ext, share_is, left_is}
 use Rattle.season.proofs.Joining.{unbroken_more, line_stop, line_other}
+use Rattle.std.proofs.Math.Nat.{min-le_left, min-le_right}
+use Rattle.std.proofs.lemmas.List.{length-take}
 use Rattle.std.specs.Prelude.{Ok}
 
 -- ---- an archive that ends with a full stop line: it is one, or one stands behind an LF
@@ -189,22 +192,7 @@ all_taken zero shares a = tt
 all_taken (suc n) [] a = tt
 all_taken (suc n) (share ∷ shares) a = (a.0, all_taken n shares a.1)
 
-take_most : (n : ℕ) (shares : List (List ℕ)) → length (take n shares) ≤ n
-take_most zero shares = omega arith
-take_most (suc n) [] = omega arith
-take_most (suc n) (share ∷ shares) = omega (arith, take_most n shares)
-
-take_fewer : (n : ℕ) (shares : List (List ℕ)) → length (take n shares) ≤ length shares
-take_fewer zero shares = omega arith
-take_fewer (suc n) [] = omega arith
-take_fewer (suc n) (share ∷ shares) = omega (arith, take_fewer n shares)
-
 -- ---- sums of counts
-sum_ext : (n : ℕ) (f g : ℕ → ℕ) → ((k : ℕ) → k < n → f k ≡ g k) → sum_to n f ≡ sum_to n g
-unfolding sum_to
-sum_ext zero f g e = refl
-sum_ext (suc n) f g e = ap₂ ◌+◌ (sum_ext n f g (λ k l. e k (omega arith))) (e n (omega arith))
-
 sum_add : (n : ℕ) (f g : ℕ → ℕ) → sum_to n (λ k. f k + g k) ≡ sum_to n f + sum_to n g
 unfolding sum_to
 sum_add zero f g = refl
@@ -276,7 +264,10 @@ most x n l h = omega arith
 
 module _ (archive : List ℕ) where
   few : length (reported archive) ≤ most_nets
-  few = take_most most_nets (shares_of archive)
+  few = rw (length-take most_nets (shares_of archive)) (min-le_left most_nets (length (shares_of archive)))
+
+  fewer : length (reported archive) ≤ length (shares_of archive)
+  fewer = rw (length-take most_nets (shares_of archive)) (min-le_right most_nets (length (shares_of archive)))
 
   pub report_most : (i : ℕ) → i < 16 → get_or (season_report (shares_of archive)) i 0 ≤ 2400000000000
   report_most i l =
@@ -294,6 +285,6 @@ pub printed_and_added : {first : List ℕ} → Closed first → (second : List �
 printed_and_added {first} c second l =
     let x = season_report (shares_of first) in let y = season_report (shares_of second) in
     sums_back x y (is_report first) (is_report second)
-    (nets_most (get_or x 0 0) (get_or y 0 0) (length (reported first)) (length (reported second)) _ _ (nets_reported first) (nets_reported second) (take_fewer most_nets (shares_of first)) (take_fewer most_nets (shares_of second)) l)
+    (nets_most (get_or x 0 0) (get_or y 0 0) (length (reported first)) (length (reported second)) _ _ (nets_reported first) (nets_reported second) (fewer first) (fewer second) l)
     (λ i h. omega (arith, sum_at_lem x y i h, joined_most i (get_or x i 0) (get_or y i 0), report_most first i h, report_most second i h))
     ∙ ap (λ (t : List ℕ). report_text t false) (sym (joined_report c second l).1)

@@ -23,7 +23,7 @@ use Rattle.adjustment.specs.Corrections.{V_of, R_of, u_of}
 use Rattle.adjustment.specs.Refusals.{counts_amiss, differs, lengths_amiss, coefficient_fault, misclosure_fault}
 use Rattle.adjustment.specs.Refusals.{conditions_reply as table_reply, rows_reply, correlates_reply, remainders_reply, corrections_reply, solution_reply, input_reply}
 use Rattle.adjustment.specs.Promise.{adjust_reply}
-use Rattle.text.specs.Parts.{on_first, parted}
+use Rattle.text.specs.Parts.{on_first, onto, parted}
 use Rattle.text.specs.Lines.{lines_of}
 use Rattle.text.specs.Fields.{fields_of, field_at, letter_of}
 use Rattle.text.specs.Numbers.{read_digits, unsigned_of, plus, minus, numeral_within}
@@ -33,7 +33,7 @@ use Rattle.network.specs.Net.{line_before, net_of, refused_as, zeros, lent_of, c
 use Rattle.listing.specs.File.{room, net_reply, file_reply}
 use Rattle.touched.specs.Shared.{count, shares_three}
 use Rattle.totals.specs.Totals.{largest_at, joined, total, report_of}
-use Rattle.season.specs.Archive.{STOP, stops, onto, parts_in, parts_of}
+use Rattle.season.specs.Archive.{STOP, stops, parts_in, parts_of}
 use Rattle.season.specs.Share.{counted_under, sum_to, most_to, alike, size_at, figures, net_figures, share_with, share_of, left_share}
 use Rattle.season.specs.Season.{left_shares, shares_in, shares_of, season_report}
 use Rattle.network.specs.Net.{kinds_of}

@@ -28,16 +28,17 @@ use Rattle.reply.specs.Reply.{Reply}
 use Rattle.reply.specs.Checks.{leaves}
 use Rattle.reply.proofs.Checking.{refuse_none, if_accepted}
 use Rattle.text.specs.Lines.{LF}
-use Rattle.text.specs.Parts.{bytes_before}
+use Rattle.text.specs.Parts.{bytes_before, onto}
+use Rattle.text.proofs.Parting.{onto_none}
 use Rattle.totals.specs.Totals.{report_of}
 use Rattle.totals.specs.Promise.{most_nets}
-use Rattle.season.specs.Archive.{stops, onto, parts_of}
+use Rattle.season.specs.Archive.{stops, parts_of}
 use Rattle.season.specs.Share.{share_of, long_share}
 use Rattle.season.specs.Season.{left_shares, shares_in, shares_of, season_reply, season_report}
 use Rattle.season.specs.Stream.{Stream, stream, place_at, counted_in, past_after, kept_in, kept_bytes, line_after, open_share, closes, taken, fed_byte, fed, ended_totals, ended_place, place_of, place_list, stream_of, lengths_amiss, most_at, total_amiss, line_amiss, totals_reply, place_reply, state_reply}
 use Rattle.season.specs.Promise.{begin_reply, Begins, Feeds, past_reply, end_reply, Ends}
 use Rattle.season.specs.declared.stream.Place.{Place}
-use Rattle.season.proofs.Parting.{onto_none, onto_onto, parts_left, stop_line, other_line}
+use Rattle.season.proofs.Parting.{onto_onto, parts_left, stop_line, other_line}
 use Rattle.season.proofs.Walking.{stop_byte, no_stop, stop_length}
 use Rattle.season.proofs.Sharing.{share_is, left_is, long_net}
 use Rattle.season.proofs.Leading.{shares_closed, shares_left, Leads, leads_none, leads_end, count_fits, count_full, turn_fits, turn_past, none_within}

@@ -1,5 +1,5 @@
 -- Laws of the parts of an archive, as a walk from line to line finds them. Assumes nothing.
---   onto_onto, onto_none, onto_length        bytes in front of the first part
+--   onto_onto, onto_length                   bytes in front of the first part
 --   more_than_last                           a line that others follow is not the last
 --   parts_some                               an archive has a part: its nets, and what is left, be it nothing
 --   parts_left                               bytes without an LF are left
@@ -14,16 +14,11 @@ use native.Mathlib.Omega.{arith}
 use lib.Dec.{eqb}
 use lib.ListN.{length, take, drop}
 use Rattle.text.specs.Lines.{LF}
-use Rattle.text.specs.Parts.{bytes_before, place_from, on_first, parted}
+use Rattle.text.specs.Parts.{bytes_before, place_from, on_first, onto, parted}
 use Rattle.text.proofs.Parting.{parts_more, parts_last}
-use Rattle.season.specs.Archive.{stops, onto, if_last, parts_in, parts_of}
+use Rattle.season.specs.Archive.{stops, if_last, parts_in, parts_of}
 
 -- ---- bytes in front
-pub onto_none : (parts : List (List ℕ)) → onto [] parts ≡ parts
-unfolding onto
-onto_none [] = refl
-onto_none (part ∷ parts) = refl
-
 pub onto_onto : (a b : List ℕ) (parts : List (List ℕ)) → onto a (onto b parts) ≡ onto (a ++ b) parts
 unfolding onto
 onto_onto a b [] = refl

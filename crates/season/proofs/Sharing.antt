@@ -1,5 +1,6 @@
 -- The share of one net: what `net` needs to make it, and what is known of it. Assumes nothing.
 --   under_is                         one net under its number
+--   sum_ext                          equal terms, equal sums
 --   sum_none, sum_more, sum_most     the sum of the sizes, for a loop; at most 1,000,000 for each
 --   most_none, most_more, most_most  the largest size, for a loop; at most what each is
 --   size_most                        the size of one condition's misclosure
@@ -187,7 +188,7 @@ modest_figures kinds w a m n s =
     most kind = omega (arith, most_most (length w) 1000000 (size_at kind kinds w) (size kind))
 
 -- ---- one net under one number
-sum_ext : (n : ℕ) (f g : ℕ → ℕ) → ((i : ℕ) → i < n → f i ≡ g i) → sum_to n f ≡ sum_to n g
+pub sum_ext : (n : ℕ) (f g : ℕ → ℕ) → ((i : ℕ) → i < n → f i ≡ g i) → sum_to n f ≡ sum_to n g
 unfolding sum_to
 sum_ext zero f g e = refl
 sum_ext (suc n) f g e = ap₂ (λ (x y : ℕ). x + y) (sum_ext n f g (λ i l. e i (omega arith))) (e n (omega arith))

@@ -15,10 +15,11 @@ use lib.Seq.{take-add, take-suc, drop-drop, length-take-le}
 use Rattle.exact.proofs.Searching.{not_both}
 use Rattle.text.specs.Fields.{letter_of}
 use Rattle.text.specs.Lines.{LF}
-use Rattle.text.specs.Parts.{bytes_before, place_from}
-use Rattle.season.specs.Archive.{STOP, stops, onto, parts_of}
+use Rattle.text.specs.Parts.{bytes_before, place_from, onto}
+use Rattle.text.proofs.Parting.{onto_none}
+use Rattle.season.specs.Archive.{STOP, stops, parts_of}
 use Rattle.season.specs.Inner.{NextStop}
-use Rattle.season.proofs.Parting.{onto_none, onto_onto, parts_left, stop_line, other_line}
+use Rattle.season.proofs.Parting.{onto_onto, parts_left, stop_line, other_line}
 
 -- ---- a full stop line
 pub stop_byte : (line : List ℕ) → length line ≡ 1 → stops line ≡ eqb (get_or line 0 0) STOP

@@ -2,7 +2,7 @@
 use Rattle.std.specs.Prelude.{Bool, cond, List, [], ◌∷◌, ◌++◌, ℕ, eqb}
 use Rattle.text.specs.Fields.{letter_of}
 use Rattle.text.specs.Lines.{LF}
-use Rattle.text.specs.Parts.{parted}
+use Rattle.text.specs.Parts.{onto, parted}
 
 abbrev pub STOP : ℕ
 STOP = 46
@@ -10,11 +10,6 @@ STOP = 46
 -- a line, without its LF, that is a single full stop
 unfoldable pub stops : List ℕ → Bool
 stops line = eqb (letter_of line) STOP
-
--- bytes in front of the first part
-unfoldable pub onto : List ℕ → List (List ℕ) → List (List ℕ)
-onto bytes [] = []
-onto bytes (part ∷ parts) = (bytes ++ part) ∷ parts
 
 abbrev pub if_last : {A : Type 0} → List (List ℕ) → A → A → A
 if_last [] last more = last

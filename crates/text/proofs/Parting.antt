@@ -4,6 +4,7 @@
 --   found_or, rest_from                    what std's search answers, or the whole length; a text from a start on, or from its end
 --   parts_more                             the parts from a start: the one there, and those after the byte that ends it
 --   parts_dropped, parts_last              the parts of a text without the byte: none, or the text itself
+--   onto_none                              no bytes in front of the first part
 --   begins_all, begins_short               a text begins with no word's end; and with no word that goes on behind it
 --   begins_more, begins_other              one byte more of the word, by what stands there in the text
 --   begins_is                              a text begins with a word, as std's test says it
@@ -31,7 +32,7 @@ use lib.Dec.{eqb, ltb}
 use lib.ListN.{length, get_or, get_or-eq_default, take, drop, drop_of_length-le, length-drop}
 use lib.Seq.{drop-cons, drop-drop, get_or-drop, take_all, take-nil}
 use Rattle.exact.proofs.Searching.{not_both}
-use Rattle.text.specs.Parts.{bytes_before, place_from, on_first, parted, begins}
+use Rattle.text.specs.Parts.{bytes_before, place_from, on_first, onto, parted, begins}
 
 -- ---- the search
 module _ (byte : ℕ) (s : List ℕ) (i : ℕ) where
@@ -134,6 +135,11 @@ module _ (byte : ℕ) where
   unfolding parted bytes_before
   parts_last [] l = refl
   parts_last (x ∷ xs) l = last_step x xs (eqb x byte) (parts_last xs) l
+
+pub onto_none : (parts : List (List ℕ)) → onto [] parts ≡ parts
+unfolding onto
+onto_none [] = refl
+onto_none (part ∷ parts) = refl
 
 -- ---- a word that a text begins with
 module _ (word text : List ℕ) (i : ℕ) where

@@ -1,5 +1,5 @@
 -- Where a byte first stands in a text, the parts into which it parts the text, and whether the text begins with a word.
-use Rattle.std.specs.Prelude.{Bool, true, false, cond, List, [], ◌∷◌, ℕ, suc, ◌+◌, drop, eqb}
+use Rattle.std.specs.Prelude.{Bool, true, false, cond, List, [], ◌∷◌, ◌++◌, ℕ, suc, ◌+◌, drop, eqb}
 
 -- how many bytes stand before the first `byte`; all of them, where there is none
 unfoldable pub bytes_before : ℕ → List ℕ → ℕ
@@ -19,6 +19,11 @@ on_first b (l ∷ ls) = (b ∷ l) ∷ ls
 unfoldable pub parted : ℕ → List (List ℕ) → List ℕ → List (List ℕ)
 parted byte end [] = end
 parted byte end (b ∷ bs) = cond (eqb b byte) ([] ∷ parted byte end bs) (on_first b (parted byte end bs))
+
+-- bytes in front of the first part
+unfoldable pub onto : List ℕ → List (List ℕ) → List (List ℕ)
+onto bytes [] = []
+onto bytes (part ∷ parts) = (bytes ++ part) ∷ parts
 
 unfoldable pub begins : (word text : List ℕ) → Bool
 begins [] text = true

@@ -1,6 +1,6 @@
 -- The stream of reports answers what the rule says of the whole text, whatever parts it comes in. Assumes nothing.
 --   cut_more               a line's first 64 bytes, with one more
---   onto, onto_none, onto_more, some_part    bytes in front of a text's first line; every text has a line, if only an empty one behind its last LF
+--   onto_more, some_part   bytes in front of a text's first line; every text has a line, if only an empty one behind its last LF
 --   lines_in, lines_on_lem      a text's lines; a line is read, and then those after it
 --   by_lines, whole_text   byte by byte and line by line are the same
 --   bytes_joined, parts_joined               bytes and more bytes, and any parts, are all of them joined
@@ -16,9 +16,10 @@ use borrow.Author.Tests.{ltb-true, ltb-false, eqb-true}
 use lib.Dec.{eqb, ltb}
 use lib.ListN.{length, length-append}
 use lib.Seq.{length-take-le, take-append-le, take_all, append_snoc}
-use Rattle.text.specs.Parts.{on_first, parted}
+use Rattle.text.specs.Parts.{on_first, onto, parted}
 use Rattle.text.specs.Lines.{LF}
 use Rattle.text.specs.Written.{line_end}
+use Rattle.text.proofs.Parting.{onto_none}
 use Rattle.totals.specs.Adding.{Stream, cut, lengthened, after_line, after_lines, after_byte, after_bytes, after_parts, none_read, answer_of, sum_text, stream_of}
 use Rattle.totals.specs.declared.adding.Tally.{Tally}
 use Rattle.totals.specs.declared.adding.Adding.{Adding}
@@ -38,16 +39,6 @@ cut_more line b = by_length (ltb (length line) 64) refl
         rw (length-take-le 64 line l) (sym (take-append-le 64 line (b ∷ []) l))
 
 -- ---- a text's lines
--- bytes in front of the first
-unfoldable onto : List ℕ → List (List ℕ) → List (List ℕ)
-onto begun [] = []
-onto begun (line ∷ lines) = (begun ++ line) ∷ lines
-
-onto_none : (lines : List (List ℕ)) → onto [] lines ≡ lines
-unfolding onto
-onto_none [] = refl
-onto_none (line ∷ lines) = refl
-
 onto_more : (begun : List ℕ) (b : ℕ) (lines : List (List ℕ)) → onto (begun ++ (b ∷ [])) lines ≡ onto begun (on_first b lines)
 unfolding onto on_first
 onto_more begun b [] = refl

@@ -1,5 +1,5 @@
 -- `totals::add_reports` meets its contract. Assumes nothing.
-use Rattle.std.proofs.Common.{◌≡◌, sym, ◌∙◌, ap, ap₂, List, ℕ, ◌+◌, ◌≤◌, length, get_or, arith}
+use Rattle.std.proofs.Common.{◌≡◌, sym, ◌∙◌, ap₂, arith}
 use Rattle.std.proofs.lemmas.Result.{err_from_is_err_and}
 use Rattle.reply.specs.declared.Refusal.TheVariants.{Count, Nets}
 use Rattle.totals.specs.Totals.{sum_of}
