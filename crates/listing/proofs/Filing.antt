@@ -36,11 +36,12 @@ use Rattle.network.specs.Net.{Net, net_of, net_from, formed_reply, rows_of, misc
 use Rattle.network.specs.declared.lists.NetTable.{NetTable}
 use Rattle.network.proofs.Bounding.{scan_bounds}
 use Rattle.network.proofs.Passing.{file_passed}
+use Rattle.network.proofs.Tables.{misclosures_long}
 use Rattle.listing.specs.declared.Sheet.{Sheet}
 use Rattle.listing.specs.Listing.{room_of}
 use Rattle.listing.specs.File.{table_in, room, net_reply, net_answers, file_reply, answers_listing, answers_errors, answers_on, table_listing, net_listing, file_listing, FileDemand3, FileWithinMinute, FileMeanError, adjust_file_reply, AdjustsFile, listing_of, listing_in}
 use Rattle.listing.proofs.Composing.{plain_fits, sheet_most}
-use Rattle.listing.proofs.Tabling.{answers_errors_lem, misclosures_length, file_refused, file_reply_lem, file_listing_lem, answers_most}
+use Rattle.listing.proofs.Tabling.{answers_errors_lem, file_refused, file_reply_lem, file_listing_lem, answers_most}
 use Rattle.std.specs.Prelude.{Ok, Err, IsOk}
 
 -- any REFUSED line has room too
@@ -88,7 +89,7 @@ module _ (file : List ℕ) where
   unfolding file_reply net_answers net_from table_in
   answers_short e =
       let scanned = (both_accepted (scan_reply file) (net_reply net) e).0 in let r = scan_bounds file scanned in let p = file_passed file scanned in
-      let n = misclosures_length net.directions net.q net.conditions in
+      let n = misclosures_long net.directions net.q net.conditions in
       answers_most (net_answers net)
       (omega (arith, r.m, p.directions.even, tabulate_length (length net.q) (u_of (table_in net) (K (table_in net)))))
       (omega (arith, r.n, n, tabulate_length (length (misclosures_of net.directions net.q net.conditions)) (K (table_in net))))

@@ -8,7 +8,7 @@ use mathlib.Core.Path.{◌≡◌, refl, sym, ◌∙◌, ap, subst}
 use mathlib.Core.Bool.{false, cond, ◌||◌}
 use mathlib.Core.List.{List, [], ◌∷◌, ◌++◌}
 use Prim.Native.Nat.{ℕ, zero, suc, ◌+◌, ◌*◌, ◌<◌, ◌≤◌}
-use native.Mathlib.Nat.{suc-mul, zero-mul, zero-add, suc-add}
+use native.Mathlib.Nat.{suc-mul, zero-mul, zero-add}
 use borrow.Author.Tests.{ltb-false, le-ltb, eq-eqb}
 use native.Mathlib.Omega.{arith}
 use lib.Dec.{ltb}
@@ -34,13 +34,9 @@ use Rattle.network.specs.Net.{Condition, Net, lent_of, zeros, condition_reply, f
 use Rattle.listing.specs.File.{room, table_in, net_reply, file_reply}
 use Rattle.network.proofs.Bounding.{Room, scan_bounds}
 use Rattle.network.proofs.Passing.{Passed, Checked, directions_pass, file_passed, scan_checks, four_and_five}
-use Rattle.listing.proofs.Tabling.{misclosures_length}
+use Rattle.network.proofs.Tables.{misclosures_long}
+use Rattle.std.proofs.lemmas.List.{get_or-append-add}
 use Rattle.std.specs.Prelude.{Ok, Err}
-
--- ---- lists one after the other
-append_right : (xs ys : List ℤ) (i : ℕ) → get_or (xs ++ ys) (length xs + i) (pos 0) ≡ get_or ys i (pos 0)
-append_right [] ys i = rw (zero-add i)
-append_right (x ∷ xs) ys i = rw (suc-add (length xs) i) (append_right xs ys i)
 
 module _ (ds q : List ℤ) where
   abbrev m : ℕ
@@ -104,7 +100,7 @@ module _ (ds q : List ℤ) where
       each zero h i l = rw (zero-mul m, zero-add i, get_or-append (row_of ds q c) (rows_of ds q cs) (pos 0) i (omega (arith, l, w.long))) (w.row i l)
       each (suc j) h i l =
           let place : suc j * m + i ≡ length (row_of ds q c) + (j * m + i) = omega (arith, suc-mul j m, w.long) in
-          rw (place, append_right (row_of ds q c) (rows_of ds q cs) (j * m + i)) (a.rows j (omega arith) i l)
+          rw (place, get_or-append-add (row_of ds q c) (rows_of ds q cs) (j * m + i) (pos 0)) (a.rows j (omega arith) i l)
 
       every : (j : ℕ) → j < suc (length cs) → nat_abs (get_or (misclosure_of ds q c ∷ misclosures_of ds q cs) j (pos 0)) ≤ 1000000
       every zero h = w.closing
@@ -142,7 +138,7 @@ module _ (net : Net) where
     all = all_in_range net.directions net.q 1 net.conditions k e
 
     closings_long : length closings ≡ n
-    closings_long = misclosures_length net.directions net.q net.conditions
+    closings_long = misclosures_long net.directions net.q net.conditions
 
     counts : counts_amiss (length net.directions) (length closings) ≡ false
     unfolding counts_amiss
@@ -214,4 +210,4 @@ module _ (file : List ℕ) (e : scan_reply file ≡ Ok tt) where
   lone_file h one =
       rw (e, h)
       (lone_table given.directions given.q (rows given) (closings given) (lent given) (file_passes h)
-      (misclosures_length given.directions given.q given.conditions ∙ one))
+      (misclosures_long given.directions given.q given.conditions ∙ one))

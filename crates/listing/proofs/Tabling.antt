@@ -1,12 +1,11 @@
 -- Laws of the reply to a condition table and to a net, and of their listings, by what `adjustment` and the conditions have answered. Assumes nothing.
 --   answers_errors_lem                              the errors of a table's answers
 --   answered, errors_accepted, table_accepted   the reply to a table; that an accepted one's errors are not refused; and its listing
---   misclosures_length                          a misclosure for each condition
 --   file_refused, file_reply_lem, file_listing_lem      the reply to a file whose table is refused, and to one whose is not; its listing
 --   answers_most                                the ADJ, V and K lines have no more than 6,560 bytes
 use mathlib.Core.Path.{◌≡◌, refl, sym, ◌∙◌, ap, subst}
-use mathlib.Core.List.{List, [], ◌∷◌, ◌++◌}
-use Prim.Native.Nat.{ℕ, suc, ◌≤◌}
+use mathlib.Core.List.{List, [], ◌++◌}
+use Prim.Native.Nat.{ℕ, ◌≤◌}
 use native.Mathlib.Omega.{arith}
 use lib.IntN.{ℤ}
 use lib.ListN.{length}
@@ -27,8 +26,9 @@ use Rattle.precision.specs.Promise.{errors_reply}
 use Rattle.precision.proofs.Adjusting.{table_admitted}
 use Rattle.text.specs.Lines.{lines_of}
 use Rattle.network.specs.Scan.{scan_reply}
-use Rattle.network.specs.Net.{Condition, Net, net_of, zeros, formed_reply, rows_of, misclosures_of, table_reply, Tabled}
+use Rattle.network.specs.Net.{Net, net_of, zeros, formed_reply, rows_of, misclosures_of, table_reply, Tabled}
 use Rattle.network.specs.declared.lists.NetTable.{NetTable}
+use Rattle.network.proofs.Tables.{misclosures_long}
 use Rattle.listing.specs.declared.Sheet.{Sheet}
 use Rattle.listing.specs.Listing.{on_sheet}
 use Rattle.listing.specs.File.{table_in, room, net_reply, net_answers, file_reply, answers_listing, answers_errors, answers_on, table_listing, net_listing, file_listing}
@@ -66,11 +66,6 @@ module _ (ds q a w : List ℤ) {given : Result Adjusted Refusal} (p : GivesAnswe
         ∙ ended_by sheet (answers_listing answers) (answers_errors q answers)
 
 -- ---- the net
-pub misclosures_length : (directions q : List ℤ) (cs : List Condition) → length (misclosures_of directions q cs) ≡ length cs
-unfolding misclosures_of
-misclosures_length directions q [] = refl
-misclosures_length directions q (c ∷ cs) = ap suc (misclosures_length directions q cs)
-
 -- where two replies are one after the other, and a third after both
 both_refused : (a b c : Reply) (why : Refusal) → a and_then b ≡ Err why → a and_then (b and_then c) ≡ Err why
 both_refused (Ok _) (Ok _) c why e = never why (sym e)
@@ -102,7 +97,7 @@ module _ (file : List ℕ) where
     file_reply_lem =
         to_net (λ x g r c. adjust_reply x g r c (room (length x) (length c)))
         ∙ ap (λ (n : ℕ). adjust_reply net.directions net.q (rows_of net.directions net.q net.conditions) (misclosures_of net.directions net.q net.conditions) (room (length net.directions) n))
-        (misclosures_length net.directions net.q net.conditions)
+        (misclosures_long net.directions net.q net.conditions)
         ∙ sym (third (scan_reply file) (formed_reply net.directions net.q 1 net.conditions) _ e)
 
     pub file_listing_lem : (sheet : Sheet) → table_listing sheet t.directions.now t.q.now t.a.now t.w.now ≡ file_listing sheet file

@@ -1,5 +1,6 @@
 -- The condition table of a file, from its directions and conditions. Assumes nothing.
 --   directions_long              as many directions as were read
+--   misclosures_long             a misclosure for each condition
 --   table_refused                the scan has refused the file
 --   n_most, each_long, rows_most there is room for its conditions and for their rows; each has a misclosure and a kind
 --   table_formed, table_failed   its directions have been read and its conditions formed, or refused
@@ -29,7 +30,7 @@ use Rattle.std.specs.Prelude.{Result, Ok, Err, IsOk}
 pub directions_long : {file : List ℕ} {directions q : List ℤ} {m next : ℕ} → Directed file directions q m next → length (take m directions) ≡ m
 directions_long {directions = directions} {m = m} d = length-take-le m directions (omega (arith, d.long, d.most))
 
-misclosures_long : (directions q : List ℤ) (cs : List Condition) → length (misclosures_of directions q cs) ≡ length cs
+pub misclosures_long : (directions q : List ℤ) (cs : List Condition) → length (misclosures_of directions q cs) ≡ length cs
 unfolding misclosures_of
 misclosures_long directions q [] = refl
 misclosures_long directions q (c ∷ cs) = ap suc (misclosures_long directions q cs)

@@ -40,12 +40,12 @@ use Rattle.text.specs.Lines.{lines_of}
 use Rattle.network.specs.Scan.{scan_reply}
 use Rattle.network.specs.Net.{Net, net_of, net_from, formed_reply, table_reply}
 use Rattle.network.proofs.Passing.{file_passed}
+use Rattle.network.proofs.Tables.{misclosures_long}
 use Rattle.listing.specs.declared.Sheet.TheVariants.{Plain}
 use Rattle.listing.specs.Listing.{accepted_listing, on_sheet}
 use Rattle.listing.specs.File.{table_in, net_reply, net_answers, file_reply, answers_listing, answers_on, net_listing, file_listing}
 use Rattle.listing.proofs.Filing.{file_demand3, file_within_minute}
 use Rattle.listing.proofs.Following.{file_replies}
-use Rattle.listing.proofs.Tabling.{misclosures_length}
 use Rattle.std.specs.Prelude.{Result, Ok, Err}
 use Rattle.sheet.specs.declared.Opinion.{Opinion}
 use Rattle.sheet.specs.declared.Opinion.TheVariants.{Yes}
@@ -99,7 +99,7 @@ module _ (net : List ℕ) where
         let scanned = file_passed net (both_accepted (scan_reply net) (formed_reply given.directions given.q 1 given.conditions) e).0 in (
           omega (arith, passed.directions, scanned.total.0),
           passed.sound.m_most,
-          omega (arith, misclosures_length given.directions given.q given.conditions, scanned.total.1),
+          omega (arith, misclosures_long given.directions given.q given.conditions, scanned.total.1),
           passed.sound.n_most,
         )
 
