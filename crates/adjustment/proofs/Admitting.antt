@@ -22,7 +22,8 @@ use Rattle.exact.specs.Circle.{C}
 use Rattle.exact.specs.Outside.{outside}
 use Rattle.exact.proofs.Linear.{unknowns, orders, one_sided}
 use Rattle.exact.proofs.Order.{lt_false}
-use Rattle.exact.proofs.Searching.{all_failed, neither}
+use Rattle.exact.proofs.Searching.{all_failed}
+use Rattle.std.proofs.lemmas.Bool.{or_parts}
 use Rattle.reply.specs.declared.Refusal.{Refusal}
 use Rattle.reply.specs.declared.Refusal.TheVariants.{Count, OutOfRange, Coefficient, Misclosure}
 use Rattle.reply.specs.Reply.{Reply}
@@ -67,10 +68,10 @@ pub record Counts (m n : ℕ) : Type 0 where
 pub counts_known : (m n : ℕ) → counts_amiss m n ≡ false → Counts m n
 unfolding counts_amiss
 counts_known m n e =
-    let a = neither (ltb m 1) (ltb 64 m || (ltb n 1 || (ltb 24 n || ltb m n))) e in
-    let b = neither (ltb 64 m) (ltb n 1 || (ltb 24 n || ltb m n)) a.1 in
-    let c = neither (ltb n 1) (ltb 24 n || ltb m n) b.1 in
-    let d = neither (ltb 24 n) (ltb m n) c.1 in
+    let a = or_parts (ltb m 1) (ltb 64 m || (ltb n 1 || (ltb 24 n || ltb m n))) e in
+    let b = or_parts (ltb 64 m) (ltb n 1 || (ltb 24 n || ltb m n)) a.1 in
+    let c = or_parts (ltb n 1) (ltb 24 n || ltb m n) b.1 in
+    let d = or_parts (ltb 24 n) (ltb m n) c.1 in
     record { m_most = ltb-false 64 m b.0; n_least = ltb-false n 1 c.0; n_most = ltb-false 24 n d.0 }
 
 equal : (x y : ℕ) → not (eqb x y) ≡ false → x ≡ y
@@ -79,8 +80,8 @@ equal x y e = eqb-true x y (not-false (eqb x y) e)
 same_as : (count x y z : ℕ) → differs count x y z ≡ false → (x ≡ count) × (y ≡ count) × (z ≡ count)
 unfolding differs
 same_as count x y z e =
-    let a = neither (not (eqb x count)) (not (eqb y count) || not (eqb z count)) e in
-    let b = neither (not (eqb y count)) (not (eqb z count)) a.1 in
+    let a = or_parts (not (eqb x count)) (not (eqb y count) || not (eqb z count)) e in
+    let b = or_parts (not (eqb y count)) (not (eqb z count)) a.1 in
     (equal x count a.0, equal y count b.0, equal z count b.1)
 
 pub record Lengths (m n q a v u adjusted k r Q : ℕ) : Type 0 where
@@ -92,9 +93,9 @@ pub record Lengths (m n q a v u adjusted k r Q : ℕ) : Type 0 where
 pub lengths_known : (m n q a v u adjusted k r Q : ℕ) → lengths_amiss m n q a v u adjusted k r Q ≡ false → Lengths m n q a v u adjusted k r Q
 unfolding lengths_amiss
 lengths_known m n q a v u adjusted k r Q e =
-    let f = neither (not (eqb q m)) (not (eqb a (n * m)) || (differs m v u adjusted || differs n k r Q)) e in
-    let g = neither (not (eqb a (n * m))) (differs m v u adjusted || differs n k r Q) f.1 in
-    let h = neither (differs m v u adjusted) (differs n k r Q) g.1 in
+    let f = or_parts (not (eqb q m)) (not (eqb a (n * m)) || (differs m v u adjusted || differs n k r Q)) e in
+    let g = or_parts (not (eqb a (n * m))) (differs m v u adjusted || differs n k r Q) f.1 in
+    let h = or_parts (differs m v u adjusted) (differs n k r Q) g.1 in
     record { of_q = equal q m f.0; of_a = equal a (n * m) g.0; by_direction = same_as m v u adjusted h.0; by_condition = same_as n k r Q h.1 }
 
 -- ---- a direction and its q in range
@@ -104,15 +105,15 @@ pub record InRange (direction q : ℤ) : Type 0 where
   pub q_most : nat_abs q ≤ 10
 
 pub weight_known : (q : ℤ) → weight_out_of_range q ≡ false → (pos 1 ≤ℤ q) × (nat_abs q ≤ 10)
-weight_known q e = let h = neither (lt_z q (pos 1)) (lt_z (pos 10) q) e in (lt_false h.0 refl refl, small q (lt_false h.0 refl refl) (lt_false h.1 refl refl))
+weight_known q e = let h = or_parts (lt_z q (pos 1)) (lt_z (pos 10) q) e in (lt_false h.0 refl refl, small q (lt_false h.0 refl refl) (lt_false h.1 refl refl))
   where
     small : (q : ℤ) → pos 1 ≤ℤ q → q ≤ℤ pos 10 → nat_abs q ≤ 10
     small q a b = let v = unknowns (q ∷ []) in omega (arith, orders, one_sided)
 
 in_range : (d q : ℤ) → out_of_range d q ≡ false → InRange d q
 in_range d q e =
-    let f = neither (outside (pos 0) (C -ℤ pos 1) d) (weight_out_of_range q) e in
-    let g = neither (lt_z d (pos 0)) (lt_z (C -ℤ pos 1) d) f.0 in
+    let f = or_parts (outside (pos 0) (C -ℤ pos 1) d) (weight_out_of_range q) e in
+    let g = or_parts (lt_z d (pos 0)) (lt_z (C -ℤ pos 1) d) f.0 in
     let w = weight_known q f.1 in
     record { size = within d (lt_false g.0 refl refl) (lt_false g.1 refl refl); q_least = w.0; q_most = w.1 }
   where
@@ -130,7 +131,7 @@ sound_table ds qs cs ws c q a d e =
     let t = table_of qs cs ws in
     let range : (i : ℕ) → i < t.m → InRange (at ds i) (at qs i) = λ i l. directions_known ds qs d i (omega (arith, q)) in
     let sound : (j : ℕ) → j < t.n → (coefficient_fault t j ≡ false) × (misclosure_fault t j ≡ false) =
-    λ j l. neither (coefficient_fault t j) (misclosure_fault t j) (none_refused t.n (λ j. coefficient_fault t j || misclosure_fault t j) (λ j. cond (coefficient_fault t j) (Coefficient (j + 1)) (Misclosure (j + 1))) e j l) in
+    λ j l. or_parts (coefficient_fault t j) (misclosure_fault t j) (none_refused t.n (λ j. coefficient_fault t j || misclosure_fault t j) (λ j. cond (coefficient_fault t j) (Coefficient (j + 1)) (Misclosure (j + 1))) e j l) in
     record {
       m_most = subst (λ (m : ℕ). m ≤ 64) (sym q) c.m_most;
       n_most = c.n_most;

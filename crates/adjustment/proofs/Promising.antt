@@ -22,7 +22,7 @@ use lib.Signed.{◌≤ℤ◌, ◌<ℤ◌}
 use Rattle.exact.specs.Circle.{C}
 use Rattle.exact.specs.Outside.{outside}
 use Rattle.exact.proofs.Filling.{tabulate_at}
-use Rattle.exact.proofs.Searching.{neither}
+use Rattle.std.proofs.lemmas.Bool.{or_parts}
 use Rattle.reply.specs.declared.Refusal.{Refusal}
 use Rattle.reply.specs.declared.Refusal.TheVariants.{OutOfRange, WeakRow}
 use Rattle.reply.specs.Reply.{Reply}
@@ -131,7 +131,7 @@ module _ (ds qs cs ws : List ℤ) (lent : Answers) where
     pub accepted_weights : (i : ℕ) → i < t.m → weight_out_of_range (t.q i) ≡ false
     unfolding directions_reply
     accepted_weights i l =
-        (neither (outside (pos 0) (C -ℤ pos 1) (at ds i)) (weight_out_of_range (t.q i))
+        (or_parts (outside (pos 0) (C -ℤ pos 1) (at ds i)) (weight_out_of_range (t.q i))
         (none_refused (length ds) (fault_at ds qs) (λ i. OutOfRange (i + 1)) (in_ranges ds qs cs ws _ _ _ _ _ _ both.0).0 i (subst (λ (m : ℕ). i < m) (lengths_right ds qs cs ws _ _ _ _ _ _ both.0).of_q l))).1
 
     pub accepted_demand3 : Demand3 t (V_of t (K t)) (u_of t (K t)) (R_of t (K t)) (Q_of t (K t))

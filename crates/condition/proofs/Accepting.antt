@@ -15,7 +15,7 @@ use lib.Dec.{eqb}
 use lib.IntN.{ℤ, pos, neg_ℤ, nat_abs}
 use lib.ListN.{length, get_or, get_or-eq_default}
 use lib.Signed.{◌≤ℤ◌}
-use Rattle.exact.proofs.Searching.{neither}
+use Rattle.std.proofs.lemmas.Bool.{or_parts}
 use Rattle.exact.specs.Outside.{outside}
 use Rattle.exact.specs.Within.{Within}
 use Rattle.exact.proofs.Linear.{unknowns, linear, orders, one_sided, abs_by}
@@ -47,19 +47,19 @@ alike a b e = eqb-true a b (not-false (eqb a b) e)
 
 pub as_many_q : (m q : ℕ) → directions_miscounted m q ≡ false → q ≡ m
 unfolding directions_miscounted
-as_many_q m q e = alike q m (neither _ _ e).1
+as_many_q m q e = alike q m (or_parts _ _ e).1
 
 pub terms_counted : (kinds values d i k : List ℤ) → terms_miscounted (length kinds) (length values) (length d) (length i) (length k) ≡ false
     → Fields kinds values d i k
 unfolding terms_miscounted
 terms_counted kinds values d i k e =
     let n = length kinds in
-    let on_k = neither _ _ e in
-    let on-i = neither _ _ on_k.0 in
-    let on-d = neither _ _ on-i.0 in
-    let on_values = neither _ _ on-d.0 in
+    let on_k = or_parts _ _ e in
+    let on-i = or_parts _ _ on_k.0 in
+    let on-d = or_parts _ _ on-i.0 in
+    let on_values = or_parts _ _ on-d.0 in
     record {
-      few = ltb-false 12 n (neither _ _ on_values.0).1;
+      few = ltb-false 12 n (or_parts _ _ on_values.0).1;
       as_values = alike (length values) n on_values.1;
       as_d = alike (length d) n on-d.1;
       as_i = alike (length i) n on-i.1;
@@ -70,9 +70,9 @@ pub counted : (l : Lent) → counts_fault l ≡ false → Counts l
 unfolding directions_miscounted terms_miscounted
 counted l e =
     let n = length l.kinds in let m = length l.directions in
-    let parts = neither _ _ e in
-    let on-m = neither _ _ (neither _ _ parts.0).0 in
-    let on-n = neither _ _ (neither _ _ (neither _ _ (neither _ _ (neither _ _ parts.1).0).0).0).0 in
+    let parts = or_parts _ _ e in
+    let on-m = or_parts _ _ (or_parts _ _ parts.0).0 in
+    let on-n = or_parts _ _ (or_parts _ _ (or_parts _ _ (or_parts _ _ (or_parts _ _ parts.1).0).0).0).0 in
     record {
       some_directions = ltb-false m 1 on-m.0;
       few_directions = ltb-false 64 m on-m.1;
@@ -83,7 +83,7 @@ counted l e =
 
 -- ---- ranges
 pub not_outside : (low high z : ℤ) → outside low high z ≡ false → (low ≤ℤ z) × (z ≤ℤ high)
-not_outside low high z e = let r = neither _ _ e in (lt_false r.0 refl refl, lt_false r.1 refl refl)
+not_outside low high z e = let r = or_parts _ _ e in (lt_false r.0 refl refl, lt_false r.1 refl refl)
 
 pub number : (m : ℕ) (z : ℤ) → outside (pos 0) (pos m) z ≡ false → Number m z
 number m z e =
@@ -98,15 +98,15 @@ within_2000 z e =
 -- ---- a term
 module _ (m : ℕ) (t : Term) where
   ends : astray (pos m) t ≡ false → Ends m t
-  ends e = let r = neither _ _ e in record { i = number m t.i r.0; k = number m t.k r.1 }
+  ends e = let r = or_parts _ _ e in record { i = number m t.i r.0; k = number m t.k r.1 }
 
   side : side_fault (pos m) t ≡ false → SideTerm m t
   side e =
-      let on-ends = neither _ _ (neither _ _ e).0 in let on-d = neither _ _ on-ends.0 in
+      let on-ends = or_parts _ _ (or_parts _ _ e).0 in let on-d = or_parts _ _ on-ends.0 in
       record { value = (number 200000000 t.value on-d.0).high; d = within_2000 t.d on-d.1; ends = ends on-ends.1 }
 
   of_kind : (letter : Option Letter) → fault_of letter (pos m) t ≡ false → SoundOf letter m t
-  of_kind (Some P) e = ends (neither _ _ e).0
+  of_kind (Some P) e = ends (or_parts _ _ e).0
   of_kind (Some F) e = omega (arith, (number 1295999999 t.value e).high)
   of_kind (Some L) e = side e
   of_kind (Some R) e = side e
@@ -124,7 +124,7 @@ pub record Accepts (l : Lent) : Type 0 where
   pub terms : AllSound (length l.directions) (length l.kinds) (term l)
 
 direction_size : (direction q : ℤ) → out_of_range direction q ≡ false → nat_abs direction ≤ 1296000000
-direction_size direction q e = omega (arith, (number 1295999999 direction (neither _ _ e).0).high)
+direction_size direction q e = omega (arith, (number 1295999999 direction (or_parts _ _ e).0).high)
 
 directions_within : (directions q : List ℤ) → directions_reply directions q ≡ Ok tt → Within 1296000000 directions
 unfolding directions_reply

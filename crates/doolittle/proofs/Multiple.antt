@@ -19,7 +19,7 @@ use Rattle.exact.proofs.Identity.{letters, polynomials, ring_by}
 use Rattle.exact.proofs.Order.{from_size, mul_cancel, lt_yes}
 use Rattle.exact.proofs.Ring.{*ℤ_assoc, *ℤ_left_comm}
 use Rattle.exact.proofs.Rounding.{nearest_error}
-use Rattle.exact.proofs.Searching.{either}
+use Rattle.std.proofs.lemmas.Bool.{or_right}
 use Rattle.exact.proofs.Sum.{sum_ext, sum_mul}
 use Rattle.doolittle.specs.Table.{Table}
 use Rattle.doolittle.specs.Solution.{N, reduced, D, L, multiplier, carried, low_pivot, weak}
@@ -60,7 +60,7 @@ rounding_alone A B E h e = within (multiplier B A) (carried (multiplier B A) B) 
 
 -- a thousandfold that is below the entry is a low pivot
 low : (d E : ℤ) (b : ℕ) → pos 0 ≤ℤ E → 2000000 * nat_abs d ≤ b + 1000000 → b + 1000000 < 2000 * nat_abs E → low_pivot d E ≡ true
-low d E b h e f = either (lt_z d (pos 1)) (lt_z (pos 1000 *ℤ d) E) (lt_yes (pos 1000 *ℤ d) E (omega (arith, ints, abs_mul (pos 1000) d)))
+low d E b h e f = or_right (lt_z d (pos 1)) (lt_z (pos 1000 *ℤ d) E) (lt_yes (pos 1000 *ℤ d) E (omega (arith, ints, abs_mul (pos 1000) d)))
 
 -- ---- the entries of the first two rows, where c times condition 2 is d times condition 1
 regroup : (c q x y : ℤ) → c *ℤ (q *ℤ x *ℤ y) ≡ q *ℤ x *ℤ (c *ℤ y)

@@ -16,7 +16,8 @@ use lib.IntN.{ℤ, pos, nat_abs, ◌*ℤ◌}
 use lib.Signed.{◌≤ℤ◌, ◌<ℤ◌}
 use Rattle.std.proofs.lemmas.Int.{ints}
 use Rattle.exact.specs.First.{some_below}
-use Rattle.exact.proofs.Searching.{from_ext, from_none, neither, either}
+use Rattle.exact.proofs.Searching.{from_ext, from_none}
+use Rattle.std.proofs.lemmas.Bool.{or_parts, or_right}
 use Rattle.doolittle.specs.Solution.{multiplier, low_pivot, weak_row}
 use Rattle.doolittle.specs.Inner.{From}
 
@@ -34,11 +35,11 @@ module _ (n j : ℕ) (entry : ℤ) (d : ℕ → ℤ) (l : ℤ) where
 
   pub weak_by_constant : 4000000000 < nat_abs l → weak_row n j entry d l ≡ true
   unfolding weak_row
-  weak_by_constant h = either (large_d n j d) _ (rw (lt-ltb 4000000000 (nat_abs l) h))
+  weak_by_constant h = or_right (large_d n j d) _ (rw (lt-ltb 4000000000 (nat_abs l) h))
 
   pub weak_by_low : low_pivot (d j) entry ≡ true → weak_row n j entry d l ≡ true
   unfolding weak_row
-  weak_by_low h = either (large_d n j d) _ (either (ltb 4000000000 (nat_abs l)) _ (rw h))
+  weak_by_low h = or_right (large_d n j d) _ (or_right (ltb 4000000000 (nat_abs l)) _ (rw h))
 
   pub weak_by_multiplier : large_d n j d ≡ false → nat_abs l ≤ 4000000000 → low_pivot (d j) entry ≡ false → weak_row n j entry d l ≡ large_m n j d
   unfolding weak_row
@@ -57,9 +58,9 @@ pub record SoundRow (n j : ℕ) (entry : ℤ) (d : ℕ → ℤ) (l : ℤ) : Type
 pub sound_row : (n j : ℕ) (entry : ℤ) (d : ℕ → ℤ) (l : ℤ) → weak_row n j entry d l ≡ false → SoundRow n j entry d l
 unfolding weak_row
 sound_row n j entry d l e =
-    let a = neither (large_d n j d) (ltb 4000000000 (nat_abs l) || (low_pivot (d j) entry || large_m n j d)) e in
-    let b = neither (ltb 4000000000 (nat_abs l)) (low_pivot (d j) entry || large_m n j d) a.1 in
-    let c = neither (low_pivot (d j) entry) (large_m n j d) b.1 in
+    let a = or_parts (large_d n j d) (ltb 4000000000 (nat_abs l) || (low_pivot (d j) entry || large_m n j d)) e in
+    let b = or_parts (ltb 4000000000 (nat_abs l)) (low_pivot (d j) entry || large_m n j d) a.1 in
+    let c = or_parts (low_pivot (d j) entry) (large_m n j d) b.1 in
     record {
       coefficients = λ k h i. ltb-false 2560000000 (nat_abs (d k)) (from_none n j (λ k. ltb 2560000000 (nat_abs (d k))) a.0 k h i);
       constant = ltb-false 4000000000 (nat_abs l) b.0;

@@ -10,7 +10,6 @@
 --   Failed, failed_none, failed_more       the loop's invariant: all below i fail
 --   some_in_range, some_in_list, some_in_slice     `some_below` is what std's `any` answers over `0..n`, over a list, and over its places from j to n
 --   not_both            a test does not both hold and fail
---   neither, either     where one test or the other does not hold, neither does; where the second holds, one or the other does
 use mathlib.Core.Path.{◌≡◌, refl, sym, ◌∙◌, ap, subst}
 use mathlib.Core.Bool.{Bool, true, false, cond, ◌||◌, ◌&&◌}
 use Prim.Native.Nat.{ℕ, zero, suc, ◌+◌, ◌-◌, ◌<◌, ◌≤◌}
@@ -24,20 +23,13 @@ use Rattle.std.proofs.Common.{take, drop}
 use Rattle.std.proofs.lemmas.List.{length-take-le, length-drop, get_or-take, get_or-drop}
 use mathlib.Core.List.{List, [], ◌∷◌}
 use Rattle.std.specs.List.{list_any, range_with_len}
+use Rattle.std.proofs.lemmas.Bool.{or_right}
 use Rattle.std.proofs.lemmas.Bool.Decides.{nat_tests}
 use Rattle.exact.specs.First.{first, some_below}
 
 -- a test does not both hold and fail
 pub not_both : {A : Type 0} → true ≡ false → A
 not_both e = let z : ◌≡◌ {A = ℕ} 0 1 = cc in absurd (omega arith)
-
-pub neither : (a b : Bool) → (a || b) ≡ false → (a ≡ false) × (b ≡ false)
-neither true b h = not_both h
-neither false b h = (refl, h)
-
-pub either : (a b : Bool) → b ≡ true → (a || b) ≡ true
-either true b h = refl
-either false b h = h
 
 -- all numbers below i fail the test
 abbrev pub Failed : (ℕ → Bool) → ℕ → Type 0
@@ -149,7 +141,7 @@ first_either (suc n) p q = by_tests (p 0) refl (q 0) (first_either n (λ i. p (s
 
     by_tests : (a : Bool) → p 0 ≡ a → (b : Bool) → first n (λ i. p (suc i) || q (suc i)) ≡ first (first n (λ i. q (suc i))) (λ i. p (suc i))
         → cond (a || b) 0 (suc (first n (λ i. p (suc i) || q (suc i)))) ≡ first (cond b 0 (suc (first n (λ i. q (suc i))))) p
-    by_tests a e true rec = rw (either a true refl)
+    by_tests a e true rec = rw (or_right a true refl)
     by_tests a e false rec = by_first a e rec
 
 pub first_most : (n : ℕ) (p : ℕ → Bool) → first n p ≤ n

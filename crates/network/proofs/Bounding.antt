@@ -13,7 +13,7 @@ use borrow.Author.Tests.{leb-false}
 use lib.Dec.{eqb, ltb, leb}
 use lib.IntN.{pos}
 use lib.ListN.{length}
-use Rattle.exact.proofs.Searching.{neither}
+use Rattle.std.proofs.lemmas.Bool.{or_parts}
 use Rattle.reply.specs.declared.Refusal.{Refusal}
 use Rattle.reply.specs.declared.Refusal.TheVariants.{Malformed, Count, OutOfRange}
 use Rattle.reply.specs.Reply.{Reply}
@@ -97,13 +97,13 @@ module _ (place : ℕ) (c : Counts) (net : Net) (low : Low c) where
   -- a C line, which is not one too many
   heading_room : one_too_many c.n c.terms ≡ false → c.n < 24
   unfolding one_too_many
-  heading_room e = leb-false 24 c.n (neither (leb 24 c.n) _ e).0
+  heading_room e = leb-false 24 c.n (or_parts (leb 24 c.n) _ e).0
 
   line_room : (said : Option Record) → line_reply place c said ≡ Ok tt → (Low (counted c said) → Room (counted c said) net) → Room c (line_before said net)
   unfolding line_reply direction_reply angles_reply sides_reply term_reply counted line_before out_of_turn Fit
   line_room (Some (Direction number direction q)) e after =
       let turn = second_accepted (ltb 0 c.n) (out_of_turn c.m number) (Malformed place) (Count place) (refuse_if (out_of_range direction q) (OutOfRange place)) e in
-      let h = leb-false 64 c.m (neither (leb 64 c.m) (outside (pos (c.m + 1)) (pos (c.m + 1)) number) turn).0 in
+      let h = leb-false 64 c.m (or_parts (leb 64 c.m) (outside (pos (c.m + 1)) (pos (c.m + 1)) number) turn).0 in
       let r = after (record { m = omega (arith, h); n = low.n; terms = low.terms }) in
       record { m = omega (arith, r.m); n = r.n; terms = omega (arith, low.terms); fit = r.fit }
   line_room (Some (Angles target)) e after =

@@ -15,7 +15,7 @@ use borrow.Author.Tests.{ltb-false, lt-ltb, le-ltb, eq-eqb, eqb-true, eqb-false,
 use lib.Dec.{eqb, ltb, leb}
 use lib.IntN.{ℤ, pos, nat_abs}
 use lib.ListN.{length, get_or}
-use Rattle.exact.proofs.Searching.{neither}
+use Rattle.std.proofs.lemmas.Bool.{or_parts}
 use Rattle.exact.specs.Same.{same}
 use Rattle.reply.specs.declared.Refusal.TheVariants.{Malformed, Count, OutOfRange, Coefficient, Misclosure}
 use Rattle.reply.specs.Checks.{refuse_if, ◌and_then◌, figure_of, figure_reply}
@@ -146,9 +146,9 @@ end_passed : (c : Counts) → end_reply c ≡ Ok tt → Passed c (net_of [])
 unfolding end_reply end_fault net_of AllGood
 end_passed c e =
     let f = if_accepted (eqb c.m 0 || (eqb c.n 0 || (ltb c.m c.n || eqb c.terms 0))) (Count 0) e in
-    let m = neither (eqb c.m 0) (eqb c.n 0 || (ltb c.m c.n || eqb c.terms 0)) f in
-    let n = neither (eqb c.n 0) (ltb c.m c.n || eqb c.terms 0) m.1 in
-    let t = neither (ltb c.m c.n) (eqb c.terms 0) n.1 in
+    let m = or_parts (eqb c.m 0) (eqb c.n 0 || (ltb c.m c.n || eqb c.terms 0)) f in
+    let n = or_parts (eqb c.n 0) (ltb c.m c.n || eqb c.terms 0) m.1 in
+    let t = or_parts (ltb c.m c.n) (eqb c.terms 0) n.1 in
     record {
       directions = directions_none;
       done = λ h. refl;
@@ -176,7 +176,7 @@ module _ (place : ℕ) (c : Counts) (net : Net) (coherent : Coherent c) where
     directions = after.directions;
     done = λ h. after.done (omega arith);
     pending = good_none _ _;
-    some = λ h. at_least c.terms 0 (eqb-false c.terms 0 (other (ltb 0 c.n) (eqb c.terms 0) (lt-ltb 0 c.n h) (neither (leb 24 c.n) (ltb 0 c.n && eqb c.terms 0) f).1));
+    some = λ h. at_least c.terms 0 (eqb-false c.terms 0 (other (ltb 0 c.n) (eqb c.terms 0) (lt-ltb 0 c.n h) (or_parts (leb 24 c.n) (ltb 0 c.n && eqb c.terms 0) f).1));
     conditions = (
       record {
         some = omega (arith, after.some (omega arith));

@@ -11,7 +11,7 @@ use lib.ListN.{length}
 use lib.IntN.{ℤ, pos, nat_abs}
 use lib.Signed.{◌≤ℤ◌}
 use Rattle.exact.proofs.Linear.{unknowns, orders, one_sided}
-use Rattle.exact.proofs.Searching.{neither}
+use Rattle.std.proofs.lemmas.Bool.{or_parts}
 use Rattle.reply.specs.declared.Refusal.TheVariants.{Count, OutOfRange}
 use Rattle.reply.specs.Checks.{refuse_if}
 use Rattle.reply.proofs.Checking.{both_accepted, if_accepted, none_refused}
@@ -38,10 +38,10 @@ pub admitted : (us qs : List ℤ) (n : ℕ) → errors_reply us qs n ≡ Ok tt �
 unfolding errors_reply
 admitted us qs n e =
     let b = both_accepted (refuse_if (counts_amiss (length us) n || not (eqb (length qs) (length us))) (Count 0)) (ranges_reply us qs) e in
-    let f = neither (counts_amiss (length us) n) (not (eqb (length qs) (length us))) (if_accepted (counts_amiss (length us) n || not (eqb (length qs) (length us))) (Count 0) b.0) in
+    let f = or_parts (counts_amiss (length us) n) (not (eqb (length qs) (length us))) (if_accepted (counts_amiss (length us) n || not (eqb (length qs) (length us))) (Count 0) b.0) in
     let c = counts_known (length us) n f.0 in
     let each : (i : ℕ) → i < length us → (past_minute (at us i) ≡ false) × (weight_out_of_range (at qs i) ≡ false) =
-    λ i l. neither (past_minute (at us i)) (weight_out_of_range (at qs i)) (none_refused (length us) (out_of_range_at us qs) (λ i. OutOfRange (i + 1)) b.1 i l) in
+    λ i l. or_parts (past_minute (at us i)) (weight_out_of_range (at qs i)) (none_refused (length us) (out_of_range_at us qs) (λ i. OutOfRange (i + 1)) b.1 i l) in
     record {
       m_most = c.m_most;
       n_least = c.n_least;

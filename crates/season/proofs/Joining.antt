@@ -22,7 +22,8 @@ use borrow.Author.Tests.{eq-eqb, ne_eqb, lt-ltb, le-ltb, eqb-true, eqb-false}
 use lib.Dec.{eqb, ltb}
 use lib.ListN.{length, get_or, take, drop, length-append}
 use lib.Seq.{take_at, drop_at, take-suc-set, take-take, append_snoc}
-use Rattle.exact.proofs.Searching.{not_both, either}
+use Rattle.exact.proofs.Searching.{not_both}
+use Rattle.std.proofs.lemmas.Bool.{or_right}
 use Rattle.reply.specs.declared.Refusal.TheVariants.{Count, OutOfRange, Nets}
 use Rattle.reply.specs.Reply.{Reply}
 use Rattle.reply.specs.Checks.{leaves}
@@ -356,7 +357,7 @@ module _ (shares : List (List ℕ)) (s : Stream) where
 
   past_ends : s.place.past ≡ 1 → s.totals ≡ season_report shares → season_reply shares ≡ Err (Nets 100001) → Answers
   unfolding ended_totals ended_place past_reply
-  past_ends p t q = let b = either (eqb s.place.bytes 0) (eqb s.place.past 1) (eq-eqb s.place.past 1 p) in (rw b t, rw (b, p) (sym q))
+  past_ends p t q = let b = or_right (eqb s.place.bytes 0) (eqb s.place.past 1) (eq-eqb s.place.past 1 p) in (rw b t, rw (b, p) (sym q))
 
   pub stream_ends : Streams shares s [] → Answers
   stream_ends (going lines line p r l) = by_left lines line p r l (eqb (length (lines ++ line)) 0) refl

@@ -12,7 +12,8 @@ use native.Mathlib.Omega.{arith}
 use borrow.Author.Tests.{eq-eqb, ne_eqb, eqb-true, ltb-false, not-false}
 use lib.Dec.{eqb, ltb}
 use lib.ListN.{length, get_or}
-use Rattle.exact.proofs.Searching.{neither, not_both}
+use Rattle.exact.proofs.Searching.{not_both}
+use Rattle.std.proofs.lemmas.Bool.{or_parts}
 use Rattle.reply.specs.declared.Refusal.{Refusal}
 use Rattle.reply.specs.declared.Refusal.TheVariants.{Count, OutOfRange}
 use Rattle.reply.specs.Reply.{Reply}
@@ -66,7 +67,7 @@ roomy_totals totals e a =
 
 line_most : (line bytes : ℕ) → line_amiss line bytes ≡ false → line ≤ 2
 unfolding line_amiss
-line_most line bytes e = ltb-false 2 line (neither (ltb 2 line) _ e).0
+line_most line bytes e = ltb-false 2 line (or_parts (ltb 2 line) _ e).0
 
 -- a full stop is a byte
 stop_amiss : (line bytes : ℕ) → line_amiss line bytes ≡ false → line ≡ 1 → 1 ≤ bytes
@@ -101,7 +102,7 @@ module _ (held totals place : List ℕ) where
     pub lengths_known : (length held ≡ 65536) × (length totals ≡ 16) × (length place ≡ 3)
     unfolding lengths_amiss
     lengths_known =
-        let a = neither (not (eqb (length held) 65536)) _ e in let b = neither (not (eqb (length totals) 16)) _ a.1 in
+        let a = or_parts (not (eqb (length held) 65536)) _ e in let b = or_parts (not (eqb (length totals) 16)) _ a.1 in
         (eqb-true (length held) 65536 (not-false _ a.0), eqb-true (length totals) 16 (not-false _ b.0), eqb-true (length place) 3 (not-false _ b.1))
 
     -- what the checks of totals and place say, of the lists as they were lent or as arrays

@@ -15,7 +15,8 @@ use lib.Dec.{ltb, eqb}
 use lib.IntN.{ℤ, pos, nat_abs}
 use lib.ListN.{get_or}
 use Rattle.exact.specs.First.{first}
-use Rattle.exact.proofs.Searching.{first_ext, first_either, either}
+use Rattle.exact.proofs.Searching.{first_ext, first_either}
+use Rattle.std.proofs.lemmas.Bool.{or_right}
 use Rattle.doolittle.specs.Table.{Table, at}
 use Rattle.adjustment.specs.Corrections.{R_of, u_of, adjusted_of, Q_of}
 use Rattle.adjustment.proofs.Solving.{beyond, V_ext, u_ext}
@@ -39,7 +40,7 @@ module _ (t : Table) (direction : ℕ → ℤ) (listing : List ℕ) where
 
   pub other_conditions : (conditions_in listing ≡ n → ⊥) → disagreement t direction listing ≡ 1
   unfolding disagreement counts_differ
-  other_conditions e = rw (either (not (eqb (directions_in listing) m)) (not (eqb (conditions_in listing) n)) (rw (ne_eqb (conditions_in listing) n e)))
+  other_conditions e = rw (or_right (not (eqb (directions_in listing) m)) (not (eqb (conditions_in listing) n)) (rw (ne_eqb (conditions_in listing) n e)))
 
   module _ (em : directions_in listing ≡ m) (en : conditions_in listing ≡ n) where
     same_counts : counts_differ t listing ≡ false

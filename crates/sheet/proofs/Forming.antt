@@ -28,7 +28,8 @@ use borrow.Rule.Slice.PartMut.{mid_of, post_of, put_mid, same_len_mid, take_put}
 use Rattle.exact.specs.Same.{same}
 use Rattle.exact.specs.Outside.{outside}
 use Rattle.exact.proofs.Order.{lt_false, lt_le, from_one}
-use Rattle.exact.proofs.Searching.{Failed, failed_none, failed_more, neither, either, not_both}
+use Rattle.exact.proofs.Searching.{Failed, failed_none, failed_more, not_both}
+use Rattle.std.proofs.lemmas.Bool.{or_parts, or_right}
 use Rattle.reply.specs.declared.Refusal.{Refusal}
 use Rattle.reply.specs.declared.Refusal.TheVariants.{Sheet}
 use Rattle.reply.proofs.Checking.{refuse_at, refuse_none}
@@ -86,11 +87,11 @@ module _ (listing : List ℕ) where
 
 -- a count that is in range
 pub in_range : (high : ℕ) (z : ℤ) → outside (pos 1) (pos high) z ≡ false → (z ≡ pos (nat_abs z)) × (1 ≤ nat_abs z) × (nat_abs z ≤ high)
-in_range high (pos n) e = let b = neither (ltb n 1) (ltb high n) e in (refl, ltb-false n 1 b.0, ltb-false high n b.1)
+in_range high (pos n) e = let b = or_parts (ltb n 1) (ltb high n) e in (refl, ltb-false n 1 b.0, ltb-false high n b.1)
 in_range high (negsuc n) e = not_both e
 
 counted : (most : ℕ) (z : ℤ) → outside (pos 1) (pos most) z ≡ false → Number most z
-counted most z e = record { low = lt_le (from_one z (lt_false (neither (lt_z z (pos 1)) (lt_z (pos most) z) e).0 refl refl)); high = (in_range most z e).2 }
+counted most z e = record { low = lt_le (from_one z (lt_false (or_parts (lt_z z (pos 1)) (lt_z (pos most) z) e).0 refl refl)); high = (in_range most z e).2 }
 
 module _ (listing : List ℕ) where
   pub heading_refused : heading_amiss (heading_of listing) ≡ true → form_reply listing ≡ Err (Sheet 1)
@@ -114,7 +115,7 @@ module _ (listing : List ℕ) where
 
     pub second_refused : outside (pos 1) (pos 24) n ≡ true → form_reply listing ≡ Err (Sheet 1)
     unfolding heading_amiss
-    second_refused f = heading_refused (ap heading_amiss e ∙ either (outside (pos 1) (pos 64) m) (outside (pos 1) (pos 24) n) f)
+    second_refused f = heading_refused (ap heading_amiss e ∙ or_right (outside (pos 1) (pos 64) m) (outside (pos 1) (pos 24) n) f)
 
     module _ (f : outside (pos 1) (pos 64) m ≡ false) (g : outside (pos 1) (pos 24) n ≡ false) where
       pub directions_number : Number 64 m

@@ -13,7 +13,8 @@ use lib.IntN.{ℤ, nat_abs}
 use lib.ListN.{length}
 use Rattle.exact.specs.First.{some_below}
 use Rattle.exact.specs.Same.{same}
-use Rattle.exact.proofs.Searching.{Failed, all_failed, some_none, neither}
+use Rattle.exact.proofs.Searching.{Failed, all_failed, some_none}
+use Rattle.std.proofs.lemmas.Bool.{or_parts}
 use Rattle.exact.proofs.Sameness.{same_true, same_yes}
 use Rattle.reply.proofs.Checking.{both_accepted, figure_given}
 use Rattle.doolittle.specs.Table.{Table, at}
@@ -98,7 +99,7 @@ module _ (net listing : List ℕ) where
   unfolding direction_differs
   direction_says i e =
       let a = unlike (own_u listing i) (u_of t k i) in let b = unlike (own_adjusted listing i) (adjusted_of t k (at given.directions) i) in
-      let last = neither (a || b) (past_minute (u_of t k i)) e in let two = neither a b last.0 in
+      let last = or_parts (a || b) (past_minute (u_of t k i)) e in let two = or_parts a b last.0 in
       (alike (own_u listing i) (u_of t k i) two.0, alike (own_adjusted listing i) (adjusted_of t k (at given.directions) i) two.1, ltb-false 60000 (nat_abs (u_of t k i)) last.1)
 
   condition_says : (j : ℕ) → condition_differs t listing j ≡ false
@@ -106,7 +107,7 @@ module _ (net listing : List ℕ) where
   unfolding condition_differs
   condition_says j e =
       let a = unlike (own_r listing j) (R_of t k j) in let b = unlike (own_q listing j) (Q_of t k j) in
-      let last = neither (a || b) (ltb 50000000 (nat_abs (R_of t k j))) e in let two = neither a b last.0 in
+      let last = or_parts (a || b) (ltb 50000000 (nat_abs (R_of t k j))) e in let two = or_parts a b last.0 in
       (alike (own_r listing j) (R_of t k j) two.0, alike (own_q listing j) (Q_of t k j) two.1, ltb-false 50000000 (nat_abs (R_of t k j)) last.1)
 
   pub yes_says : opinion_of net listing ≡ Ok Yes → Says
@@ -120,7 +121,7 @@ module _ (net listing : List ℕ) where
       let sizes = first_line t.n (correlate_too_large listing) (t.m + 2) directions in
       let no-m = not (eqb (directions_in listing) t.m) in let no-n = not (eqb (conditions_in listing) t.n) in
       let first = by_first (no-m || no-n) 1 sizes (omega arith) (at_none (disagreement t d listing) passed.1) in
-      let counts = neither no-m no-n first.0 in
+      let counts = or_parts no-m no-n first.0 in
       let small = none_failed t.n (correlate_too_large listing) (t.m + 2) directions (omega arith) first.1 in
       let followed = none_failed t.m (direction_differs t d listing) 2 conditions (omega arith) small.1 in
       let closed = none_failed t.n (condition_differs t listing) (t.m + 2) 0 (omega arith) followed.1 in

@@ -25,7 +25,8 @@ use Rattle.exact.specs.Outside.{outside}
 use Rattle.exact.specs.Tabulate.{tabulate}
 use Rattle.exact.proofs.Filling.{tabulate_at}
 use Rattle.exact.proofs.Sameness.{same_true, same_yes}
-use Rattle.exact.proofs.Searching.{Failed, neither, not_both}
+use Rattle.exact.proofs.Searching.{Failed, not_both}
+use Rattle.std.proofs.lemmas.Bool.{or_parts}
 use Rattle.reply.specs.declared.Refusal.TheVariants.{Sheet}
 use Rattle.reply.specs.Checks.{refuse_if, refuse_first, ◌and_then◌}
 use Rattle.reply.proofs.Checking.{both_accepted, if_accepted, none_refused, refuse_none}
@@ -181,7 +182,7 @@ counted listing e = by_heading (heading_of listing) refl e
     by_heading : (o : Option (List ℤ)) → heading_of listing ≡ o → heading_amiss o ≡ false → Counted listing
     by_heading None h f = not_both f
     by_heading (Some zs) h f =
-        let b = neither (outside (pos 1) (pos 64) (get_or zs 0 (pos 0))) (outside (pos 1) (pos 24) (get_or zs 1 (pos 0))) f in
+        let b = or_parts (outside (pos 1) (pos 64) (get_or zs 0 (pos 0))) (outside (pos 1) (pos 24) (get_or zs 1 (pos 0))) f in
         let m-in = in_range 64 (get_or zs 0 (pos 0)) b.0 in let n-in = in_range 24 (get_or zs 1 (pos 0)) b.1 in
         let m_is = count_is listing zs h 0 in let n_is = count_is listing zs h 1 in
         record {

@@ -18,7 +18,7 @@ use lib.Dec.{T, ltb}
 use lib.IntN.{ℤ, pos, negsuc, nat_abs, ◌+ℤ◌, ◌-ℤ◌}
 use lib.ListN.{get_or, set, replicate, length-set, length-replicate, get_or-replicate, get_or-eq_default}
 use lib.Seq.{ext_get_or, get_or-set_same, get_or-set_other}
-use Rattle.exact.proofs.Searching.{neither}
+use Rattle.std.proofs.lemmas.Bool.{or_parts}
 use Rattle.exact.specs.Tabulate.{tabulate}
 use Rattle.exact.specs.Circle.{C}
 use Rattle.exact.specs.Outside.{outside}
@@ -39,7 +39,7 @@ Among z lo hi = (z ≡ pos (nat_abs z)) × ((lo ≤ nat_abs z) × (nat_abs z ≤
 
 among : (z : ℤ) (lo hi : ℕ) → outside (pos lo) (pos hi) z ≡ false → Among z lo hi
 among (pos n) lo hi p =
-    let k = neither (ltb n lo) (ltb hi n) p in
+    let k = or_parts (ltb n lo) (ltb hi n) p in
     (refl, (ltb-false n lo k.0, ltb-false hi n k.1))
 among (negsuc n) lo hi p = absurd (subst T p tt)
 
@@ -52,9 +52,9 @@ pub record InFields (b : Book) (h : ℕ) : Type 0 where
 pub in_fields : (b : Book) (h : ℕ) → field_fault b h ≡ false → InFields b h
 unfolding out_of_range
 in_fields b h e =
-    let p = neither (outside (pos 1) (pos 16) (position_at b h)) _ e in
-    let o = neither (outside (pos 1) (pos 16) (object_at b h)) _ p.1 in
-    let f = neither (outside (pos 0) (pos 1) (face_at b h)) (outside (pos 0) (C -ℤ pos 1) (reading_at b h)) o.1 in
+    let p = or_parts (outside (pos 1) (pos 16) (position_at b h)) _ e in
+    let o = or_parts (outside (pos 1) (pos 16) (object_at b h)) _ p.1 in
+    let f = or_parts (outside (pos 0) (pos 1) (face_at b h)) (outside (pos 0) (C -ℤ pos 1) (reading_at b h)) o.1 in
     record {
       positions = among (position_at b h) 1 16 p.0;
       objects = among (object_at b h) 1 16 o.0;

@@ -24,7 +24,7 @@ use mir.Syntax.{w64}
 use mir.Val.{to_z, of_z}
 use lib.ListN.{length, get_or, take, drop, length-drop, length-append, take-append-drop}
 use lib.Seq.{take-suc, get_or-drop, get_or-take, drop-drop, drop-cons, length-take-le, take-append-add}
-use Rattle.exact.proofs.Searching.{neither}
+use Rattle.std.proofs.lemmas.Bool.{or_parts}
 use Rattle.std.specs.Char.{is_ascii_digit}
 use Rattle.std.specs.List.{starts_with, between}
 use borrow.Author.Rules.{rules}
@@ -38,7 +38,7 @@ use Rattle.std.specs.Prelude.{Some, None, Option}
 
 -- ---- digits
 pub digit_bounds : (b : ℕ) → no_digit b ≡ false → (48 ≤ b) × (b ≤ 57)
-digit_bounds b e = let t = neither (ltb b 48) (ltb 57 b) e in (ltb-false b 48 t.0, ltb-false 57 b t.1)
+digit_bounds b e = let t = or_parts (ltb b 48) (ltb 57 b) e in (ltb-false b 48 t.0, ltb-false 57 b t.1)
 
 pub not_digit : (b : ℕ) → is_ascii_digit b ≡ false → no_digit b ≡ true
 not_digit b e = search (rules, arith)

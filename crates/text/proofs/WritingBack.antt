@@ -15,7 +15,7 @@ use borrow.Author.Tests.{lt-ltb, ne_eqb, ltb-false, eqb-true, eqb-false}
 use lib.Dec.{eqb, ltb, lit<}
 use lib.IntN.{ℤ, pos, negsuc, nat_abs}
 use lib.ListN.{length, get_or, drop}
-use Rattle.exact.proofs.Searching.{neither}
+use Rattle.std.proofs.lemmas.Bool.{or_parts}
 use Rattle.text.specs.Decimal.{digits, digits_of, written}
 use Rattle.text.specs.Numbers.{read_digits, unsigned_of, plus, minus, numeral_within}
 use Rattle.text.proofs.Numerals.{small_next, number_minus, number_plus}
@@ -94,8 +94,8 @@ module _ (most : ℕ) where
   unsigned_told s v e =
       let long = ltb most (length s) in let zeros = ltb 1 (length s) && eqb (get_or s 0 0) 48 in
       let t = first_by (eqb (length s) 0 || (long || zeros)) (read_digits 0 s) v e in
-      let p = neither (eqb (length s) 0) (long || zeros) t.0 in
-      let q = neither long zeros p.1 in
+      let p = or_parts (eqb (length s) 0) (long || zeros) t.0 in
+      let q = or_parts long zeros p.1 in
       let none = eqb-false (length s) 0 p.0 in
       record {
         some = omega (arith, none);

@@ -15,7 +15,7 @@ use lib.IntN.{ℤ, pos, negsuc, nat_abs}
 use lib.ListN.{length, get_or}
 use lib.Signed.{◌≤ℤ◌, ◌<ℤ◌}
 use Rattle.exact.proofs.Linear.{orders}
-use Rattle.exact.proofs.Searching.{neither}
+use Rattle.std.proofs.lemmas.Bool.{or_parts}
 use Rattle.text.specs.Parts.{begins}
 use Rattle.text.specs.Fields.{TAB}
 use Rattle.text.specs.Rows.{row_within}
@@ -67,7 +67,7 @@ module _ (due : ℕ) (text : List ℕ) where
 module _ (sum : List ℕ) (due x y : ℕ) (e : passes sum due x y ≡ false) where
   pub fits : get_or sum (place_of due) 0 + x ≤ 18446744073709551615
   unfolding passes
-  fits = omega (arith, small_at (place_of due) (get_or sum (place_of due) 0) x (neither (too_large (place_of due) (get_or sum (place_of due) 0) x) _ e).0)
+  fits = omega (arith, small_at (place_of due) (get_or sum (place_of due) 0) x (or_parts (too_large (place_of due) (get_or sum (place_of due) 0) x) _ e).0)
 
   pub second_fits : pair_on due ≡ true → get_or sum (place_of due + 1) 0 + y ≤ 18446744073709551615
   unfolding passes
@@ -76,14 +76,14 @@ module _ (sum : List ℕ) (due x y : ℕ) (e : passes sum due x y ≡ false) whe
       omega (
         arith,
         small_at (place_of due + 1) (get_or sum (place_of due + 1) 0) y
-            (sym (ap (λ (b : Bool). b && second) p) ∙ (neither (too_large (place_of due) (get_or sum (place_of due) 0) x) (pair_on due && second) e).1),
+            (sym (ap (λ (b : Bool). b && second) p) ∙ (or_parts (too_large (place_of due) (get_or sum (place_of due) 0) x) (pair_on due && second) e).1),
       )
 
 -- ---- a line that has been read
 module _ (t : Tally) (past : Bool) (counted x y : ℕ) where
   pub not_passing : fault_in t past counted x y ≡ false → past ≡ false → passes t.sum t.due x y ≡ false
   unfolding fault_in
-  not_passing e p = sym (ap (λ (b : Bool). not b && passes t.sum t.due x y) p) ∙ (neither (miscounted t.due t.nets counted) (not past && passes t.sum t.due x y) e).1
+  not_passing e p = sym (ap (λ (b : Bool). not b && passes t.sum t.due x y) p) ∙ (or_parts (miscounted t.due t.nets counted) (not past && passes t.sum t.due x y) e).1
 
   module _ (p : past ≡ past_after t.due t.past (get_or t.sum 0 0) x) (q : counted ≡ counted_after t.due t.counted x) where
     pub ill_entered : fault_in t past counted x y ≡ true → faulty t ≡ entered t (Some (x, y))

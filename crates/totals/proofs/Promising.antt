@@ -14,7 +14,7 @@ use native.Mathlib.Omega.{arith}
 use borrow.Author.Tests.{lt-ltb, le-ltb, ltb-false, eq-eqb, eqb-true}
 use lib.Dec.{ltb, eqb}
 use lib.ListN.{length, get_or}
-use Rattle.exact.proofs.Searching.{neither}
+use Rattle.std.proofs.lemmas.Bool.{or_parts}
 use Rattle.exact.proofs.Unique.{only}
 use Rattle.reply.specs.declared.Refusal.{Refusal}
 use Rattle.reply.specs.declared.Refusal.TheVariants.{Count, OutOfRange, Nets}
@@ -91,7 +91,7 @@ module _ (first second : List ℕ) (room : ℕ) where
 pub small_at : (i x y : ℕ) → too_large i x y ≡ false → x + y ≤ 1999999999999999998
 unfolding too_large
 small_at i x y e =
-    let n = neither (ltb most_total x) _ e in let m = neither (ltb most_total y) _ n.1 in
+    let n = or_parts (ltb most_total x) _ e in let m = or_parts (ltb most_total y) _ n.1 in
     omega (arith, ltb-false most_total x n.0, ltb-false most_total y m.0)
 
 pub small : (first second : List ℕ) → sizes_reply first second ≡ Ok tt → (i : ℕ) → i < 16 → get_or first i 0 + get_or second i 0 ≤ 1999999999999999998

@@ -6,7 +6,8 @@ use lib.IntN.{ℤ}
 use mir.Syntax.{w64}
 use mir.Val.{SFits, of_z}
 use borrow.Author.Rules.{rules}
-use Rattle.exact.proofs.Searching.{Failed, failed_more, first_at, first_none, either}
+use Rattle.exact.proofs.Searching.{Failed, failed_more, first_at, first_none}
+use Rattle.std.proofs.lemmas.Bool.{or_right}
 use Rattle.exact.proofs.Sameness.{bits_same, bits_other}
 use Rattle.sheet.specs.Check.{unlike}
 use Rattle.sheet.specs.Inner.{pair_unlike}
@@ -18,7 +19,7 @@ first_other : (a b : ℤ) (t : Bool) → (of_z w64 a ≡ of_z w64 b → ⊥) →
 first_other a b t n = rw (bits_other a b n)
 
 second_other : (a b c d : ℤ) → (of_z w64 c ≡ of_z w64 d → ⊥) → (unlike a b || unlike c d) ≡ true
-second_other a b c d n = either (unlike a b) (unlike c d) (rw (bits_other c d n))
+second_other a b c d n = or_right (unlike a b) (unlike c d) (rw (bits_other c d n))
 
 both_alike : {a b c d : ℤ} → SFits w64 a → SFits w64 b → SFits w64 c → SFits w64 d → of_z w64 a ≡ of_z w64 b → of_z w64 c ≡ of_z w64 d → (unlike a b || unlike c d) ≡ false
 both_alike fa fb fc fd e f = rw (bits_same fa fb e, bits_same fc fd f)
