@@ -1,9 +1,11 @@
 -- What the steps of the solution find of a table that has passed its checks, one after another: no weak row; all correlates; their corrections; the first remainder
 -- that is too large, or none; the first correction past one minute, or none. Assumes nothing.
+--   accepted, refused                what was known of an answer before a `map_err`
 --   k_small, v_small                 the correlates and the corrections are within their bounds
 --   open_found, past_found, all_found      8, 9 and no refusal
 --   solved                           the lists hold the solution
-use Rattle.std.proofs.Common.{◌≡◌, refl, ◌∙◌, ℕ, ◌+◌, ◌≤◌, ◌<◌, ℤ, nat_abs, List, Ok, Err, arith}
+use Rattle.std.proofs.Common.{◌≡◌, refl, ◌∙◌, ℕ, ◌+◌, ◌≤◌, ◌<◌, ℤ, nat_abs, List, Ok, Err, arith, true≢false, sym, ap, subst}
+use Rattle.std.specs.Prelude.{Result, is_ok, MatchResult, IsErrAnd}
 use Rattle.exact.specs.First.{first}
 use Rattle.reply.specs.declared.Refusal.TheVariants.{WeakRow, Remainder, Correction}
 use Rattle.reply.proofs.Checking.{refuse_none}
@@ -16,6 +18,17 @@ use Rattle.adjustment.specs.Corrections.{V_of}
 use Rattle.adjustment.specs.Refusals.{rows_reply, correlates_reply, corrections_reply, solution_reply}
 use Rattle.adjustment.specs.Inner.{Solved, closing, rounding}
 use Rattle.adjustment.proofs.Solving.{V_size, V_ext, closing_is, rounding_is, none_too_large, open_refused, none_open, past_refused, none_past, all_accepted, corrections_small, beyond}
+
+-- what was known of an answer before a `map_err`, where that leaves a value, and where it leaves an error
+module _ {E D : Type 0} (Known : Result (Unit {0}) E → Type 0) where
+  pub accepted : {r : Result (Unit {0}) E} {told : Result (Unit {0}) D} → is_ok told ≡ is_ok r → told ≡ Ok tt → Known r → Known (Ok tt)
+  accepted {r = Ok _} e o k = k
+  accepted {r = Err _} e o k = absurd (true≢false (ap is_ok (sym o) ∙ e))
+
+  pub refused : (Q : E → D → Type 0) {r : Result (Unit {0}) E} {told : Result (Unit {0}) D} {d : D}
+      → MatchResult r (λ x. told ≡ Ok x) (λ e. IsErrAnd told (Q e)) → told ≡ Err d → Known r → (e : E) × Known (Err e) × Q e d
+  refused Q {r = Ok _} m o k = absurd (true≢false (ap is_ok (sym m ∙ o)))
+  refused Q {r = Err e} m o k = (e, k, subst (λ t. IsErrAnd t (Q e)) o m)
 
 module _ (table : SoundTable) {rows : List (List ℤ)} (f : Triangle (table_in table) rows) where
   abbrev t : Table

@@ -47,12 +47,8 @@ fn solve(
     let m = table.q.len();
     let n = table.w.len();
     let mut rows = [[0i64; 25]; 24];
-    if let Err(j) = doolittle::reduce::reduce(table, &mut rows) {
-        return Err(Refusal::WeakRow(j as u64 + 1));
-    }
-    if let Err(row) = doolittle::correlate::correlates(&rows, n, k) {
-        return Err(Refusal::Correlate(row as u64));
-    }
+    doolittle::reduce::reduce(table, &mut rows).map_err(|j| Refusal::WeakRow(j as u64 + 1))?;
+    doolittle::correlate::correlates(&rows, n, k).map_err(|row| Refusal::Correlate(row as u64))?;
     correct::corrections(table, k, v);
     let close = correct::remainders(table, v, r);
     if close < n {
