@@ -6,7 +6,7 @@
 --   InRange, directions_known     the ranges of the directions and of q
 --   sound_table                   all that the solution needs
 --   counts_right, lengths_right, in_ranges, checked      of every lent table that passes them all
---   told_checked                  the same of a reply that is theirs
+--   each_checked                  the same, where each check by itself accepts
 --   admits                        what `table::check` cites
 use mathlib.Core.Path.{◌≡◌, refl, sym, ◌∙◌, ap, subst}
 use mathlib.Core.Bool.{Bool, true, false, ◌||◌, not, cond}
@@ -33,7 +33,7 @@ use Rattle.direction.specs.Ranges.{weight_out_of_range, out_of_range, fault_at, 
 use Rattle.doolittle.specs.Table.{at, table_of}
 use Rattle.adjustment.specs.Refusals.{counts_amiss, differs, lengths_amiss, coefficient_fault, misclosure_fault, conditions_reply, input_reply}
 use Rattle.doolittle.specs.Inner.{Sound}
-use Rattle.std.specs.Prelude.{Ok, Err, OnOk}
+use Rattle.std.specs.Prelude.{Ok, Err}
 use Rattle.adjustment.specs.Inner.{Checked}
 
 -- ---- the reply; the six numbers are the lengths of the answer lists
@@ -177,9 +177,10 @@ module _ (ds qs cs ws : List ℤ) (v u adjusted k r Q : ℕ) (passed : input_rep
         by_condition = l.by_condition;
       }
 
-pub told_checked : (ds qs cs ws : List ℤ) (v u adjusted k r Q : ℕ) (reply : Reply) → reply ≡ input_reply ds qs cs ws v u adjusted k r Q → OnOk reply (Checked ds qs cs ws v u adjusted k r Q)
-told_checked ds qs cs ws v u adjusted k r Q (Ok _) e = checked ds qs cs ws v u adjusted k r Q (sym e)
-told_checked ds qs cs ws v u adjusted k r Q (Err why) e = tt
+-- where each check accepts
+pub each_checked : (ds qs cs ws : List ℤ) (v u adjusted k r Q : ℕ) → counts_amiss (length ds) (length ws) ≡ false → lengths_amiss (length ds) (length ws) (length qs) (length cs) v u adjusted k r Q ≡ false
+    → directions_reply ds qs ≡ Ok tt → conditions_reply (table_of qs cs ws) ≡ Ok tt → Checked ds qs cs ws v u adjusted k r Q
+each_checked ds qs cs ws v u adjusted k r Q a b d e = checked ds qs cs ws v u adjusted k r Q (by_conditions ds qs cs ws v u adjusted k r Q a b d ∙ e)
 
 -- what `table::check` cites
-pub ruleset admits = (counts_known, lengths_known, told_checked)
+pub ruleset admits = (counts_known, lengths_known)

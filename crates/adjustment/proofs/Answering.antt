@@ -1,4 +1,5 @@
 -- The answer lists of a solved table, from what the code writes. Assumes nothing.
+--   Missed            what Q is, in those words
 --   taken             the heads of lists that hold a solution hold it
 --   u_size            the printed corrections are within 60,000
 --   answered          the six lists are the rules' answers, where the adjusted directions and Q are worked out from the printed corrections
@@ -16,6 +17,10 @@ use Rattle.adjustment.specs.Demand.{seen}
 use Rattle.adjustment.specs.Promise.{lists, answers_of}
 use Rattle.adjustment.specs.Inner.{Solved}
 use Rattle.adjustment.proofs.Solving.{turned_is, missed_is}
+
+-- the printed remainders, worked out from the printed corrections
+abbrev pub Missed : Table → (us misses : List ℤ) → Type 0
+Missed t us misses = misses ≡ tabulate t.n (λ j. pos 100000 *ℤ seen t j (at us) +ℤ pos 10000000 *ℤ t.w j)
 
 module _ {t : Table} {ks vs us rs : List ℤ} (s : Solved t ks vs us rs) where
   pub taken : {ks' vs' us' rs' : List ℤ} → ks' ≡ take t.n ks → vs' ≡ take t.m vs → us' ≡ take t.m us → rs' ≡ take t.n rs → Solved t ks' vs' us' rs'
@@ -40,7 +45,7 @@ module _ {t : Table} {ks vs us rs : List ℤ} (s : Solved t ks vs us rs) where
 
   pub answered : (ds : List ℤ) {adjusted misses : List ℤ} {m : ℕ} → length vs ≡ t.m → length us ≡ t.m → length ks ≡ t.n → length rs ≡ t.n → m ≡ t.m
       → adjusted ≡ tabulate m (λ i. modulo (get_or ds i (pos 0) +ℤ get_or us i (pos 0)) C)
-      → misses ≡ tabulate t.n (λ j. pos 100000 *ℤ seen t j (at us) +ℤ pos 10000000 *ℤ t.w j)
+      → Missed t us misses
       → lists vs us adjusted ks rs misses ≡ answers_of t (K t) (at ds)
   answered ds lv lu lk lr e f g = λ i. lists
       (tabulate_is (pos 0) t.m (V_of t (K t)) vs lv s.v i)

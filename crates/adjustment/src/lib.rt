@@ -81,7 +81,7 @@ pub fn adjust(
         result
         (lists corrections.new printed.new adjusted.new correlates.new remainders.new misses.new) }
 {
-    table::check(
+    let table = table::check(
         directions,
         q,
         a,
@@ -93,7 +93,6 @@ pub fn adjust(
         remainders.len(),
         misses.len(),
     )?;
-    let table = SoundTable { q, a, w };
     let (m, n) = (q.len(), w.len());
     let mut v = [0; 64];
     let mut u = [0; 64];
@@ -127,7 +126,7 @@ pub fn adjust_own(
         result
         (lists v.new u.new adjusted.new k.new r.new misses.new) }
 {
-    table::check(
+    let table = table::check(
         directions,
         q,
         a,
@@ -139,7 +138,6 @@ pub fn adjust_own(
         r.len(),
         misses.len(),
     )?;
-    let table = SoundTable { q, a, w };
     solve(table, v, u, k, r)?;
     correct::adjust_directions(directions, u, adjusted);
     correct::print_remainders(table, u, misses);

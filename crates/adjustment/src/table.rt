@@ -1,11 +1,13 @@
 // Input checks of a lent condition table, `check` all of them in their order: 2 for counts and lengths, 3 by direction, 4 and 5 by condition.
 // (2 for counts is in `lib`, 3 in `direction`.)
-ghost use Rattle.std.specs.Prelude.{◌≡◌, ℕ, ◌+◌, ◌<◌, ◌*◌, ◌≤◌, length, get_or, pos, OnOk};
+ghost use Rattle.std.specs.Prelude.{◌≡◌, ℕ, ◌+◌, ◌<◌, ◌*◌, ◌≤◌, length, get_or, pos, IfOk, OnOk};
+ghost use Rattle.reply.specs.Checks.{figure_reply};
 ghost use Rattle.doolittle.specs.Table.{table_of};
 ghost use Rattle.adjustment.specs.Inner.{Checked};
 ghost use Rattle.adjustment.specs.Refusals.{differs, lengths_amiss, conditions_reply, input_reply};
 
 use crate::counts_amiss;
+use doolittle::SoundTable;
 use reply::Refusal;
 
 // The m coefficients of condition j.
@@ -63,22 +65,23 @@ fn check_conditions(q: &[i64], a: &[i64], w: &[i64]) -> Result<(), Refusal>
     Ok(())
 }
 
-// All input checks, in their order; the last six numbers are the lengths of the lent answer lists V, u, adjusted, K, R and Q.
+// All input checks, in their order, and the table that they accept; the last six numbers are the lengths of the lent answer lists V, u, adjusted, K, R and Q.
 #[tactic(auto, using(crate::proofs::Admitting::admits), unfolding(crate::specs::Refusals::input_reply))]
-pub fn check(
+pub fn check<'a>(
     directions: &[i64],
-    q: &[i64],
-    a: &[i64],
-    w: &[i64],
+    q: &'a [i64],
+    a: &'a [i64],
+    w: &'a [i64],
     v: usize,
     u: usize,
     adjusted: usize,
     k: usize,
     r: usize,
     s: usize,
-) -> Result<(), Refusal>
-    ensures answer { result ≡ input_reply directions.now q.now a.now w.now v u adjusted k r s }
+) -> Result<SoundTable<'a>, Refusal>
+    ensures answer { figure_reply result ≡ input_reply directions.now q.now a.now w.now v u adjusted k r s }
     ensures checked { OnOk result (Checked directions.now q.now a.now w.now v u adjusted k r s) }
+    ensures lists { IfOk result (λ t. (t.q.now ≡ q.now) × (t.a.now ≡ a.now) × (t.w.now ≡ w.now)) }
 {
     let m = directions.len();
     let n = w.len();
@@ -86,5 +89,6 @@ pub fn check(
         return Err(Refusal::Count(0));
     }
     direction::check(directions, q)?;
-    check_conditions(q, a, w)
+    check_conditions(q, a, w)?;
+    Ok(SoundTable { q, a, w })
 }
