@@ -9,7 +9,7 @@ ghost use Rattle.season.specs.Inner.{IsShare, Roomy, NextStop};
 use crate::net;
 use reply::Refusal;
 use text::{LF, find};
-use totals::{MOST_NETS, TOTALS};
+use totals::{MOST_NETS, TOO_MANY_NETS, TOTALS};
 
 // Whether the line from `at` to `end`, where its LF stands, is a single full stop.
 fn is_stop(archive: &[u8], at: usize, end: usize) -> bool
@@ -46,7 +46,7 @@ pub fn count(share: [u64; TOTALS], totals: &mut [u64; TOTALS]) -> Result<(), Ref
     ensures list { totals.new ≡ counted_in share totals.old }
 {
     if totals[0] >= MOST_NETS {
-        return Err(Refusal::Nets(MOST_NETS + 1));
+        return Err(TOO_MANY_NETS);
     }
     totals::add(totals, &share);
     Ok(())

@@ -11,7 +11,7 @@ ghost use Rattle.season.specs.Promise.{Begins, Feeds, Ends};
 use crate::{archive, net};
 use reply::Refusal;
 use text::LF;
-use totals::{MOST_NETS, MOST_TOTAL, TOTALS};
+use totals::{MOST_NETS, MOST_TOTAL, TOO_MANY_NETS, TOTALS};
 
 // Room for the longest net and the full stop that closes it; a net whose bytes are counted past it has more.
 pub const ROOM: usize = 65_536;
@@ -284,7 +284,7 @@ pub fn end(held: &[u8], totals: &mut [u64], place: &mut [u64]) -> Result<(), Ref
     let ended = finish(totals, place);
     store(ended, lent);
     if ended.past == 1 {
-        return Err(Refusal::Nets(MOST_NETS + 1));
+        return Err(TOO_MANY_NETS);
     }
     Ok(())
 }

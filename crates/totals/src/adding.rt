@@ -8,7 +8,7 @@ ghost use Rattle.totals.specs.Text.{head_of};
 ghost use Rattle.totals.specs.Adding.{entry_with, entry_of, entry_at, line_after, due_after, nets_after, counted_after, miscounted, past_after, passes, added, sum_after};
 ghost use Rattle.totals.specs.Adding.{faulty, fault_in, entered, after_line, none_read, unfinished, answer_in, after_byte, after_bytes, stream_of};
 
-use crate::{MOST_NETS, MOST_TOTAL, TOTALS, report};
+use crate::{MOST_NETS, MOST_TOTAL, TOO_MANY_NETS, TOTALS, report};
 use reply::{Refusal, Verdict};
 use text::writer::Writer;
 use text::{LF, TAB, find, row};
@@ -95,6 +95,7 @@ fn entry_at(text: &[u8], due: usize) -> Option<(u64, u64)>
     }
 }
 
+// The number of the next line: 18 digits at most, where it stays.
 #[tactic(auto, unfolding(crate::specs::Adding::line_after))]
 fn line_after(line: u64) -> u64
     ensures { result ≡ line_after line }
@@ -102,6 +103,7 @@ fn line_after(line: u64) -> u64
     if line < MOST_TOTAL { line + 1 } else { line }
 }
 
+// The line that is due behind this one: behind the last of a report, the first of the next.
 #[tactic(auto, unfolding(crate::specs::Adding::due_after))]
 fn due_after(due: usize) -> usize
     ensures { result ≡ due_after due }
@@ -109,6 +111,7 @@ fn due_after(due: usize) -> usize
     if due < 13 { due + 1 } else { 0 }
 }
 
+// The nets of the report being read, once a line has been read: its first line says them.
 #[tactic(auto, unfolding(crate::specs::Adding::nets_after))]
 fn nets_after(due: usize, nets: u64, x: u64) -> u64
     ensures { result ≡ nets_after due nets x }
@@ -309,7 +312,7 @@ pub fn end(a: Adding, out: &mut [u8]) -> usize
     } else if unfinished(t.line, t.due, a.length) {
         page::refused_line(Verdict::from(Refusal::Malformed(line_after(t.line))), out)
     } else if t.past {
-        page::refused_line(Verdict::from(Refusal::Nets(MOST_NETS + 1)), out)
+        page::refused_line(Verdict::from(TOO_MANY_NETS), out)
     } else {
         report::print(&t.sum, false, out)
     }

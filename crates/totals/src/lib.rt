@@ -17,6 +17,9 @@ pub const TOTALS: usize = 16;
 // The most nets that a report holds.
 pub const MOST_NETS: u64 = 100_000;
 
+// The refusal of more nets: its place is the first net too many.
+pub const TOO_MANY_NETS: Refusal = Refusal::Nets(MOST_NETS + 1);
+
 // The most that a number of a report may be: 18 digits.
 pub const MOST_TOTAL: u64 = 999_999_999_999_999_999;
 
@@ -84,7 +87,7 @@ pub fn add_reports(first: &[u64], second: &[u64], sum: &mut [u64]) -> Result<(),
     let sum = sum.as_mut_array().ok_or(Refusal::Count(0))?;
     check(first, second)?;
     if first[0] + second[0] > MOST_NETS {
-        return Err(Refusal::Nets(MOST_NETS + 1));
+        return Err(TOO_MANY_NETS);
     }
     *sum = *first;
     add(sum, second);

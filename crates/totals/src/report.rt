@@ -3,7 +3,7 @@ ghost use Rattle.std.specs.Prelude.{◌≡◌, ◌+◌, ◌<◌, ◌≤◌, leng
 ghost use Rattle.text.specs.Written.{Wrote, Puts, in_order};
 ghost use Rattle.totals.specs.Text.{head_of, place_of, pair_on, ending_of, line_of, last_line, report_in};
 
-use crate::{MOST_NETS, TOTALS};
+use crate::{TOO_MANY_NETS, TOTALS};
 use reply::{Refusal, Verdict};
 use text::LF;
 use text::writer::Writer;
@@ -95,7 +95,7 @@ fn put_last(w: &mut Writer, past: bool)
     ensures { Puts w.old (last_line past) 52 w.new }
 {
     if past {
-        page::lines::put_refused(w, Verdict::from(Refusal::Nets(MOST_NETS + 1)));
+        page::lines::put_refused(w, Verdict::from(TOO_MANY_NETS));
     }
 }
 
