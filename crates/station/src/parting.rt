@@ -14,6 +14,7 @@ pub fn rooms_fit(n: usize, rooms: [usize; 6]) -> bool
 }
 
 // One field of the sightings that have no reason, in their order, into the first places of a lent list. Answers how many they are.
+// The place is counted here: it is the answer too, and a chain that numbers its places does not tell at the end how many there were.
 pub fn keep(reason: &[u8], field: &[i64], kept: &mut [i64]) -> usize
     requires { (length field.now ≡ length reason.now) × (length kept.old ≡ length reason.now) }
     ensures list { kept.new ≡ sets kept.old 0 (gather (length reason.now) (free reason.now) (λ h. get_or field.now h (pos 0))) }
@@ -29,7 +30,8 @@ pub fn keep(reason: &[u8], field: &[i64], kept: &mut [i64]) -> usize
     n
 }
 
-// The ordinals and the reasons of the others, in the same way.
+// The ordinals and the reasons of the others, in the same way. Not one with `keep`: two lists share each place, one of them of no field that is lent, so that
+// the test and what is written would both be closures, for two callers.
 pub fn list_dropped(reason: &[u8], ordinals: &mut [u64], reasons: &mut [u64]) -> usize
     requires { (length ordinals.old ≡ length reason.now) × (length reasons.old ≡ length reason.now) }
     ensures ordinals { ordinals.new ≡ sets ordinals.old 0 (gather (length reason.now) (λ h. not (free reason.now h)) (λ h. h + 1)) }

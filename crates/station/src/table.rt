@@ -102,7 +102,8 @@ impl Table {
         }
     }
 
-    // How many left sightings there are of a pair, and how many right ones.
+    // How many left sightings there are of a pair, and how many right ones. Four methods and no face that is passed: the rules have L and R by name, and an
+    // enum would need its places in specs/, and a case of it written at each call, to say the same.
     pub fn left_count(&self, at: PairAt) -> i64
         ensures { result ≡ entry self.now.count 0 at.position at.object }
     {
