@@ -45,7 +45,7 @@ pub fn gather(file: &[u8], start: usize, terms: &mut Terms) -> Run
         else {
             return Run { count, at, turn };
         };
-        terms.kinds[count] = letter as i64;
+        terms.kinds[count] = i64::from(letter);
         terms.values[count] = value;
         terms.d[count] = d;
         terms.i[count] = i;

@@ -4,10 +4,7 @@ use Prim.Native.Nat.{ℕ, ◌<◌}
 use native.Mathlib.Omega.{arith}
 use borrow.Author.Rules.{rules}
 use lib.IntN.{ℤ}
-use mir.Syntax.{w64}
-use mir.ValLaws.{to_z_pos}
 use Rattle.std.specs.Prelude.{None, Some}
-use Rattle.std.proofs.lemmas.Int.{ints}
 use Rattle.exact.proofs.Bound.{read_at}
 use Rattle.network.specs.declared.record.Record.TheVariants.{Term}
 use Rattle.network.proofs.Walking.{Walked, walked_as, terms_stop}
@@ -67,7 +64,7 @@ loop-letter-preserved c =
     let here = (goal.at.loop-letter-preserved c).In-Some-Term in
     rw c.in-Some-Term.next-is
     (gather_more c.loop-letter.invariant (line here) _ _ _ _ _ (
-      to_z_pos w64 c.in-Some-Term.letter (omega (arith, ints)),
+      read_at c.from.result (search rules) ∙ c.from.ensures,
       read_at c.in-Some-Term.value (search rules),
       read_at c.in-Some-Term.d (search rules),
       read_at c.in-Some-Term.i (search rules),
