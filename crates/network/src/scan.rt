@@ -83,13 +83,11 @@ fn sides_reply(place: u64, c: Counts) -> Result<(), Refusal>
     Ok(())
 }
 
-#[tactic(auto, unfolding(crate::specs::Scan::angles_reply))]
+#[tactic(auto, unfolding(crate::specs::Scan::angles_reply, crate::specs::Scan::sides_reply))]
 fn angles_reply(place: u64, c: Counts, target: i64) -> Result<(), Refusal>
     ensures { result ≡ angles_reply place c target }
 {
-    if one_too_many(c.n, c.terms) {
-        return Err(Refusal::Count(place));
-    }
+    sides_reply(place, c)?;
     if condition::target_fault(target) {
         return Err(Refusal::OutOfRange(place));
     }
