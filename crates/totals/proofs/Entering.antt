@@ -1,4 +1,5 @@
 -- Laws of one line of the reports that are added up. Assumes nothing.
+--   natural, natural_told                            a number that has no minus, as `u64::try_from` and `ok` give it
 --   entry_below, entry_second_below, entry_numbers   the numbers of a line, by their signs
 --   no_numbers, some_numbers                         what a line says, by what the reader of its numbers told
 --   other_head, due_head                             and by whether it begins with the head that is due
@@ -13,8 +14,6 @@ use Prim.Native.Nat.{ℕ, ◌+◌, ◌≤◌}
 use native.Mathlib.Omega.{arith}
 use lib.IntN.{ℤ, pos, negsuc, nat_abs}
 use lib.ListN.{length, get_or}
-use lib.Signed.{◌≤ℤ◌, ◌<ℤ◌}
-use Rattle.exact.proofs.Linear.{orders}
 use Rattle.std.proofs.lemmas.Bool.{or_parts}
 use Rattle.text.specs.Parts.{begins}
 use Rattle.text.specs.Fields.{TAB}
@@ -24,24 +23,44 @@ use Rattle.totals.specs.Text.{head_of, place_of, pair_on}
 use Rattle.totals.specs.Adding.{entry_with, entry_of, entry_at, miscounted, passes, fault_in, entered_with, faulty, well_entered, counted_after, past_after, entered, after_line}
 use Rattle.totals.specs.declared.adding.Tally.{Tally}
 use Rattle.totals.proofs.Promising.{small_at}
+use Rattle.exact.proofs.Bound.{read}
+use Rattle.std.proofs.Common.{Result, Ok, Err, FitsSigned, w64, to_z, of_z, subst}
+use Rattle.std.specs.Result.{OkIff, result_ok}
+use Rattle.std.specs.Int.{FitsUnsignedBits}
 
 -- ---- the numbers of a line
-pub entry_below : (x y : ℤ) → x <ℤ pos 0 → None ≡ entry_with x y
+-- a number that has no minus
+abbrev pub natural : ℤ → Option ℕ
+natural (pos x) = Some x
+natural (negsuc x) = None
+
+-- `u64::try_from` and `ok` give it
+natural_of : {E : Type 0} (r : Result ℕ E) (z : ℤ) → FitsSigned w64 z → OkIff r (FitsUnsignedBits 64 z) (nat_abs z) → result_ok r ≡ natural z
+natural_of (Ok n) (pos x) f t = ap Some t.1
+natural_of (Ok n) (negsuc x) f t = absurd t.0
+natural_of (Err e) (pos x) f t = absurd (t (omega (arith, f.sfits)))
+natural_of (Err e) (negsuc x) f t = refl
+
+pub natural_told : {E : Type 0} (r : Result ℕ E) {o : Option ℕ} (z : ℤ) → FitsSigned w64 z
+    → OkIff r (FitsUnsignedBits 64 (to_z w64 (of_z w64 z))) (nat_abs (to_z w64 (of_z w64 z))) → o ≡ result_ok r → o ≡ natural z
+natural_told r z f t e = e ∙ natural_of r z f (subst (λ (y : ℤ). OkIff r (FitsUnsignedBits 64 y) (nat_abs y)) (read f) t)
+
+pub entry_below : (x y : ℤ) → natural x ≡ None → None ≡ entry_with x y
 unfolding entry_with
-entry_below (pos x) y h = absurd (omega (arith, orders))
+entry_below (pos x) y h = cc
 entry_below (negsuc x) y h = refl
 
-pub entry_second_below : (x y : ℤ) → pos 0 ≤ℤ x → y <ℤ pos 0 → None ≡ entry_with x y
+pub entry_second_below : (x y : ℤ) {m : ℕ} → natural x ≡ Some m → natural y ≡ None → None ≡ entry_with x y
 unfolding entry_with
-entry_second_below (pos x) (pos y) g h = absurd (omega (arith, orders))
+entry_second_below (pos x) (pos y) g h = cc
 entry_second_below (pos x) (negsuc y) g h = refl
-entry_second_below (negsuc x) y g h = refl
+entry_second_below (negsuc x) y g h = cc
 
-pub entry_numbers : (x y : ℤ) → pos 0 ≤ℤ x → pos 0 ≤ℤ y → Some (nat_abs x, nat_abs y) ≡ entry_with x y
+pub entry_numbers : (x y : ℤ) {m n : ℕ} → natural x ≡ Some m → natural y ≡ Some n → Some (m, n) ≡ entry_with x y
 unfolding entry_with
-entry_numbers (pos x) (pos y) g h = refl
-entry_numbers (pos x) (negsuc y) g h = absurd h.le
-entry_numbers (negsuc x) y g h = absurd g.le
+entry_numbers (pos x) (pos y) g h = cc
+entry_numbers (pos x) (negsuc y) g h = cc
+entry_numbers (negsuc x) y g h = cc
 
 -- what the reader of the row told
 module _ {row : Option (List ℤ)} where

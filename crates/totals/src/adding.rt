@@ -49,10 +49,7 @@ pub struct Adding {
 fn entry_with(x: i64, y: i64) -> Option<(u64, u64)>
     ensures { result ≡ entry_with x y }
 {
-    if x < 0 || y < 0 {
-        return None;
-    }
-    Some((x.unsigned_abs(), y.unsigned_abs()))
+    Some((u64::try_from(x).ok()?, u64::try_from(y).ok()?))
 }
 
 // The numbers that stand from a start on: two, or one, and 0 for the second.

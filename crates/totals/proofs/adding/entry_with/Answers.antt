@@ -1,22 +1,21 @@
 -- `totals::adding::entry_with` meets its contract. Assumes nothing.
-use Rattle.std.proofs.Common.{◌∙◌, refl, ap, ap₂, ℕ, Some}
-use Rattle.std.specs.Prelude.{nat_abs}
-use Rattle.exact.proofs.Bound.{read}
-use Rattle.exact.proofs.Order.{lt_true, lt_false}
-use Rattle.totals.proofs.Entering.{entry_below, entry_second_below, entry_numbers}
+use Rattle.std.proofs.Common.{sym, ◌∙◌}
+use Rattle.totals.proofs.Entering.{natural_told, entry_below, entry_second_below, entry_numbers}
 use Rattle.totals.proofs.adding.entry_with.Goals as goal
-use Rattle.totals.proofs.adding.entry_with.Goals.{then-x-lt0-via-then-x-lt0, then-x-lt0-via-else-x-lt0+then-y-lt0}
 
-pub returns-then-x-lt0 : goal.returns-then-x-lt0
-returns-then-x-lt0 c =
-    let a = c.args in let x = read c.ranges.x in let y = read c.ranges.y in
-    elim c.then-x-lt0.branch [
-      | then-x-lt0-via-then-x-lt0 w ↦ entry_below a.x a.y (lt_true w.if-x-lt0.true x refl)
-      | then-x-lt0-via-else-x-lt0+then-y-lt0 w ↦ entry_second_below a.x a.y (lt_false w.if-x-lt0.false x refl) (lt_true w.if-y-lt0.true y refl)
-    ]
+pub returns-in_err-ok : goal.returns-in_err-ok
+returns-in_err-ok c =
+    c.from_residual.ensures ∙ entry_below c.args.x c.args.y (sym (natural_told c.try_from.result c.args.x c.ranges.x c.try_from.ensures c.ok.ensures.value) ∙ c.in_err-ok.was)
+
+pub returns-in_err-ok-2 : goal.returns-in_err-ok-2
+returns-in_err-ok-2 c =
+    c.from_residual-in_err-ok-2.ensures
+    ∙ entry_second_below c.args.x c.args.y
+    (sym (natural_told c.try_from.result c.args.x c.ranges.x c.try_from.ensures c.ok.ensures.value) ∙ c.in_ok-ok.was)
+    (sym (natural_told c.try_from-2.result c.args.y c.ranges.y c.try_from-2.ensures c.ok-2.ensures.value) ∙ c.in_err-ok-2.was)
 
 pub returns : goal.returns
 returns c =
-    let x = read c.ranges.x in let y = read c.ranges.y in
-    ap₂ (λ (m n : ℕ). Some (m, n)) (c.unsigned_abs.ensures.value ∙ ap nat_abs x) (c.unsigned_abs-2.ensures.value ∙ ap nat_abs y)
-    ∙ entry_numbers c.args.x c.args.y (lt_false c.if-x-lt0.false x refl) (lt_false c.if-y-lt0.false y refl)
+    entry_numbers c.args.x c.args.y
+    (sym (natural_told c.try_from.result c.args.x c.ranges.x c.try_from.ensures c.ok.ensures.value) ∙ c.in_ok-ok.was)
+    (sym (natural_told c.try_from-2.result c.args.y c.ranges.y c.try_from-2.ensures c.ok-2.ensures.value) ∙ c.in_ok-ok-2.was)
