@@ -3,8 +3,8 @@ ghost use Rattle.std.specs.Prelude.{◌≡◌};
 ghost use Rattle.condition.specs.Rules.{lent, directions_miscounted, terms_miscounted, target_check, terms_check};
 ghost use Rattle.condition.specs.Listed.{count, listed, Checked};
 
+use crate::Kind;
 use crate::terms::Terms;
-use crate::{Kind, term};
 use reply::Refusal;
 
 // Whether there are too few or too many directions, or not as many q.
@@ -40,7 +40,7 @@ fn terms_check(kind: Kind, m: i64, terms: Terms) -> Result<(), Refusal>
     ensures { result ≡ terms_check kind m (count terms.entry) (listed terms.entry) }
 {
     for j in 0..terms.count() {
-        term::check(kind, m, j as u64 + 1, terms.at(j))?;
+        terms.at(j).check(kind, m, j as u64 + 1)?;
     }
     Ok(())
 }

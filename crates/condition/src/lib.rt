@@ -83,16 +83,14 @@ pub fn belongs(kind: Kind, letter: u8) -> bool
 pub fn term_fault(m: i64, letter: u8, value: i64, d: i64, i: i64, k: i64) -> bool
     ensures { result ≡ term_fault m letter value d i k }
 {
-    term::fault(
-        m,
-        Term {
-            letter: term::read(i64::from(letter)),
-            value,
-            d,
-            i,
-            k,
-        },
-    )
+    let term = Term {
+        letter: term::read(i64::from(letter)),
+        value,
+        d,
+        i,
+        k,
+    };
+    term.fault(m)
 }
 
 // The misclosure w of the same condition. A refusal is 1 to 3 of the checks, or 5.

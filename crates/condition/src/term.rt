@@ -60,61 +60,63 @@ pub fn suits(kind: Kind, letter: Option<Letter>) -> bool
     )
 }
 
-// Whether i or k is no direction number, from 0 to m.
-fn astray(m: i64, t: Term) -> bool
-    ensures { result ≡ astray m t }
-{
-    exact::outside(0, m, t.i) || exact::outside(0, m, t.k)
-}
-
-// Whether a term's i, k and d are those of a fixed length.
-#[tactic(auto, using(exact::proofs::Sameness::bits_test, exact::proofs::Sameness::bits_other))]
-fn fixed_length(t: Term) -> bool
-    ensures { result ≡ fixed_length t }
-{
-    t.i == 0 && t.k == 0 && t.d == 0
-}
-
-// Whether i = k where it is no fixed length.
-#[tactic(auto, using(exact::proofs::Sameness::bits_same, exact::proofs::Sameness::bits_other))]
-fn no_angle(t: Term) -> bool
-    ensures { result ≡ (same t.i t.k && not (fixed_length t)) }
-{
-    t.i == t.k && !fixed_length(t)
-}
-
-// Whether a side term has a number out of range, or i = k where it is no fixed length.
-fn side_fault(m: i64, t: Term) -> bool
-    ensures { result ≡ side_fault m t }
-{
-    exact::outside(0, 200_000_000, t.value)
-        || exact::outside(-2000, 2000, t.d)
-        || astray(m, t)
-        || no_angle(t)
-}
-
-// Whether a term has a number out of range, or i = k where that is not allowed. Only the fields of its kind are read.
-#[tactic(auto, using(exact::proofs::Sameness::bits_test))]
-pub fn fault(m: i64, t: Term) -> bool
-    ensures { result ≡ fault m t }
-{
-    match t.letter {
-        Some(Letter::P) => astray(m, t) || t.i == t.k,
-        Some(Letter::F) => exact::outside(0, direction::LAST, t.value),
-        Some(Letter::L | Letter::R) => side_fault(m, t),
-        None => false,
+impl Term {
+    // Whether i or k is no direction number, from 0 to m.
+    fn astray(self, m: i64) -> bool
+        ensures { result ≡ astray m self }
+    {
+        exact::outside(0, m, self.i) || exact::outside(0, m, self.k)
     }
-}
 
-// The check of one term: its kind first, then its numbers.
-pub fn check(kind: Kind, m: i64, ordinal: u64, t: Term) -> Result<(), Refusal>
-    ensures { result ≡ term_check kind m ordinal t }
-{
-    if !suits(kind, t.letter) {
-        return Err(Refusal::Malformed(ordinal));
+    // Whether a term's i, k and d are those of a fixed length.
+    #[tactic(auto, using(exact::proofs::Sameness::bits_test, exact::proofs::Sameness::bits_other))]
+    fn fixed_length(self) -> bool
+        ensures { result ≡ fixed_length self }
+    {
+        self.i == 0 && self.k == 0 && self.d == 0
     }
-    if fault(m, t) {
-        return Err(Refusal::OutOfRange(ordinal));
+
+    // Whether i = k where it is no fixed length.
+    #[tactic(auto, using(exact::proofs::Sameness::bits_same, exact::proofs::Sameness::bits_other))]
+    fn no_angle(self) -> bool
+        ensures { result ≡ (same self.i self.k && not (fixed_length self)) }
+    {
+        self.i == self.k && !self.fixed_length()
     }
-    Ok(())
+
+    // Whether a side term has a number out of range, or i = k where it is no fixed length.
+    fn side_fault(self, m: i64) -> bool
+        ensures { result ≡ side_fault m self }
+    {
+        exact::outside(0, 200_000_000, self.value)
+            || exact::outside(-2000, 2000, self.d)
+            || self.astray(m)
+            || self.no_angle()
+    }
+
+    // Whether a term has a number out of range, or i = k where that is not allowed. Only the fields of its kind are read.
+    #[tactic(auto, using(exact::proofs::Sameness::bits_test))]
+    pub fn fault(self, m: i64) -> bool
+        ensures { result ≡ fault m self }
+    {
+        match self.letter {
+            Some(Letter::P) => self.astray(m) || self.i == self.k,
+            Some(Letter::F) => exact::outside(0, direction::LAST, self.value),
+            Some(Letter::L | Letter::R) => self.side_fault(m),
+            None => false,
+        }
+    }
+
+    // The check of one term: its kind first, then its numbers.
+    pub fn check(self, kind: Kind, m: i64, ordinal: u64) -> Result<(), Refusal>
+        ensures { result ≡ term_check kind m ordinal self }
+    {
+        if !suits(kind, self.letter) {
+            return Err(Refusal::Malformed(ordinal));
+        }
+        if self.fault(m) {
+            return Err(Refusal::OutOfRange(ordinal));
+        }
+        Ok(())
+    }
 }
