@@ -24,7 +24,7 @@ pub struct SoundSightings<'a> {
     ghost sound: { InRange (book_of lists) },
 }
 
-// A sighting's field is out of range.
+// A sighting's field is out of range. The fields one by one, as the rule has them.
 #[tactic(auto, unfolding(crate::specs::Sightings::out_of_range))]
 fn out_of_range(position: i64, object: i64, face: i64, reading: i64) -> bool
     ensures { result ≡ out_of_range position object face reading }
