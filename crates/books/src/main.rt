@@ -2,9 +2,9 @@
 // that must be, worked out by the independent program (see `answers`).
 #![tactic(auto)]
 
-use lister::{Files, Kind, Program};
+use lister::{Files, Heading, Kind, Program};
 use std::process::ExitCode;
 
 fn main(rt: HostRuntime) -> ExitCode {
-    Program::new(&rt, b"books").print_arguments(true, Kind::Whole(Files::Books))
+    Program::new(&rt, b"books").print_arguments(Heading::Name, Kind::Whole(Files::Books))
 }

@@ -2,9 +2,9 @@
 // listing with its E line. `stdout` has what that must be, worked out by the independent program (see `answers`).
 #![tactic(auto)]
 
-use lister::{Files, Kind, Program};
+use lister::{Files, Heading, Kind, Program};
 use std::process::ExitCode;
 
 fn main(rt: HostRuntime) -> ExitCode {
-    Program::new(&rt, b"cards").print_arguments(true, Kind::Whole(Files::NetworksWithErrors))
+    Program::new(&rt, b"cards").print_arguments(Heading::Name, Kind::Whole(Files::NetworksWithErrors))
 }

@@ -2,13 +2,13 @@
 // the toolchain has a library of that one.)
 #![tactic(auto)]
 
-use lister::{Program, sheets};
+use lister::{Heading, Program, sheets};
 use std::process::ExitCode;
 
 fn main(rt: HostRuntime) -> ExitCode {
     let program = Program::new(&rt, b"check");
     if lister::arg_count(&rt) == 3 {
-        return lister::status(sheets::check_pair(program, false, 1, 2));
+        return lister::status(sheets::check_pair(program, Heading::Absent, 1, 2));
     }
     let _ = rt.stderr().write_all(b"check: too few names or too many; it is: check NET LISTING\n");
     ExitCode::SUCCESS

@@ -7,7 +7,7 @@ ghost use Rattle.std.specs.Process.{exit_status};
 ghost use Rattle.lister.specs.Ended.{ended_in};
 ghost use Rattle.lister.specs.Status.{Ends};
 
-use crate::{NAME, Program, Trouble};
+use crate::{Program, Trouble};
 use reply::Refusal;
 use season::stream;
 use std::io::Read;
@@ -62,9 +62,7 @@ impl Archive {
 
     // The same of the file that argument i names.
     fn feed_argument(&mut self, program: Program, i: usize) -> Result<(), Trouble> {
-        let mut name = [0u8; NAME];
-        let n = crate::name_of(program.rt, i, &mut name);
-        self.feed_named(program, &name[..n])
+        crate::with_name(program.rt, i, |name| self.feed_named(program, name))
     }
 
     // The same of all files that the arguments name, up to the first that cannot be read.

@@ -53,6 +53,13 @@ pub enum Kind {
     Reports,
 }
 
+// What stands above each listing: a line with its file's name, or none.
+#[derive(Clone, Copy, Debug, PartialEq, Eq)]
+pub enum Heading {
+    Name,
+    Absent,
+}
+
 // Why a file has no listing. No `From` makes one of an io::Error: where a read fails it is another than where a write does.
 #[derive(Clone, Copy, Debug, PartialEq, Eq)]
 pub enum Trouble {
@@ -152,10 +159,12 @@ pub fn status(outcome: Result<(), Trouble>) -> ExitCode
     }
 }
 
-// The line with a file's name.
-fn write_heading(rt: &impl Print, name: &[u8]) {
-    let _ = rt.write_all(name);
-    let _ = println!(rt;);
+// The line above a listing, with its file's name.
+fn write_heading(rt: &impl Print, heading: Heading, name: &[u8]) {
+    if heading == Heading::Name {
+        let _ = rt.write_all(name);
+        let _ = println!(rt;);
+    }
 }
 
 // A file that is open, of any kind. A match and no closure: the kind is what the caller knows of its files.
@@ -196,6 +205,19 @@ fn name_of(rt: &impl Env, i: usize, name: &mut [u8]) -> usize
         Err(FillError::TooLong) => name.len(),
         Err(FillError::NotPresent) => 0,
     }
+}
+
+// Hands on the name that is argument i.
+fn with_name<F: FnOnce(&[u8]) -> Result<(), Trouble>>(
+    rt: &impl Env,
+    i: usize,
+    take: F,
+) -> Result<(), Trouble>
+    requires { F.IsAlwaysCallable take }
+{
+    let mut name = [0u8; NAME];
+    let n = name_of(rt, i, &mut name);
+    take(&name[..n])
 }
 
 // A program: the system that it runs on, and the name under which it says what it cannot do. It lends both, and nothing compares it.
@@ -239,11 +261,9 @@ impl<'a> Program<'a> {
         file.ok_or(Trouble::Unread)
     }
 
-    // The file of that name, under a line with the name where it is headed.
-    fn print_named(self, headed: bool, kind: Kind, name: &[u8]) -> Result<(), Trouble> {
-        if headed {
-            write_heading(self.rt, name);
-        }
+    // The file of that name.
+    fn print_named(self, heading: Heading, kind: Kind, name: &[u8]) -> Result<(), Trouble> {
+        write_heading(self.rt, heading, name);
         let mut file = self.open(name)?;
         let outcome = print_open(self.rt, &mut file, kind);
         self.report(outcome, name);
@@ -251,19 +271,17 @@ impl<'a> Program<'a> {
     }
 
     // The file that argument i names.
-    fn print_argument(self, headed: bool, kind: Kind, i: usize) -> Result<(), Trouble> {
-        let mut name = [0u8; NAME];
-        let n = name_of(self.rt, i, &mut name);
-        self.print_named(headed, kind, &name[..n])
+    fn print_argument(self, heading: Heading, kind: Kind, i: usize) -> Result<(), Trouble> {
+        with_name(self.rt, i, |name| self.print_named(heading, kind, name))
     }
 
     // The files that the arguments name, in turn. Argument 0 is the program's own name. A file that cannot be read is passed over; where one listing could not
     // be written, the next could not be either. Answers the program's exit status.
-    pub fn print_arguments(self, headed: bool, kind: Kind) -> ExitCode
+    pub fn print_arguments(self, heading: Heading, kind: Kind) -> ExitCode
         ensures { Ends (exit_status result) }
     {
         for i in 1..arg_count(self.rt) {
-            match self.print_argument(headed, kind, i) {
+            match self.print_argument(heading, kind, i) {
                 Ok(()) | Err(Trouble::Unread) => {}
                 outcome => return status(outcome),
             }
@@ -288,7 +306,7 @@ impl<'a> Program<'a> {
         if arg_count(self.rt) < 2 {
             self.print_input(kind)
         } else {
-            self.print_arguments(false, kind)
+            self.print_arguments(Heading::Absent, kind)
         }
     }
 }

@@ -5,7 +5,7 @@ ghost use Rattle.sheet.specs.Answer.{answer_in};
 ghost use Rattle.std.specs.Process.{exit_status};
 ghost use Rattle.lister.specs.Status.{Ends};
 
-use crate::{NAME, Program, ROOM, Trouble};
+use crate::{Heading, Program, ROOM, Trouble};
 use std::process::ExitCode;
 
 // The file of that name, as much of it as the buffer holds. What cannot be opened or read is said.
@@ -49,25 +49,29 @@ fn check_named(program: Program, net: &[u8], sheet: &[u8]) -> Result<(), Trouble
     outcome
 }
 
-// The net and the sheet that two arguments name, under a line with the sheet's name where it is headed.
-pub fn check_pair(program: Program, headed: bool, net: usize, sheet: usize) -> Result<(), Trouble> {
-    let mut net_name = [0u8; NAME];
-    let mut sheet_name = [0u8; NAME];
-    let n = crate::name_of(program.rt, net, &mut net_name);
-    let m = crate::name_of(program.rt, sheet, &mut sheet_name);
-    if headed {
-        crate::write_heading(program.rt, &sheet_name[..m]);
-    }
-    check_named(program, &net_name[..n], &sheet_name[..m])
+// The net and the sheet that two arguments name; the heading has the sheet's name.
+pub fn check_pair(
+    program: Program,
+    heading: Heading,
+    net: usize,
+    sheet: usize,
+) -> Result<(), Trouble> {
+    crate::with_name(program.rt, net, |net| {
+        crate::with_name(program.rt, sheet, |sheet| {
+            crate::write_heading(program.rt, heading, sheet);
+            check_named(program, net, sheet)
+        })
+    })
 }
 
 // The nets and sheets that the arguments name by turns, each pair under the sheet's name. A net at the end, with no sheet behind it, is left out.
 // Where one answer could not be written, the next could not be either. Answers the program's exit status.
+// A loop of its own beside that of `print_arguments`: a closure for what is done would have to ask that a pair's second number is above 0.
 pub fn check_arguments(program: Program) -> ExitCode
     ensures { Ends (exit_status result) }
 {
     for i in (2..crate::arg_count(program.rt)).step_by(2) {
-        match check_pair(program, true, i - 1, i) {
+        match check_pair(program, Heading::Name, i - 1, i) {
             Ok(()) | Err(Trouble::Unread) => {}
             outcome => return crate::status(outcome),
         }

@@ -2,9 +2,9 @@
 // worked out by the independent program (see `answers`).
 #![tactic(auto)]
 
-use lister::{Kind, Program};
+use lister::{Heading, Kind, Program};
 use std::process::ExitCode;
 
 fn main(rt: HostRuntime) -> ExitCode {
-    Program::new(&rt, b"seasons").print_arguments(true, Kind::Archives)
+    Program::new(&rt, b"seasons").print_arguments(Heading::Name, Kind::Archives)
 }

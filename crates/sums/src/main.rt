@@ -2,9 +2,9 @@
 // refuses them. `stdout` has what that must be, worked out by the independent program (see `answers`).
 #![tactic(auto)]
 
-use lister::{Kind, Program};
+use lister::{Heading, Kind, Program};
 use std::process::ExitCode;
 
 fn main(rt: HostRuntime) -> ExitCode {
-    Program::new(&rt, b"sums").print_arguments(true, Kind::Reports)
+    Program::new(&rt, b"sums").print_arguments(Heading::Name, Kind::Reports)
 }
