@@ -6,5 +6,8 @@ use lister::{Files, Heading, Kind, Program};
 use std::process::ExitCode;
 
 fn main(rt: HostRuntime) -> ExitCode {
-    Program::new(&rt, b"cards").print_arguments(Heading::Name, Kind::Whole(Files::NetworksWithErrors))
+    Program::new(&rt, b"cards").print_arguments(
+        Heading::Name,
+        Kind::Whole(Files::NetworksWithErrors),
+    )
 }
