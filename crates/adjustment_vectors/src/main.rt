@@ -5,11 +5,6 @@
 
 ghost use Rattle.std.specs.Prelude.{◌≤◌};
 
-fn numbers(rt: &impl Print, xs: &[i64]) {
-    let _ = print!(rt; ";");
-    vectors::list(rt, xs);
-}
-
 // The reply, and what the lent lists hold. Ten lists, as the operation takes them.
 fn show(
     rt: &impl Print,
@@ -38,12 +33,12 @@ fn show(
     );
     let _ = print!(rt; ": ");
     vectors::told(rt, reply);
-    numbers(rt, corrections);
-    numbers(rt, printed);
-    numbers(rt, adjusted);
-    numbers(rt, correlates);
-    numbers(rt, remainders);
-    numbers(rt, misses);
+    vectors::next_list(rt, corrections);
+    vectors::next_list(rt, printed);
+    vectors::next_list(rt, adjusted);
+    vectors::next_list(rt, correlates);
+    vectors::next_list(rt, remainders);
+    vectors::next_list(rt, misses);
     let _ = println!(rt; ";");
 }
 

@@ -4,6 +4,7 @@
 
 ghost use Rattle.std.specs.Prelude.{pos, ◌<ℤ◌};
 
+// Four functions and none that takes the step as a closure: each step asks something else of its numbers, and the call that prints is all that they share.
 fn nearest(rt: &impl Print, n: i64, d: i64)
     requires { pos 0 <ℤ d }
 {

@@ -7,8 +7,6 @@ ghost use Rattle.std.specs.Prelude.{◌≤◌};
 
 use precision::Errors;
 
-const MINUTE: i64 = 60_000;
-
 // The reply, and both errors.
 fn show(rt: &impl Print, u: &[i64], q: &[i64], n: usize) {
     let found = precision::probable_error(u, q, n);
@@ -101,14 +99,14 @@ fn of_lengths(rt: &impl Print) {
 
 // 3: a correction past one minute, of either sign.
 fn of_corrections(rt: &impl Print) {
-    two(rt, 1, MINUTE, 1, -60000, 1);
+    two(rt, 1, 60000, 1, -60000, 1);
     two(rt, 1, 60001, 1, 0, 1);
     two(rt, 1, 0, 1, 60001, 1);
     two(rt, 1, -60001, 1, 0, 1);
     two(rt, 1, 0, 1, -60001, 1);
     two(rt, 1, i64::MAX, 1, 0, 1);
     two(rt, 1, 0, 1, i64::MIN, 1);
-    last(rt, 24, MINUTE, 60001, 1);
+    last(rt, 24, 60000, 60001, 1);
 }
 
 // 3: q from 1 to 10.
@@ -121,7 +119,7 @@ fn of_weights(rt: &impl Print) {
     two(rt, 1, 100, -1, 100, 1);
     two(rt, 1, 0, i64::MIN, 0, 1);
     two(rt, 1, 0, 1, 0, i64::MAX);
-    last(rt, 24, MINUTE, MINUTE, 11);
+    last(rt, 24, 60000, 60000, 11);
 }
 
 // 3 goes by direction: u and q of the first before u and q of the second.
@@ -169,10 +167,10 @@ fn of_each_weight(rt: &impl Print) {
 
 // The largest errors, the mean error at a power of two and below it, and probable errors at a half and beside it.
 fn of_sizes(rt: &impl Print) {
-    alike(rt, 64, 64, 1, MINUTE, 1);
+    alike(rt, 64, 64, 1, 60000, 1);
     alike(rt, 64, 64, 1, -60000, 10);
-    alike(rt, 64, 64, 24, MINUTE, 1);
-    last(rt, 1, MINUTE, 59999, 1);
+    alike(rt, 64, 64, 24, 60000, 1);
+    last(rt, 1, 60000, 59999, 1);
     last(rt, 1, 32768, 32768, 1);
     last(rt, 1, 32768, -32767, 1);
     two(rt, 1, 1000, 1, 0, 10);

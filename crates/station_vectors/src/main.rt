@@ -5,12 +5,6 @@
 
 ghost use Rattle.std.specs.Prelude.{◌≤◌};
 
-// An answer list, with the places behind what was lent of it.
-fn numbers(rt: &impl Print, xs: &[i64; 17]) {
-    let _ = print!(rt; ";");
-    vectors::list(rt, xs);
-}
-
 // Two sightings, the left face of the first object in position 1 at 0 and one that is given, in lists of these lengths. The lists are apart, as the
 // operation takes them, and a case is one line of numbers, which a struct for the fields and one for the lengths would make many.
 fn lend(
@@ -44,8 +38,9 @@ fn lend(
         &mut pairs[..counts],
     );
     vectors::told(rt, reply);
-    numbers(rt, &direction);
-    numbers(rt, &pairs);
+    // the answer lists, with the places behind what was lent of them
+    vectors::next_list(rt, &direction);
+    vectors::next_list(rt, &pairs);
     let _ = println!(rt;);
 }
 

@@ -30,16 +30,6 @@ fn show(rt: &impl Print, most: usize, text: &[u8])
     };
 }
 
-// The number that a line is, of at most 11 digits.
-fn show_number(rt: &impl Print, text: &[u8]) {
-    show(rt, MOST_DIGITS, text);
-}
-
-// The same, of at most 18.
-fn show_long(rt: &impl Print, text: &[u8]) {
-    show(rt, 18, text);
-}
-
 fn lines(rt: &impl Print) {
     for start in [0, 1, 2, 3, 4, 6, 7, 8, 9, 10, 4_000_000_000] {
         show_line(rt, b"ab\n\ncd\nef", start);
@@ -51,32 +41,32 @@ fn lines(rt: &impl Print) {
 }
 
 fn numbers(rt: &impl Print) {
-    show_number(rt, b"0\n");
-    show_number(rt, b"-0\n");
-    show_number(rt, b"00\n");
-    show_number(rt, b"1\n");
-    show_number(rt, b"-1\n");
-    show_number(rt, b"01\n");
-    show_number(rt, b"-01\n");
-    show_number(rt, b"\n");
-    show_number(rt, b"-\n");
-    show_number(rt, b"--1\n");
-    show_number(rt, b"+1\n");
-    show_number(rt, b"1 \n");
-    show_number(rt, b"99999999999\n");
-    show_number(rt, b"-99999999999\n");
-    show_number(rt, b"100000000000\n");
-    show_number(rt, b"10\n");
-    show_number(rt, b"12x\n");
-    show_number(rt, b"9:\n");
-    show_number(rt, b"/9\n");
-    show_number(rt, b"1\r\n");
-    show_number(rt, b"1296000000\n");
-    show_long(rt, b"100000000000\n");
-    show_long(rt, b"999999999999999999\n");
-    show_long(rt, b"-999999999999999999\n");
-    show_long(rt, b"1000000000000000000\n");
-    show_long(rt, b"012345678901234567\n");
+    show(rt, MOST_DIGITS, b"0\n");
+    show(rt, MOST_DIGITS, b"-0\n");
+    show(rt, MOST_DIGITS, b"00\n");
+    show(rt, MOST_DIGITS, b"1\n");
+    show(rt, MOST_DIGITS, b"-1\n");
+    show(rt, MOST_DIGITS, b"01\n");
+    show(rt, MOST_DIGITS, b"-01\n");
+    show(rt, MOST_DIGITS, b"\n");
+    show(rt, MOST_DIGITS, b"-\n");
+    show(rt, MOST_DIGITS, b"--1\n");
+    show(rt, MOST_DIGITS, b"+1\n");
+    show(rt, MOST_DIGITS, b"1 \n");
+    show(rt, MOST_DIGITS, b"99999999999\n");
+    show(rt, MOST_DIGITS, b"-99999999999\n");
+    show(rt, MOST_DIGITS, b"100000000000\n");
+    show(rt, MOST_DIGITS, b"10\n");
+    show(rt, MOST_DIGITS, b"12x\n");
+    show(rt, MOST_DIGITS, b"9:\n");
+    show(rt, MOST_DIGITS, b"/9\n");
+    show(rt, MOST_DIGITS, b"1\r\n");
+    show(rt, MOST_DIGITS, b"1296000000\n");
+    show(rt, 18, b"100000000000\n");
+    show(rt, 18, b"999999999999999999\n");
+    show(rt, 18, b"-999999999999999999\n");
+    show(rt, 18, b"1000000000000000000\n");
+    show(rt, 18, b"012345678901234567\n");
 }
 
 fn main(rt: HostRuntime) {

@@ -10,6 +10,12 @@ pub fn list(rt: &impl Print, xs: &[i64]) {
     }
 }
 
+// A list behind others.
+pub fn next_list(rt: &impl Print, xs: &[i64]) {
+    let _ = print!(rt; ";");
+    list(rt, xs);
+}
+
 // A reply: accepted, or the refusal with its number and its place.
 pub fn told(rt: &impl Print, reply: Result<(), Refusal>) {
     let _ = match reply {
