@@ -62,7 +62,7 @@ fn sum_seen(table: SoundTable, x: &[i64], j: usize) -> i64
 }
 
 // The remainders of the corrections V, up to the first beyond 50,000,000, into a lent list; which that is, or n.
-// A count: `sheet` takes it as the number of conditions that it has checked.
+// A count and no Option: so many conditions were found close, all n where none is beyond.
 pub fn remainders(table: SoundTable, v: &[i64], r: &mut [i64]) -> usize
     requires corrections { HasSmall 48000000000000 v.now (length table.q.now) }
     requires room { length table.w.now ≤ length r.old }

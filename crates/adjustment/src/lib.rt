@@ -1,8 +1,7 @@
 // Adjustment of a condition table: the one public operation, `adjust`. It checks the lent table, solves it, and only then writes the lent answer lists.
-// `adjust_own` is for a caller whose answer lists are its own: there a refusal may leave anything, and no second set of lists is needed. `AnswerLists` are
-// such lists for any table, for `listing` and `season`.
+// `adjust_own` writes into lists where a refusal may leave anything, so that no second set of lists is needed. `AnswerLists` are such lists for any table.
 // Directions, q, a, w and the six answer lists come one by one, as C lends them; once checked, q, a and w are a `SoundTable`.
-// `correct` is for `sheet` too: what follows from a table that has passed its checks and any correlates within 10^8.
+// `correct` stands by itself: what follows from a table that has passed its checks and any correlates within 10^8.
 #![tactic(auto)]
 
 pub mod correct;
@@ -108,7 +107,7 @@ pub fn adjust(
     Ok(())
 }
 
-// The same where the six lists are the caller's own: the solution is worked out in them, and a refusal may leave anything there.
+// The same into six lists where a refusal may leave anything: the solution is worked out in them.
 pub fn adjust_own(
     directions: &[i64],
     q: &[i64],

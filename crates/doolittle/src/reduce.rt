@@ -21,7 +21,7 @@ pub const CONSTANT: usize = 24;
 // The coefficient of a direction that a condition does not touch.
 const UNTOUCHED: i64 = 0;
 
-// q*x, where q is an inverse weight: of a coefficient here, and in `adjustment` of a sum of a*K.
+// q*x, where q is an inverse weight, and x a coefficient or a sum of a*K.
 pub fn weighted(q: i64, x: i64) -> i64
     requires { (nat_abs q ≤ 10) × (nat_abs x ≤ 4800000000000) }
     ensures { result ≡ q *ℤ x }
@@ -29,7 +29,7 @@ pub fn weighted(q: i64, x: i64) -> i64
     q * x
 }
 
-// s + x*y: for N here, and in `adjustment` for V, R and Q.
+// s + x*y: one product more in a sum, of N, V, R or Q.
 pub fn plus_product(s: i64, x: i64, y: i64) -> i64
     requires { (nat_abs s ≤ 7000000000000000000) × (nat_abs x ≤ 20000) × (nat_abs y ≤ 50000000000000) }
     ensures { result ≡ s +ℤ x *ℤ y }

@@ -51,6 +51,7 @@ fn one_too_many(n: u64, terms: u64) -> bool
     MOST_CONDITIONS <= n || (0 < n && terms == 0)
 }
 
+// Refusals 1 to 3 of a D line: it stands after a C line, its number is out of turn, its direction or its q is out of range.
 #[tactic(auto, unfolding(crate::specs::Scan::direction_reply))]
 fn direction_reply(
     place: u64,
@@ -73,6 +74,7 @@ fn direction_reply(
     Ok(())
 }
 
+// Refusal 2 of a C line of a side condition.
 #[tactic(auto, unfolding(crate::specs::Scan::sides_reply))]
 fn sides_reply(place: u64, c: Counts) -> Result<(), Refusal>
     ensures { result ≡ sides_reply place c }
@@ -83,6 +85,7 @@ fn sides_reply(place: u64, c: Counts) -> Result<(), Refusal>
     Ok(())
 }
 
+// Refusals 2 and 3 of a C line of an angle condition: its target may be out of range.
 #[tactic(auto, unfolding(crate::specs::Scan::angles_reply, crate::specs::Scan::sides_reply))]
 fn angles_reply(place: u64, c: Counts, target: i64) -> Result<(), Refusal>
     ensures { result ≡ angles_reply place c target }
@@ -94,7 +97,7 @@ fn angles_reply(place: u64, c: Counts, target: i64) -> Result<(), Refusal>
     Ok(())
 }
 
-// The fields one by one, as the rule and `condition` take them.
+// Refusals 1 to 3 of a term: it stands under the wrong heading, it is one too many, a field is out of range. The fields come one by one, as the rule has them.
 #[tactic(auto, unfolding(crate::specs::Scan::term_reply))]
 fn term_reply(
     place: u64,
@@ -179,6 +182,7 @@ fn end_fault(c: Counts) -> bool
     c.m == 0 || c.n == 0 || c.m < c.n || c.terms == 0
 }
 
+// Refusal 2 of the whole file, at its end.
 #[tactic(auto, unfolding(crate::specs::Scan::end_reply))]
 fn end_reply(c: Counts) -> Result<(), Refusal>
     ensures { result ≡ end_reply c }

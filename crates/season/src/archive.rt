@@ -20,7 +20,7 @@ fn is_stop(archive: &[u8], at: usize, end: usize) -> bool
 }
 
 // Where the first full stop line at or after `start` stands; the end of the archive, where there is none. A line starts at `start`.
-// No Option: `count_all` goes on while the place is before the end, and slices up to it.
+// No Option: a net reaches up to that place, the end among them, and a full stop line stands there just where it is before the end.
 // A while loop: the line ends that it finds move it on, which no range says.
 fn next_stop(archive: &[u8], start: usize) -> usize
     requires { start ≤ length archive.now }

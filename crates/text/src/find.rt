@@ -3,7 +3,7 @@ ghost use Rattle.std.specs.Prelude.{◌≡◌};
 ghost use Rattle.text.specs.Parts.{place_from, begins};
 
 // The first place at or after `start` where `byte` stands; the end, where there is none (`start` itself, where that is past the end).
-// A place and no Option, as the rules' "place_from": a caller that cuts a line asks first whether the place is before the end.
+// A place and no Option, as the rules' "place_from": whether the byte stands there is asked by whether the place is before the end.
 pub fn place_from(text: &[u8], byte: u8, start: usize) -> usize
     ensures { result ≡ place_from byte text.now start }
 {
