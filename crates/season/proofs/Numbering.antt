@@ -4,7 +4,6 @@
 --   few_refused                          the number of such a refusal
 --   few_line, few_scanned                refusals 1 to 3, by line
 --   few_formed                           refusals 4 and 5, by condition
---   few_table                            1 to 5: all that a file's condition table can be refused for
 --   few_adjust                           2 to 9: a condition table
 --   few_file, few_numbers                a whole file
 use mathlib.Core.Path.{◌≡◌, subst}
@@ -35,7 +34,7 @@ use Rattle.text.specs.Parts.{parted}
 use Rattle.text.specs.Lines.{LF, lines_of}
 use Rattle.network.specs.Records.{record_of}
 use Rattle.network.specs.Scan.{none, belongs, out_of_turn, one_too_many, direction_reply, angles_reply, sides_reply, term_reply, line_reply, counted, end_fault, end_reply, if_last, scanned, scan_reply}
-use Rattle.network.specs.Net.{Condition, Net, net_of, refused_as, lent_of, condition_reply, formed_reply, table_reply}
+use Rattle.network.specs.Net.{Condition, Net, net_of, refused_as, lent_of, condition_reply, formed_reply}
 use Rattle.network.specs.declared.record.Record.{Record}
 use Rattle.network.specs.declared.record.Record.TheVariants.{Direction, Angles, Sides, Term}
 use Rattle.network.specs.declared.scan.Counts.{Counts}
@@ -113,10 +112,6 @@ few_formed directions q j (c ∷ cs) =
     few_then
     (few_then (few_as (Coefficient j) (coefficients_reply l (length directions)) (omega arith)) (few_as (Misclosure j) (figure_reply (misclosure_figure l)) (omega arith)))
     (few_formed directions q (suc j) cs)
-
-pub few_table : (file : List ℕ) → Few (table_reply file)
-unfolding table_reply
-few_table file = let net = net_of (lines_of file) in few_then (few_scan file) (few_formed net.directions net.q 1 net.conditions)
 
 -- ---- 2 to 9: a condition table
 few_of : (b : Bool) (x y : Refusal) → number_of x ≤ 9 → number_of y ≤ 9 → number_of (cond b x y) ≤ 9

@@ -6,10 +6,11 @@
 --   size_most                        the size of one condition's misclosure
 --   refused_share, accepted_share    the share, by the reply
 --   figures_put                      the figures put into a share
---   share_refused, share_tabled      the share of a file whose table is refused, and of one whose is not
+--   untabled, table_refused, table_accepted      a file that gives no table; its table, by the reply to it
+--   share_refused, share_accepted    the share of a file that is refused, and of one that is not; share_passed: what is known of the table of such a one
 --   long_net                         the share of a net over 65,535 bytes
 --   share_is, left_is, long_is       each share is of one net, under one number, and has no figure above 24,000,000
-use mathlib.Core.Path.{◌≡◌, refl, sym, ◌∙◌, ap, ap₂}
+use mathlib.Core.Path.{◌≡◌, refl, sym, ◌∙◌, ap, ap₂, subst}
 use mathlib.Core.Bool.{Bool, true, false, cond}
 use mathlib.Core.List.{List, [], ◌∷◌, ◌++◌}
 use Prim.Native.Nat.{ℕ, zero, suc, ◌+◌, ◌*◌, ◌≤◌, ◌<◌, max}
@@ -26,25 +27,25 @@ use Rattle.exact.specs.Tabulate.{tabulate}
 use Rattle.exact.proofs.Filling.{tabulate_length, tabulate_at, tabulate_is}
 use Rattle.reply.specs.declared.Refusal.{Refusal}
 use Rattle.reply.specs.Reply.{Reply}
-use Rattle.reply.specs.Checks.{figure_reply}
 use Rattle.reply.specs.Numbers.{number_of}
+use Rattle.reply.proofs.Checking.{both_accepted}
 use Rattle.doolittle.specs.Inner.{Small}
 use Rattle.adjustment.specs.Promise.{adjust_reply}
-use Rattle.adjustment.proofs.Promising.{accepted_passed}
+use Rattle.adjustment.proofs.Promising.{Passed, accepted_passed}
 use Rattle.touched.specs.Shared.{one_if, shares_three}
 use Rattle.text.specs.Lines.{lines_of}
 use Rattle.condition.specs.declared.Kind.{Kind}
 use Rattle.condition.specs.declared.Kind.TheVariants.{Angle, Side}
 use Rattle.network.specs.Scan.{scan_reply}
-use Rattle.network.specs.Net.{Net, net_of, rows_of, misclosures_of, kinds_of, table_reply, Tables}
+use Rattle.network.specs.Net.{Net, net_of, formed_reply, rows_of, misclosures_of, kinds_of, table_reply, Tabled, Tables}
 use Rattle.network.specs.declared.lists.NetTable.{NetTable}
-use Rattle.listing.specs.File.{room, file_reply}
+use Rattle.listing.specs.File.{room, net_reply, file_reply}
 use Rattle.listing.proofs.Tabling.{file_refused, file_reply_lem}
 use Rattle.listing.proofs.Filing.{solved}
 use Rattle.season.specs.Share.{counted_under, sum_to, most_to, alike, size_at, figures, no_figures, net_figures, share_with, share_of, left_share, long_share}
 use Rattle.season.specs.Inner.{IsShare}
 use Rattle.season.proofs.Numbering.{Few, few_file}
-use Rattle.std.specs.Prelude.{Result, Ok, Err}
+use Rattle.std.specs.Prelude.{Ok, Err}
 
 -- ---- one net under its number
 ones : (n k : ℕ) → k < n → set (replicate n 0) k 1 ≡ tabulate n (λ i. one_if (eqb i k))
@@ -121,20 +122,39 @@ module _ (file : List ℕ) where
   abbrev net : Net
   net = net_of (lines_of file)
 
-  pub share_refused : (why : Refusal) {one : List ℕ} {number : ℕ} → table_reply file ≡ Err why → number ≡ number_of why → one ≡ counted_under number ++ no_figures → one ≡ share_of file
+  pub share_refused : (why : Refusal) {one : List ℕ} {number : ℕ} → file_reply file ≡ Err why → number ≡ number_of why → one ≡ counted_under number ++ no_figures → one ≡ share_of file
   unfolding share_of
-  share_refused why e n o = refused_share (net_figures net) (file_refused file why e) n o
+  share_refused why e n o = refused_share (net_figures net) e n o
+
+  pub untabled : (why : Refusal) → table_reply file ≡ Err why → Tables (file_reply file) net (Err why)
+  untabled why e = record { reply = sym (file_refused file why e); table = λ other f. cc }
 
   -- its table
-  module _ {answer : Result NetTable Refusal} (is : Tables (table_reply file) net answer) {t : NetTable} (e : answer ≡ Ok t) where
-    pub share_tabled :
-        share_with (adjust_reply t.directions.now t.q.now t.a.now t.w.now (room (length t.directions.now) (length t.w.now)))
-        (figures t.kinds.now t.w.now t.a.now (length t.directions.now))
-        ≡ share_of file
-    unfolding share_of net_figures
-    share_tabled =
-        let of = is.table t e in
-        ap₂ share_with (file_reply_lem file of (sym is.reply ∙ ap figure_reply e)) (rw (of.kinds_are, of.misclosures_are, of.rows_are, of.directions_are))
+  module _ {t : NetTable} (of : Tabled net t) where
+    abbrev own_reply : Reply
+    own_reply = adjust_reply t.directions.now t.q.now t.a.now t.w.now (room (length t.directions.now) (length t.w.now))
+
+    -- refused for what it holds, or accepted
+    pub table_refused : (why : Refusal) → table_reply file ≡ Ok tt → own_reply ≡ Err why → Tables (file_reply file) net (Err why)
+    table_refused why e f = record { reply = sym f ∙ file_reply_lem file of e; table = λ other g. cc }
+
+    pub table_accepted : table_reply file ≡ Ok tt → own_reply ≡ Ok tt → Tables (file_reply file) net (Ok t)
+    table_accepted e f = record { reply = sym f ∙ file_reply_lem file of e; table = λ other g. subst (Tabled net) (cc) of }
+
+    module _ (e : file_reply file ≡ Ok tt) where
+      tabled : table_reply file ≡ Ok tt
+      unfolding file_reply net_reply table_reply
+      tabled =
+          let formed = formed_reply net.directions net.q 1 net.conditions in
+          let scanned = both_accepted (scan_reply file) (net_reply net) e in
+          rw scanned.0 ((both_accepted formed _ scanned.1).0)
+
+      pub share_passed : Passed t.directions.now t.q.now t.a.now t.w.now (room (length t.directions.now) (length t.w.now))
+      share_passed = accepted_passed t.directions.now t.q.now t.a.now t.w.now _ (file_reply_lem file of tabled ∙ e)
+
+      pub share_accepted : {one : List ℕ} → one ≡ counted_under 0 ++ figures t.kinds.now t.w.now t.a.now (length t.directions.now) → one ≡ share_of file
+      unfolding share_of net_figures
+      share_accepted o = accepted_share (net_figures net) e (o ∙ rw (of.kinds_are, of.misclosures_are, of.rows_are, of.directions_are))
 
   pub long_net : 65535 < length file → share_of file ≡ long_share
   unfolding share_of file_reply scan_reply share_with long_share

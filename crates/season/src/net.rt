@@ -2,8 +2,10 @@
 ghost use Rattle.std.specs.Prelude.{◌≡◌, ◌++◌, ◌*◌, ◌≤◌, ◌<◌, length};
 ghost use Rattle.doolittle.specs.Inner.{Small};
 ghost use Rattle.adjustment.specs.Promise.{adjust_reply};
-ghost use Rattle.listing.specs.File.{room};
-ghost use Rattle.season.specs.Share.{counted_under, sum_to, most_to, size_at, figures, no_figures, share_with, share_of, left_share, long_share};
+ghost use Rattle.text.specs.Lines.{lines_of};
+ghost use Rattle.network.specs.Net.{net_of, Tables};
+ghost use Rattle.listing.specs.File.{room, file_reply};
+ghost use Rattle.season.specs.Share.{counted_under, sum_to, most_to, size_at, figures, no_figures, share_of, left_share, long_share};
 
 use adjustment::AnswerLists;
 use condition::Kind;
@@ -103,17 +105,13 @@ fn reply_to(net: NetTable) -> Result<(), Refusal>
     Ok(())
 }
 
-// The share of a net by its condition table.
-fn table_share(net: NetTable) -> [u64; TOTALS]
-    ensures { result ≡ share_with
-        (adjust_reply net.entry.directions.now net.entry.q.now net.entry.a.now net.entry.w.now
-        (room (length net.entry.directions.now) (length net.entry.w.now)))
-        (figures net.entry.kinds.now net.entry.w.now net.entry.a.now (length net.entry.directions.now)) }
+// The condition table of a net's bytes, where the net is accepted.
+fn accepted_table<'a>(net: &[u8], lists: &'a mut Lists) -> Result<NetTable<'a>, Refusal>
+    ensures { Tables (file_reply net.now) (net_of (lines_of net.now)) result }
 {
-    match reply_to(net) {
-        Ok(()) => accepted(net),
-        Err(why) => under(why.number()),
-    }
+    let table = network::table(net, lists)?;
+    reply_to(table)?;
+    Ok(table)
 }
 
 // The share of a net that is closed, from its bytes.
@@ -121,8 +119,8 @@ pub fn share(net: &[u8]) -> [u64; TOTALS]
     ensures { result ≡ share_of net.now }
 {
     let mut lists = Lists::new();
-    match network::table(net, &mut lists) {
-        Ok(table) => table_share(table),
+    match accepted_table(net, &mut lists) {
+        Ok(table) => accepted(table),
         Err(why) => under(why.number()),
     }
 }
