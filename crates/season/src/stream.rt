@@ -31,23 +31,24 @@ pub struct Place {
 }
 
 // The place that a lent list holds.
-#[tactic(auto, unfolding(crate::specs::Stream::place_of))]
-fn place_of(place: &[u64; PLACES]) -> Place
-    ensures { result ≡ place_of place.now }
-{
-    Place {
-        bytes: place[0],
-        line: place[1],
-        past: place[2],
+impl From<[u64; PLACES]> for Place {
+    ghost from_gives = { λ list place. place ≡ place_of list };
+
+    #[tactic(auto, unfolding(crate::specs::Stream::place_of))]
+    fn from(list: [u64; PLACES]) -> Place {
+        let [bytes, line, past] = list;
+        Place { bytes, line, past }
     }
 }
 
-// The place, into a lent list.
-#[tactic(auto, unfolding(crate::specs::Stream::place_list))]
-fn store(p: Place, place: &mut [u64; PLACES])
-    ensures { place.new ≡ place_list p }
-{
-    *place = [p.bytes, p.line, p.past];
+// The place, as a lent list holds it.
+impl From<Place> for [u64; PLACES] {
+    ghost from_gives = { λ p list. list ≡ place_list p };
+
+    #[tactic(auto, unfolding(crate::specs::Stream::place_list))]
+    fn from(p: Place) -> [u64; PLACES] {
+        [p.bytes, p.line, p.past]
+    }
 }
 
 // A byte of the open net is kept where there is room.
@@ -238,7 +239,7 @@ pub fn next(
     let held = held.as_mut_array().ok_or(Refusal::Count(0))?;
     let totals = totals.as_mut_array().ok_or(Refusal::Count(0))?;
     let lent = place.as_mut_array().ok_or(Refusal::Count(0))?;
-    let place = place_of(lent);
+    let place = Place::from(*lent);
     check(totals, place)?;
     let mut open = Open {
         held,
@@ -246,7 +247,7 @@ pub fn next(
         place,
     };
     open.feed(bytes);
-    store(open.place, lent);
+    *lent = open.place.into();
     Ok(())
 }
 
@@ -279,10 +280,10 @@ pub fn end(held: &[u8], totals: &mut [u64], place: &mut [u64]) -> Result<(), Ref
     held.as_array::<ROOM>().ok_or(Refusal::Count(0))?;
     let totals = totals.as_mut_array().ok_or(Refusal::Count(0))?;
     let lent = place.as_mut_array().ok_or(Refusal::Count(0))?;
-    let place = place_of(lent);
+    let place = Place::from(*lent);
     check(totals, place)?;
     let ended = finish(totals, place);
-    store(ended, lent);
+    *lent = ended.into();
     if ended.past == 1 {
         return Err(TOO_MANY_NETS);
     }

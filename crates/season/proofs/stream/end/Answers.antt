@@ -36,7 +36,7 @@ returns-in_err-check c =
     let held = array 65536 lent _ _ _ c.as_array.ensures.cases c.ok_or.ensures.value c.in_ok-ok_or.was in
     let totals = array 16 lent_mut _ _ _ c.as_mut_array.ensures.cases c.ok_or-2.ensures.value c.in_ok-totals.was in
     let place = array 3 lent_mut _ _ _ c.as_mut_array-2.ensures.cases c.ok_or-3.ensures.value c.in_ok-lent.was in
-    let at = c.place_of-place.ensures ∙ ap place_of place.0 in
+    let at = c.from-place.ensures ∙ ap place_of place.0 in
     let checked = by_checks a.held.now a.totals.now a.place.now (none_amiss held.1 totals.1 place.1) totals.0 at c.check.ensures in
     rw (p.1, p.2, totals.0, place.0) (refused_ends a.held.now a.totals.now a.place.now _ (sym checked ∙ c.in_err-check.was))
 
@@ -46,7 +46,7 @@ finish-ended-requires c =
     let held = array 65536 lent _ _ _ c.as_array.ensures.cases c.ok_or.ensures.value c.in_ok-ok_or.was in
     let totals = array 16 lent_mut _ _ _ c.as_mut_array.ensures.cases c.ok_or-2.ensures.value c.in_ok-totals.was in
     let place = array 3 lent_mut _ _ _ c.as_mut_array-2.ensures.cases c.ok_or-3.ensures.value c.in_ok-lent.was in
-    let at = c.place_of-place.ensures ∙ ap place_of place.0 in
+    let at = c.from-place.ensures ∙ ap place_of place.0 in
     let checked = by_checks a.held.now a.totals.now a.place.now (none_amiss held.1 totals.1 place.1) totals.0 at c.check.ensures in
     subst Roomy (sym totals.0) (passed_state a.held.now a.totals.now a.place.now (sym checked ∙ c.in_ok-check.was)).roomy
 
@@ -57,12 +57,12 @@ returns-then-ended-eq1 c =
     let held = array 65536 lent _ _ _ c.as_array.ensures.cases c.ok_or.ensures.value c.in_ok-ok_or.was in
     let totals = array 16 lent_mut _ _ _ c.as_mut_array.ensures.cases c.ok_or-2.ensures.value c.in_ok-totals.was in
     let place = array 3 lent_mut _ _ _ c.as_mut_array-2.ensures.cases c.ok_or-3.ensures.value c.in_ok-lent.was in
-    let at = c.place_of-place.ensures ∙ ap place_of place.0 in
+    let at = c.from-place.ensures ∙ ap place_of place.0 in
     let checked = by_checks a.held.now a.totals.now a.place.now (none_amiss held.1 totals.1 place.1) totals.0 at c.check.ensures in
     let ended : c.finish-ended.result ≡ ended_place a.totals.now (place_of a.place.now) = c.finish-ended.ensures.place ∙ ap₂ ended_place totals.0 at in
     ends a.held.now a.totals.now a.place.now (sym checked ∙ c.in_ok-check.was)
     (rw (eq-eqb (ended_place a.totals.now (place_of a.place.now)).past 1 (sym (ap (λ (x : Place). x.past) ended) ∙ c.if-ended-eq1.true)))
-    (c.finish-ended.ensures.list ∙ ap₂ ended_totals totals.0 at) (c.store.ensures ∙ ap place_list ended)
+    (c.finish-ended.ensures.list ∙ ap₂ ended_totals totals.0 at) (c.into.ensures ∙ ap place_list ended)
 
 pub returns : goal.returns
 unfolding past_reply
@@ -71,9 +71,9 @@ returns c =
     let held = array 65536 lent _ _ _ c.as_array.ensures.cases c.ok_or.ensures.value c.in_ok-ok_or.was in
     let totals = array 16 lent_mut _ _ _ c.as_mut_array.ensures.cases c.ok_or-2.ensures.value c.in_ok-totals.was in
     let place = array 3 lent_mut _ _ _ c.as_mut_array-2.ensures.cases c.ok_or-3.ensures.value c.in_ok-lent.was in
-    let at = c.place_of-place.ensures ∙ ap place_of place.0 in
+    let at = c.from-place.ensures ∙ ap place_of place.0 in
     let checked = by_checks a.held.now a.totals.now a.place.now (none_amiss held.1 totals.1 place.1) totals.0 at c.check.ensures in
     let ended : c.finish-ended.result ≡ ended_place a.totals.now (place_of a.place.now) = c.finish-ended.ensures.place ∙ ap₂ ended_place totals.0 at in
     ends a.held.now a.totals.now a.place.now (sym checked ∙ c.in_ok-check.was)
     (rw (ne_eqb (ended_place a.totals.now (place_of a.place.now)).past 1 (λ e. c.if-ended-eq1.false (ap (λ (x : Place). x.past) ended ∙ e))))
-    (c.finish-ended.ensures.list ∙ ap₂ ended_totals totals.0 at) (c.store.ensures ∙ ap place_list ended)
+    (c.finish-ended.ensures.list ∙ ap₂ ended_totals totals.0 at) (c.into.ensures ∙ ap place_list ended)

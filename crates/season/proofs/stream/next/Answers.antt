@@ -35,7 +35,7 @@ returns-in_err-check c =
     let held = array 65536 lent_mut _ _ _ c.as_mut_array.ensures.cases c.ok_or.ensures.value c.in_ok-held.was in
     let totals = array 16 lent_mut _ _ _ c.as_mut_array-2.ensures.cases c.ok_or-2.ensures.value c.in_ok-totals.was in
     let place = array 3 lent_mut _ _ _ c.as_mut_array-3.ensures.cases c.ok_or-3.ensures.value c.in_ok-lent.was in
-    let at = c.place_of-place.ensures ∙ ap place_of place.0 in
+    let at = c.from-place.ensures ∙ ap place_of place.0 in
     let checked = by_checks a.held.now a.totals.now a.place.now (none_amiss held.1 totals.1 place.1) totals.0 at c.check.ensures in
     rw (p.1, p.2, held.0, totals.0, place.0) (refused_feeds a.held.now a.totals.now a.place.now a.bytes.now _ (sym checked ∙ c.in_err-check.was))
 
@@ -45,7 +45,7 @@ invariant_of-open c =
     let held = array 65536 lent_mut _ _ _ c.as_mut_array.ensures.cases c.ok_or.ensures.value c.in_ok-held.was in
     let totals = array 16 lent_mut _ _ _ c.as_mut_array-2.ensures.cases c.ok_or-2.ensures.value c.in_ok-totals.was in
     let place = array 3 lent_mut _ _ _ c.as_mut_array-3.ensures.cases c.ok_or-3.ensures.value c.in_ok-lent.was in
-    let at = c.place_of-place.ensures ∙ ap place_of place.0 in
+    let at = c.from-place.ensures ∙ ap place_of place.0 in
     let checked = by_checks a.held.now a.totals.now a.place.now (none_amiss held.1 totals.1 place.1) totals.0 at c.check.ensures in
     let p = passed_state a.held.now a.totals.now a.place.now (sym checked ∙ c.in_ok-check.was) in
     record { sound = record { long = rw held.0 p.held_long; within = subst Roomy (sym totals.0) p.roomy; stands = subst Stands (sym at) p.stands } }
@@ -56,10 +56,10 @@ returns c =
     let held = array 65536 lent_mut _ _ _ c.as_mut_array.ensures.cases c.ok_or.ensures.value c.in_ok-held.was in
     let totals = array 16 lent_mut _ _ _ c.as_mut_array-2.ensures.cases c.ok_or-2.ensures.value c.in_ok-totals.was in
     let place = array 3 lent_mut _ _ _ c.as_mut_array-3.ensures.cases c.ok_or-3.ensures.value c.in_ok-lent.was in
-    let at = c.place_of-place.ensures ∙ ap place_of place.0 in
+    let at = c.from-place.ensures ∙ ap place_of place.0 in
     let checked = by_checks a.held.now a.totals.now a.place.now (none_amiss held.1 totals.1 place.1) totals.0 at c.check.ensures in
-    let same : stream c.in_ok-held.held.now c.in_ok-totals.totals.now c.place_of-place.result ≡ stream a.held.now a.totals.now (place_of a.place.now) = rw (held.0, totals.0, at) in
+    let same : stream c.in_ok-held.held.now c.in_ok-totals.totals.now c.from-place.result ≡ stream a.held.now a.totals.now (place_of a.place.now) = rw (held.0, totals.0, at) in
     let fed_now =
     feeds a.held.now a.totals.now a.place.now a.bytes.now (sym checked ∙ c.in_ok-check.was)
-    (c.feed.ensures.goes ∙ ap (fed a.bytes.now) same) c.store.ensures in
+    (c.feed.ensures.goes ∙ ap (fed a.bytes.now) same) c.into.ensures in
     search rules
