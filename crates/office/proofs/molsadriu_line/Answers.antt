@@ -7,11 +7,8 @@ use Rattle.text.specs.Lines.{line_at}
 use Rattle.office.proofs.OwnBytes.{own_bytes}
 use Rattle.office.proofs.molsadriu_line.Goals as goal
 
-pub returns : goal.returns
-returns c =
+pub returns-clause-bytes : goal.returns-clause-bytes
+returns-clause-bytes c =
     let a = c.args in
     let same : c.line-line.result.now ≡ line_at a.file.now a.start = c.line-line.ensures in
-    record {
-      length = ap length same;
-      bytes = ap (λ (line : List ℕ). take (length line) (drop a.start a.file.now)) same ∙ own_bytes a.file.now a.start;
-    }
+    ap (λ (line : List ℕ). take (length line) (drop a.start a.file.now)) same ∙ own_bytes a.file.now a.start
