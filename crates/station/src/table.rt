@@ -47,7 +47,8 @@ pub struct Table {
     ghost small: { SumTable sums },
 }
 
-// The place in a table of a face, a position and an object as the list has them. The fields one by one, as the rule has them.
+// The place in a table of a face, a position and an object as the list has them. The fields one by one, as the rule has them, and by
+// their sizes, as the clause speaks of them.
 pub fn slot_of(face: i64, position: i64, object: i64) -> usize
     requires { (nat_abs face ≤ 1) × (((1 ≤ nat_abs position) × (nat_abs position ≤ 16)) × ((1 ≤ nat_abs object) × (nat_abs object ≤ 16))) }
     ensures place { result ≡ slot (nat_abs face) (nat_abs position - 1) (nat_abs object - 1) }
