@@ -7,7 +7,7 @@ use crate::Kind;
 use crate::terms::Terms;
 use reply::Refusal;
 
-// Whether there are too few or too many directions, or not as many q.
+// Whether there are too few or too many directions, or not as many q. The limits here, 64 and 12, are this crate's rule's own, as those in lib.rt are.
 #[tactic(auto, unfolding(crate::specs::Rules::directions_miscounted))]
 fn directions_miscounted(m: usize, q: usize) -> bool
     ensures { result ≡ directions_miscounted m q }

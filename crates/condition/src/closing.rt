@@ -22,6 +22,7 @@ pub struct Directions<'a> {
 impl<'a> Directions<'a> {
     // The value of a direction number: number 0 is the fixed initial, 1 to m stand in the list. No Option: the rules call the initial 0, and C lends it so.
     // What is asked of a number, of a term's ends and of a term is asked here and in tally.rt: a type for it would have m as a field, beside each term.
+    // Numbers become places by `as`, here and in tally.rt: the clauses speak of their sizes.
     fn at(self, number: i64) -> i64
         requires { Number (length self.values.now) number }
         ensures { result ≡ direction_at self.entry.values.now (nat_abs number) }

@@ -7,6 +7,7 @@ ghost use Rattle.std.specs.Prelude.{◌≤◌};
 
 use condition::Kind;
 
+// The codes of the letters, said here apart from `condition`, whose reading of them is what is tested.
 const P: i64 = b'P' as i64;
 
 const F: i64 = b'F' as i64;

@@ -27,7 +27,7 @@ pub fn out_of_range(direction: i64, q: i64) -> bool
 }
 
 // Refuses the first direction that is out of range, by its number.
-// The loops that refuse the first at fault differ by their test; one over closures would need each test's promise as a parameter.
+// The loops that refuse the first at fault differ by their test and by the refusal; one over closures would have both as parameters, for a loop of three lines.
 // The lists lie side by side, as C lends them. By `zip` the loop would have a proof about three iterators, where it has one about a number.
 pub fn check(directions: &[i64], q: &[i64]) -> Result<(), Refusal>
     requires { length q.now ≡ length directions.now }

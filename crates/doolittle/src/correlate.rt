@@ -21,6 +21,7 @@ fn correlate(rows: &[Row; 24], k: &[i64], j: usize, n: usize) -> i64
 
 // All correlates in back order, up to the first that is beyond 10^8, into a lent list; or the row of that one, counted from 1. Whatever table the rows are of,
 // they are its correlates. n stands beside the rows, which are 24 whatever the table has; that it is within them and k is asked: the table is not read here.
+// The limit is the rule's; another rule has it again, of numbers that a listing says.
 pub fn correlates(rows: &[Row; 24], n: usize, k: &mut [i64]) -> Result<(), usize>
     requires room { (n ≤ 24) × (n ≤ length k.old) }
     requires rows { (j : ℕ) → j < n → BackWithin j n rows.now }

@@ -53,7 +53,7 @@ pub enum Kind {
     Reports,
 }
 
-// What stands above each listing: a line with its file's name, or none.
+// What stands above each listing: a line with its file's name, or none. An enum and no bool, so that a call says which.
 #[derive(Clone, Copy, Debug, PartialEq, Eq)]
 pub enum Heading {
     Name,
@@ -196,7 +196,7 @@ pub fn arg_count(rt: &impl Env) -> usize {
 
 // The name that is argument i, from the start of a lent buffer; how many bytes it has. A name that the buffer cannot hold is longer than any
 // file's: its first bytes fill the buffer, and they do not open either.
-// A name of no bytes and no Option: callers ask only for arguments that there are.
+// A name of no bytes and no Option: an argument that is not there opens no file, and that is said where the file is opened.
 fn name_of(rt: &impl Env, i: usize, name: &mut [u8]) -> usize
     ensures { result ≤ length name.new }
 {
@@ -254,11 +254,10 @@ impl<'a> Program<'a> {
 
     // Opens the file of that name, or says that it cannot be opened.
     fn open(self, name: &[u8]) -> Result<File, Trouble> {
-        let file = open(self.rt, name);
-        if file.is_none() {
+        open(self.rt, name).ok_or_else(|| {
             self.say("open", name);
-        }
-        file.ok_or(Trouble::Unread)
+            Trouble::Unread
+        })
     }
 
     // The file of that name.

@@ -66,7 +66,7 @@ pub fn check_pair(
 
 // The nets and sheets that the arguments name by turns, each pair under the sheet's name. A net at the end, with no sheet behind it, is left out.
 // Where one answer could not be written, the next could not be either. Answers the program's exit status.
-// A loop of its own beside that of `print_arguments`: a closure for what is done would have to ask that a pair's second number is above 0.
+// A loop of its own beside that of `print_arguments`: a closure for what is done could be called with any number, and `i - 1` asks that it is not 0.
 pub fn check_arguments(program: Program) -> ExitCode
     ensures { Ends (exit_status result) }
 {

@@ -51,7 +51,7 @@ fn one_too_many(n: u64, terms: u64) -> bool
     MOST_CONDITIONS <= n || (0 < n && terms == 0)
 }
 
-// Refusals 1 to 3 of a D line: it stands after a C line, its number is out of turn, its direction or its q is out of range.
+// Refusals 1 to 3 of a D line: it stands after a C line, its number is out of turn or one too many, its direction or its q is out of range.
 #[tactic(auto, unfolding(crate::specs::Scan::direction_reply))]
 fn direction_reply(
     place: u64,
@@ -97,7 +97,7 @@ fn angles_reply(place: u64, c: Counts, target: i64) -> Result<(), Refusal>
     Ok(())
 }
 
-// Refusals 1 to 3 of a term: it stands under the wrong heading, it is one too many, a field is out of range. The fields come one by one, as the rule has them.
+// Refusals 1 to 3 of a term: it stands under no heading or the wrong one, it is one too many, a field is out of range. The fields come one by one, as the rule has them.
 #[tactic(auto, unfolding(crate::specs::Scan::term_reply))]
 fn term_reply(
     place: u64,

@@ -78,7 +78,7 @@ fn sizes_of(kind: Kind, net: NetTable) -> Sizes
     Sizes { sum, most }
 }
 
-// The share of an accepted net: the last five by their places in C's list of sixteen, which specs/Totals has.
+// The share of an accepted net. Its last five numbers stand where C's list of sixteen has them (specs/Totals).
 fn accepted(net: NetTable) -> [u64; TOTALS]
     requires w { Small 1000000 net.w.now (length net.w.now) }
     requires a { length net.w.now * length net.directions.now ≤ length net.a.now }

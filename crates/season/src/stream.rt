@@ -51,7 +51,7 @@ impl From<Place> for [u64; PLACES] {
     }
 }
 
-// A byte of the open net is kept where there is room.
+// A byte of the open net is kept where there is room: the list and the count beside it, as the rule's `kept_in` has them.
 #[tactic(auto, unfolding(crate::specs::Stream::kept_in))]
 fn keep(byte: u8, held: &mut [u8; ROOM], bytes: u64)
     ensures { held.new ≡ kept_in held.old bytes byte }
@@ -168,7 +168,7 @@ fn most_at(i: usize) -> u64
     if i == 0 { MOST_NETS } else { MOST_TOTAL }
 }
 
-// Refuses the first total that no stream has.
+// Refuses the first total that no stream has. Not one with `direction::check`, which says why.
 fn check_totals(totals: &[u64; TOTALS]) -> Result<(), Refusal>
     ensures { result ≡ totals_reply totals.now }
 {

@@ -11,7 +11,7 @@ use network::Size;
 use reply::Refusal;
 use text::{find, row};
 
-// The most digits of a number in a listing.
+// The most digits of a number in a listing, its rule's own.
 const MOST_DIGITS: usize = 18;
 
 // Places for the numbers of 64 V lines and 24 K lines, the limits of the rule in specs/.

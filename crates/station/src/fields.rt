@@ -49,7 +49,7 @@ impl<'a> Sightings<'a> {
             && self.reading.len() == n
     }
 
-    // Refuses the first sighting with a field out of range, by its ordinal.
+    // Refuses the first sighting with a field out of range, by its ordinal. Not one with `direction::check`, which says why.
     fn check(&self) -> Result<(), Refusal>
         requires { OneLength (book_of self.now) }
         ensures { result ≡ fields_reply (book_of self.now) }

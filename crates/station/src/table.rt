@@ -103,8 +103,8 @@ impl Table {
         }
     }
 
-    // How many left sightings there are of a pair, and how many right ones. Four methods and no face that is passed: the rules have L and R by name, and an
-    // enum would need its places in specs/, and a case of it written at each call, to say the same.
+    // How many left sightings there are of a pair, and how many right ones. Four methods, each one call of `entry`: with the face passed, a number, each would
+    // ask that it is below 2, and be no shorter to call.
     pub fn left_count(&self, at: PairAt) -> i64
         ensures { result ≡ entry self.now.count 0 at.position at.object }
     {

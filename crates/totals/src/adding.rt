@@ -92,8 +92,8 @@ fn entry_at(text: &[u8], due: usize) -> Option<(u64, u64)>
     }
 }
 
-// The number of the next line: 18 digits at most, where it stays.
-// This step and those below take what their rules in specs/Adding take, and no whole Tally, so that each says only what it reads.
+// The number of the next line; it stops at 18 digits.
+// This step and those below take what their rules in specs/Adding take: a whole Tally only where the rule has one, so that each says only what it reads.
 #[tactic(auto, unfolding(crate::specs::Adding::line_after))]
 fn line_after(line: u64) -> u64
     ensures { result ≡ line_after line }

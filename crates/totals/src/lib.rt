@@ -66,7 +66,7 @@ fn too_large(i: usize, x: u64, y: u64) -> bool
     x > MOST_TOTAL || y > MOST_TOTAL || joined(i, x, y) > MOST_TOTAL
 }
 
-// Refuses the first place at which a number is past 18 digits, counted from 1.
+// Refuses the first place at which a number is past 18 digits, counted from 1. Not one with `direction::check`, which says why.
 fn check(first: &[u64; TOTALS], second: &[u64; TOTALS]) -> Result<(), Refusal>
     ensures { result ≡ sizes_reply first.now second.now }
 {

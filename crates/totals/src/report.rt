@@ -4,7 +4,7 @@ ghost use Rattle.text.specs.Written.{Wrote, Puts, in_order};
 ghost use Rattle.totals.specs.Text.{head_of, place_of, pair_on, ending_of, line_of, last_line, report_in};
 
 use crate::{TOO_MANY_NETS, TOTALS};
-use reply::{Refusal, Verdict};
+use reply::Verdict;
 use text::LF;
 use text::writer::Writer;
 
@@ -14,7 +14,7 @@ const LINES: usize = 14;
 // Bytes that hold any report: 72 for each of its lines, and the last one.
 pub const REPORT: usize = 1_060;
 
-// What a line begins with: at most 27 bytes.
+// What a line begins with: at most 27 bytes. The lines go by number, here and below: nine of the fourteen are alike.
 // Each function here asks room for its own part of a line: how much differs, so it is no fact of the writer's type.
 #[tactic(auto, unfolding(crate::specs::Text::head_of), using(text::proofs::Putting::count_most))]
 pub fn put_head(w: &mut Writer, line: usize)
