@@ -11,7 +11,7 @@
 --   long_net                         the share of a net over 65,535 bytes
 --   share_is, left_is, long_is       each share is of one net, under one number, and has no figure above 24,000,000
 use mathlib.Core.Path.{◌≡◌, refl, sym, ◌∙◌, ap, ap₂, subst}
-use mathlib.Core.Bool.{Bool, true, false, cond}
+use mathlib.Core.Bool.{Bool, true, false, cond, ◌&&◌}
 use mathlib.Core.List.{List, [], ◌∷◌, ◌++◌}
 use Prim.Native.Nat.{ℕ, zero, suc, ◌+◌, ◌*◌, ◌≤◌, ◌<◌, max}
 use native.Mathlib.Decide.{dec_lt, ℕ_discrete}
@@ -19,7 +19,7 @@ use native.Mathlib.Nat.{max-le}
 use native.Mathlib.Numerals.{add-one}
 use native.Mathlib.Omega.{arith}
 use borrow.Author.Tests.{eq-eqb, ne_eqb, lt-ltb}
-use lib.Dec.{eqb}
+use lib.Dec.{ltb, eqb}
 use lib.IntN.{ℤ, pos, nat_abs}
 use lib.ListN.{length, get_or, set, replicate, length-append, length-set, length-replicate, get_or-replicate, get_or-append}
 use lib.Seq.{set-append_left, get_or-set_same, get_or-set_other}
@@ -93,7 +93,7 @@ most_most (suc n) b f h = max-le (most_most n b f (λ i l. h i (omega arith))) (
 module _ (kind : Kind) (kinds : List Kind) (w : List ℤ) (j : ℕ) where
   pub size_most : nat_abs (get_or w j (pos 0)) ≤ 1000000 → size_at kind kinds w j ≤ 1000000
   unfolding size_at
-  size_most l = by_test (alike (get_or kinds j Angle) kind)
+  size_most l = by_test (ltb j (length kinds) && alike (get_or kinds j Angle) kind)
     where
       by_test : (b : Bool) → cond b (nat_abs (get_or w j (pos 0))) 0 ≤ 1000000
       by_test true = l

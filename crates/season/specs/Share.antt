@@ -1,5 +1,5 @@
 -- What one net has in the report: its share in each of the sixteen totals.
-use Rattle.std.specs.Prelude.{Bool, true, false, cond, List, [], ◌∷◌, ◌++◌, ℕ, zero, suc, ◌+◌, max, eqb, ℤ, pos, nat_abs, length, get_or}
+use Rattle.std.specs.Prelude.{Bool, true, false, cond, ◌&&◌, List, [], ◌∷◌, ◌++◌, ℕ, zero, suc, ◌+◌, max, eqb, ltb, ℤ, pos, nat_abs, length, get_or}
 use Rattle.exact.specs.Tabulate.{tabulate}
 use Rattle.reply.specs.Reply.{Reply}
 use Rattle.reply.specs.Checks.{leaves}
@@ -32,9 +32,9 @@ alike Angle Side = false
 alike Side Angle = false
 alike Side Side = true
 
--- the size of condition j's misclosure, where it is of this kind
+-- the size of condition j's misclosure, where there is such a condition and it is of this kind
 unfoldable pub size_at : (kind : Kind) (kinds : List Kind) (w : List ℤ) (j : ℕ) → ℕ
-size_at kind kinds w j = cond (alike (get_or kinds j Angle) kind) (nat_abs (get_or w j (pos 0))) 0
+size_at kind kinds w j = cond (ltb j (length kinds) && alike (get_or kinds j Angle) kind) (nat_abs (get_or w j (pos 0))) 0
 
 -- the last five of an accepted net, whose conditions have these kinds, misclosures and rows of m coefficients
 unfoldable pub figures : (kinds : List Kind) (w a : List ℤ) (m : ℕ) → List ℕ
