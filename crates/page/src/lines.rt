@@ -1,5 +1,5 @@
 // The lines that listings have in common, written into a lent buffer: a heading, a numbered line, and the REFUSED line.
-ghost use Rattle.std.specs.Prelude.{◌≡◌, ◌+◌, ◌≤◌, length};
+ghost use Rattle.std.specs.Prelude.{◌+◌, ◌≤◌, length};
 ghost use Rattle.text.specs.Written.{Puts};
 ghost use Rattle.page.specs.Lines.{counts_end, heading_line, line_head, numbered_line, refused_line};
 
@@ -20,8 +20,8 @@ fn put_counts(w: &mut Writer, first: u64, second: u64)
 }
 
 // The first line of a listing: a word of three letters and two counts.
-pub fn put_heading(w: &mut Writer, word: &[u8], first: u64, second: u64)
-    requires { (w.old.at + 48 ≤ length w.old.out.now) × (length word.now ≡ 3) }
+pub fn put_heading(w: &mut Writer, word: &[u8; 3], first: u64, second: u64)
+    requires { w.old.at + 48 ≤ length w.old.out.now }
     ensures { Puts w.old (heading_line word.now first second) 48 w.new }
 {
     w.word(word);
