@@ -31,6 +31,7 @@ pub fn means(file: &[u8], out: &mut [u8]) -> Result<usize, Refusal>
     if out.len() < LISTING {
         return Err(Refusal::Sightings);
     }
+    entries::check_length(file)?;
     let mut fields = Fields::new();
     let n = fields.read(file)?;
     let mut means = Means {

@@ -1,6 +1,7 @@
 // A spoiled book, read: why each of its sightings is dropped, by `station`.
 ghost use Rattle.book.specs.Rescue.{JudgedAs};
 
+use crate::entries;
 use crate::entries::Fields;
 use reply::Refusal;
 use station::MOST;
@@ -9,6 +10,7 @@ use station::MOST;
 pub fn judge(file: &[u8], reason: &mut [u8; MOST]) -> Result<usize, Refusal>
     ensures { JudgedAs file.now result reason.new }
 {
+    entries::check_length(file)?;
     let mut fields = Fields::new();
     let n = fields.read(file)?;
     station::judge(

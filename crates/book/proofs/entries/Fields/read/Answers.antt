@@ -20,12 +20,9 @@ use Rattle.text.proofs.Lettering.{behind_told, no_behind_told}
 use Rattle.book.specs.Lines.{letter_S, sighting_of}
 use Rattle.book.specs.declared.entries.Fields.{Fields}
 use Rattle.book.proofs.Entering.{Begun, begun_none, no_sighting, sighting, all_begun, Filled, filled_none, filled_more, entered}
-use Rattle.book.proofs.Refusing.{too_long, broken, too_many}
+use Rattle.book.proofs.Refusing.{broken, too_many}
 use Rattle.book.proofs.entries.Fields.read.Goals as goal
 use Rattle.book.proofs.entries.Fields.read.Goals.{In_ok-start}
-
-pub returns-then-file-gt-MOST_BYTES : goal.returns-then-file-gt-MOST_BYTES
-returns-then-file-gt-MOST_BYTES c = too_long c.args.file.now c.if-file-gt-MOST_BYTES.true
 
 pub loop-start-init : goal.loop-start-init
 loop-start-init c = (begun_none c.args.file.now, filled_none c.args.file.now c.args.self.now (search rules) (search rules) (search rules) (search rules))
@@ -44,7 +41,7 @@ returns-in_err-start c =
     let why = Malformed (c.loop-start.n + 1) in
     rw (p.1, p.2)
     (subst (λ (r : Result ℕ Refusal). EnteredAs file r c.loop-start.self) (sym (e.value ∙ ap (λ (line : Option ℕ). ok_or line why) e.ok_part))
-    (broken file c.if-file-gt-MOST_BYTES.false why
+    (broken file c.requires why
     (no_sighting file c.loop-start.invariant.0 c.loop-start-test.true (no_behind_told 11 _ _ _ _ (sym c.read_behind.ensures.end ∙ e.ok_part)))))
 
 -- ---- a sighting
@@ -77,9 +74,9 @@ loop-start-preserved c =
 pub returns-then-n-gt-MOST : goal.returns-then-n-gt-MOST
 returns-then-n-gt-MOST c =
     let all = all_begun c.args.file.now c.loop-start.invariant.0 c.loop-start-test.false in
-    too_many c.args.file.now c.if-file-gt-MOST_BYTES.false all.0 (omega (arith, all.1))
+    too_many c.args.file.now c.requires all.0 (omega (arith, all.1))
 
 pub returns : goal.returns
 returns c =
     let v = c.loop-start.invariant in
-    entered c.args.file.now c.if-file-gt-MOST_BYTES.false v.0 c.loop-start-test.false c.if-n-gt-MOST.false v.1
+    entered c.args.file.now c.requires v.0 c.loop-start-test.false c.if-n-gt-MOST.false v.1
