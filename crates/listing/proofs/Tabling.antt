@@ -1,9 +1,10 @@
 -- Laws of the reply to a condition table and to a net, and of their listings, by what `adjustment` and the conditions have answered. Assumes nothing.
 --   answers_errors_lem                              the errors of a table's answers
---   answered, errors_accepted, table_accepted   the reply to a table; that an accepted one's errors are not refused; and its listing
+--   answered, errors_accepted, table_accepted   the reply to a table, in lent lists that fit; that an accepted one's errors are not refused; and its listing
+--   given_answered, given_errors_accepted, given_table_accepted      the same of a table whose answers stand in lists of their own
 --   file_refused, file_reply_lem, file_listing_lem      the reply to a file whose table is refused, and to one whose is not; its listing
 --   answers_most                                the ADJ, V and K lines have no more than 6,560 bytes
-use mathlib.Core.Path.{◌≡◌, refl, sym, ◌∙◌, ap, subst}
+use mathlib.Core.Path.{◌≡◌, refl, sym, ◌∙◌, ap, ap₂, subst}
 use mathlib.Core.List.{List, [], ◌++◌}
 use Prim.Native.Nat.{ℕ, ◌≤◌}
 use native.Mathlib.Omega.{arith}
@@ -20,7 +21,9 @@ use Rattle.doolittle.specs.Solution.{K}
 use Rattle.adjustment.specs.Corrections.{u_of}
 use Rattle.adjustment.specs.Promise.{Answers, adjust_reply, answers_of}
 use Rattle.adjustment.specs.declared.lists.Adjusted.{Adjusted}
-use Rattle.adjustment.specs.Inner.{fitting, answers_in, GivesAnswers}
+use Rattle.adjustment.specs.Inner.{AdjustsOwn, fitting, answers_in, GivesAnswers}
+use Rattle.adjustment.proofs.Fitting.{Lent, fitting_reply}
+use Rattle.precision.specs.declared.Errors.{Errors}
 use Rattle.precision.specs.Errors.{errors_of}
 use Rattle.precision.specs.Promise.{errors_reply}
 use Rattle.precision.proofs.Adjusting.{table_admitted}
@@ -30,7 +33,7 @@ use Rattle.network.specs.Net.{Net, net_of, zeros, formed_reply, rows_of, misclos
 use Rattle.network.specs.declared.lists.NetTable.{NetTable}
 use Rattle.network.proofs.Tables.{misclosures_long}
 use Rattle.listing.specs.declared.Sheet.{Sheet}
-use Rattle.listing.specs.Listing.{on_sheet}
+use Rattle.listing.specs.Listing.{accepted_listing, on_sheet}
 use Rattle.listing.specs.File.{table_in, room, net_reply, net_answers, file_reply, answers_listing, answers_errors, answers_on, table_listing, net_listing, file_listing}
 use Rattle.listing.proofs.Composing.{accepted_most, ended_by}
 use Rattle.std.specs.Prelude.{Result, Ok, Err}
@@ -41,29 +44,62 @@ pub answers_errors_lem : (q : List ℤ) (t : Table) (k direction : ℕ → ℤ) 
 unfolding answers_errors
 answers_errors_lem q t k direction = ap (errors_of (tabulate t.m (u_of t k)) q) (tabulate_length t.n k)
 
-module _ (ds q a w : List ℤ) {given : Result Adjusted Refusal} (p : GivesAnswers ds q a w given) where
-  pub answered : adjust_reply ds q a w (room (length ds) (length w)) ≡ figure_reply given
-  unfolding fitting room zeros
-  answered = sym p.reply
-
+module _ (ds q a w : List ℤ) where
   abbrev answers : Answers
   answers = answers_of (table_of q a w) (K (table_of q a w)) (at ds)
 
-  module _ {x : Adjusted} (e : given ≡ Ok x) where
-    answers_are : answers_in x ≡ answers
-    answers_are = p.answers x e
+  -- adjusted in lent lists that fit
+  module _ {lent : Answers} (l : Lent (length ds) (length w) lent) {reply : Reply} {left : Answers} (p : AdjustsOwn ds q a w lent reply left) where
+    pub answered : adjust_reply ds q a w (room (length ds) (length w)) ≡ reply
+    unfolding fitting room zeros
+    answered = fitting_reply ds q a w l ∙ sym p.answer
 
-    -- its errors are not refused
-    pub errors_accepted : errors_reply x.printed.now q (length x.correlates.now) ≡ Ok tt
-    errors_accepted =
-        subst (λ (y : Answers). errors_reply y.printed q (length y.correlates) ≡ Ok tt) (sym answers_are)
-        (rw (tabulate_length (length w) (K (table_of q a w))) (table_admitted ds q a w (room (length ds) (length w)) (answered ∙ ap figure_reply e)))
+    module _ (e : reply ≡ Ok tt) where
+      left_is : left ≡ answers
+      left_is = p.lists e
 
-    pub table_accepted : (sheet : Sheet) → answers_listing (answers_in x) ++ on_sheet sheet [] (errors_of x.printed.now q (length x.correlates.now)) ≡ table_listing sheet ds q a w
-    unfolding table_listing answers_on answers_errors
-    table_accepted sheet =
-        ap (λ (y : Answers). answers_listing y ++ on_sheet sheet [] (errors_of y.printed q (length y.correlates))) answers_are
-        ∙ ended_by sheet (answers_listing answers) (answers_errors q answers)
+      -- its errors are not refused
+      pub errors_accepted : errors_reply left.printed q (length w) ≡ Ok tt
+      errors_accepted = subst (λ (x : Answers). errors_reply x.printed q (length w) ≡ Ok tt) (sym left_is) (table_admitted ds q a w lent (sym p.answer ∙ e))
+
+      lines_are : length q ≡ length ds
+          → accepted_listing (length ds) (length w) left.printed left.adjusted left.correlates left.remainders left.misses ≡ answers_listing answers
+      unfolding answers_listing
+      lines_are m =
+          ap (λ (x : Answers). accepted_listing (length ds) (length w) x.printed x.adjusted x.correlates x.remainders x.misses) left_is
+          ∙ ap₂ (λ (m n : ℕ). accepted_listing m n answers.printed answers.adjusted answers.correlates answers.remainders answers.misses) (sym (tabulate_length (length q) _ ∙ m)) (sym (tabulate_length (length w) _))
+
+      pub table_accepted : (sheet : Sheet) → length q ≡ length ds
+          → accepted_listing (length ds) (length w) left.printed left.adjusted left.correlates left.remainders left.misses ++ on_sheet sheet [] (errors_of left.printed q (length w))
+          ≡ table_listing sheet ds q a w
+      unfolding table_listing answers_on
+      table_accepted sheet m =
+          ap₂ (λ (x : List ℕ) (y : Errors). x ++ on_sheet sheet [] y) (lines_are m)
+          (ap (λ (x : Answers). errors_of x.printed q (length w)) left_is ∙ sym (answers_errors_lem q (table_of q a w) (K (table_of q a w)) (at ds)))
+          ∙ ended_by sheet (answers_listing answers) (answers_errors q answers)
+
+  -- adjusted in answer lists of its own
+  module _ {given : Result Adjusted Refusal} (p : GivesAnswers ds q a w given) where
+    pub given_answered : adjust_reply ds q a w (room (length ds) (length w)) ≡ figure_reply given
+    unfolding fitting room zeros
+    given_answered = sym p.reply
+
+    module _ {x : Adjusted} (e : given ≡ Ok x) where
+      answers_are : answers_in x ≡ answers
+      answers_are = p.answers x e
+
+      -- its errors are not refused
+      pub given_errors_accepted : errors_reply x.printed.now q (length x.correlates.now) ≡ Ok tt
+      given_errors_accepted =
+          subst (λ (y : Answers). errors_reply y.printed q (length y.correlates) ≡ Ok tt) (sym answers_are)
+          (rw (tabulate_length (length w) (K (table_of q a w))) (table_admitted ds q a w (room (length ds) (length w)) (given_answered ∙ ap figure_reply e)))
+
+      pub given_table_accepted : (sheet : Sheet)
+          → answers_listing (answers_in x) ++ on_sheet sheet [] (errors_of x.printed.now q (length x.correlates.now)) ≡ table_listing sheet ds q a w
+      unfolding table_listing answers_on answers_errors
+      given_table_accepted sheet =
+          ap (λ (y : Answers). answers_listing y ++ on_sheet sheet [] (errors_of y.printed q (length y.correlates))) answers_are
+          ∙ ended_by sheet (answers_listing answers) (answers_errors q answers)
 
 -- ---- the net
 -- where two replies are one after the other, and a third after both
