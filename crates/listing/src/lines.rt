@@ -48,11 +48,11 @@ fn put_ks(w: &mut Writer, answers: Adjusted)
         (k_lines (length answers.entry.correlates.now) answers.entry.correlates.now answers.entry.remainders.now answers.entry.misses.now)
         (length answers.entry.correlates.now * 90) w.new }
 {
-    for (j, x) in answers.correlates.iter().enumerate() {
+    for j in 0..answers.correlates.len() {
         put_k(
             w,
             j as u64 + 1,
-            *x,
+            answers.correlates[j],
             answers.remainders[j],
             answers.misses[j],
         );
