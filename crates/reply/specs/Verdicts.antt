@@ -1,5 +1,5 @@
 -- What a caller is told of a reply: this paper's number and place, two numbers.
-use Rattle.std.specs.Prelude.{◌≡◌, Ok, Err}
+use Rattle.std.specs.Prelude.{◌≡◌, List, ◌++◌, ℕ, codes, decimal, Ok, Err}
 use Rattle.reply.specs.declared.Refusal.{Refusal}
 use Rattle.reply.specs.Reply.{Reply}
 use Rattle.reply.specs.declared.Verdict.{Verdict}
@@ -15,6 +15,10 @@ refused why = record { number = number_of why; place = place_of why }
 abbrev pub verdict_of : Reply → Verdict
 verdict_of (Ok _) = accepted
 verdict_of (Err why) = refused why
+
+-- how a refusal is printed where a program tells of it: the word, its number and its place
+abbrev pub told : Refusal → List ℕ
+told why = codes "refused " ++ (decimal (number_of why) ++ (codes " " ++ decimal (place_of why)))
 
 -- what an operation promises whose one answer is its reply: that of the rule, and in this paper's numbers its number and place
 pub record Replies (rule reply : Reply) : Type 0 where

@@ -2,9 +2,9 @@
 // Number and place stand in one definition each (specs/Numbers.antt); a `Verdict` has both (specs/Verdicts.antt).
 #![tactic(auto)]
 
-ghost use Rattle.std.specs.Prelude.{◌≡◌};
+ghost use Rattle.std.specs.Prelude.{◌≡◌, Some};
 ghost use Rattle.reply.specs.Numbers.{number_of, place_of};
-ghost use Rattle.reply.specs.Verdicts.{refused, verdict_of};
+ghost use Rattle.reply.specs.Verdicts.{refused, told, verdict_of};
 
 use std::error::Error;
 use std::fmt;
@@ -113,6 +113,8 @@ impl Refusal {
 }
 
 impl fmt::Display for Refusal {
+    ghost output = { λ why. Some (told why) };
+
     fn fmt<W: fmt::Write>(&self, f: &mut fmt::Formatter<W>) -> fmt::Result {
         write!(f, "refused {} {}", self.number(), self.place())
     }
