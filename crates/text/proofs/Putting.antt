@@ -1,7 +1,7 @@
 -- Bytes written one part after another. Assumes nothing.
 --   then                                    what was written, and what was written after it, are written together
 --   wrote_length, rewrote, one_wrote        the buffer keeps its length; the same bytes; the same bytes at the same place leave one buffer
---   word_more, copied                       a word: one byte more of it, and as a slice takes it
+--   word_more                               a word: one byte more of it
 --   wrote_start                             what was written from the start of a buffer stands there
 --   digits_most, count_most, written_most   a number takes at most 20 digits, and a minus
 --   puts, puts_then, puts_most, puts_as     what a writer puts; and more after it; at most so many bytes; the same bytes
@@ -18,11 +18,9 @@ use Prim.Native.Nat.{ℕ, zero, suc, ◌+◌, ◌*◌, ◌/◌, ◌%◌, ◌≤�
 use native.Mathlib.Nat.{suc-mul, mul-le-mul_right}
 use native.Mathlib.Numerals.{add-one}
 use native.Mathlib.Omega.{arith}
-use Rattle.std.proofs.Common.{append_assoc}
 use lib.Dec.{ltb}
 use lib.ListN.{length, get_or, take, drop, length-append}
-use borrow.Rule.Slice.PartMut.{put_mid}
-use lib.Seq.{drop-drop, sets, length-sets, sets-eq, take-suc, take-append-le, take_all}
+use lib.Seq.{sets, length-sets, sets-eq, take-suc, take-append-le, take_all}
 use lib.IntN.{ℤ, pos, negsuc, nat_abs}
 use lib.Signed.{◌≤ℤ◌, ◌<ℤ◌}
 use Rattle.text.proofs.Writing.{digits_small, digits_large, length_small, length_large, written_below, written_above}
@@ -47,14 +45,10 @@ rewrote {a} {b} {at} {p} h w = subst (λ (zs : List ℕ). Wrote a at zs b p) h w
 pub one_wrote : {a b b' : List ℕ} {at p p' : ℕ} {xs : List ℕ} → Wrote a at xs b p → Wrote a at xs b' p' → (p ≡ p') × (b ≡ b')
 one_wrote w w' = (w.place ∙ sym w'.place, w.buffer ∙ sym w'.buffer)
 
--- ---- a word: one byte more of it, and as a slice takes it
+-- ---- a word: one byte more of it
 pub word_more : {a b c : List ℕ} {at p q : ℕ} (word : List ℕ) (i : ℕ) → i < length word → Wrote a at (take i word) b p → Wrote b p (get_or word i 0 ∷ []) c q
     → Wrote a at (take (i + 1) word) c q
 word_more word i l f g = rewrote (sym (ap (λ (n : ℕ). take n word) (add-one i) ∙ take-suc word i 0 l)) (then f g)
-
-pub copied : (a word part : List ℕ) (at k : ℕ) → at + length word ≤ length a → k ≡ length word → part ≡ word
-    → Wrote a at word (put_mid at k a part) (at + length word)
-copied a word part at k l e p = record { buffer = rw (e, p, sets-eq word a at l, drop-drop, append_assoc); place = refl }
 
 pub wrote_start : {a b : List ℕ} {p : ℕ} (xs : List ℕ) → length xs ≤ length a → Wrote a 0 xs b p → take p b ≡ xs
 wrote_start {a} {b} {p} xs l w =
