@@ -234,11 +234,11 @@ fn after_line(t: Tally, text: &[u8]) -> Tally
     }
 }
 
-// One byte more.
-fn after_byte(b: u8, held: &mut [u8; HELD], a: Adding) -> Adding
-    requires { a.length ≤ 64 }
-    ensures stream { stream_of result held.new ≡ after_byte (stream_of a held.old) b }
-    ensures within { result.length ≤ 64 }
+// One byte more. What is known is changed where it stands: by value, all of it would be copied at each byte.
+fn after_byte(b: u8, held: &mut [u8; HELD], a: &mut Adding)
+    requires { a.old.length ≤ 64 }
+    ensures stream { stream_of a.new held.new ≡ after_byte (stream_of a.old held.old) b }
+    ensures within { a.new.length ≤ 64 }
 {
     let mut length = a.length;
     if length < HELD {
@@ -246,12 +246,10 @@ fn after_byte(b: u8, held: &mut [u8; HELD], a: Adding) -> Adding
         length += 1;
     }
     if b == LF {
-        Adding {
-            length: 0,
-            tally: after_line(a.tally, &held[..length]),
-        }
+        a.tally = after_line(a.tally, &held[..length]);
+        a.length = 0;
     } else {
-        Adding { length, ..a }
+        a.length = length;
     }
 }
 
@@ -282,7 +280,7 @@ pub fn next(bytes: &[u8], held: &mut [u8; HELD], a: Adding) -> Adding
 {
     let mut after = a;
     for b in bytes {
-        after = after_byte(*b, held, after);
+        after_byte(*b, held, &mut after);
     }
     after
 }

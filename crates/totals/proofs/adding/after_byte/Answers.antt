@@ -9,19 +9,19 @@ use Rattle.totals.proofs.adding.after_byte.Goals.{then-length-lt-HELD, else-leng
 pub returns-then-b-eq-LF-clause-stream : goal.returns-then-b-eq-LF-clause-stream
 returns-then-b-eq-LF-clause-stream c =
     let a = c.args in let l = c.if-length-lt-HELD in
-    let line : take l.length l.held ≡ lengthened (take a.a.length a.held.now) a.b =
+    let line : take l.length l.held ≡ lengthened (take a.a.now.length a.held.now) a.b =
     elim l.branch [
-      | then-length-lt-HELD w ↦ (held_more a.a.length a.held.now a.b l.length l.held (search rules) w.if-length-lt-HELD.true w.length-is w.held-is).text
-      | else-length-lt-HELD w ↦ (held_full a.a.length a.held.now a.b l.length l.held (search rules) w.if-length-lt-HELD.false c.requires w.length-is w.held-is).text
+      | then-length-lt-HELD w ↦ (held_more a.a.now.length a.held.now a.b l.length l.held (search rules) w.if-length-lt-HELD.true w.length-is w.held-is).text
+      | else-length-lt-HELD w ↦ (held_full a.a.now.length a.held.now a.b l.length l.held (search rules) w.if-length-lt-HELD.false c.requires w.length-is w.held-is).text
     ] in
-    byte_ended (stream_of a.a a.held.now) a.b line c.if-b-eq-LF.true c.after_line.ensures
+    byte_ended (stream_of a.a.now a.held.now) a.b line c.if-b-eq-LF.true c.after_line-a.ensures
 
 pub returns-else-b-eq-LF-clause-stream : goal.returns-else-b-eq-LF-clause-stream
 returns-else-b-eq-LF-clause-stream c =
     let a = c.args in let l = c.if-length-lt-HELD in
-    let line : take l.length l.held ≡ lengthened (take a.a.length a.held.now) a.b =
+    let line : take l.length l.held ≡ lengthened (take a.a.now.length a.held.now) a.b =
     elim l.branch [
-      | then-length-lt-HELD w ↦ (held_more a.a.length a.held.now a.b l.length l.held (search rules) w.if-length-lt-HELD.true w.length-is w.held-is).text
-      | else-length-lt-HELD w ↦ (held_full a.a.length a.held.now a.b l.length l.held (search rules) w.if-length-lt-HELD.false c.requires w.length-is w.held-is).text
+      | then-length-lt-HELD w ↦ (held_more a.a.now.length a.held.now a.b l.length l.held (search rules) w.if-length-lt-HELD.true w.length-is w.held-is).text
+      | else-length-lt-HELD w ↦ (held_full a.a.now.length a.held.now a.b l.length l.held (search rules) w.if-length-lt-HELD.false c.requires w.length-is w.held-is).text
     ] in
-    byte_held (stream_of a.a a.held.now) a.b line c.if-b-eq-LF.false
+    byte_held (stream_of a.a.now a.held.now) a.b line c.if-b-eq-LF.false

@@ -8,8 +8,8 @@ pub loop-b-preserved : goal.loop-b-preserved
 loop-b-preserved c =
     let l = c.loop-b in (
       omega arith,
-      c.after_byte-after.ensures.within,
-      bytes_more (stream_of l.after l.held) c.args.bytes.now l.b-index c.loop-b-test.true c.after_byte-after.ensures.stream ∙ l.invariant.2,
+      c.after_byte.ensures.within,
+      bytes_more (stream_of l.after l.held) c.args.bytes.now l.b-index c.loop-b-test.true c.after_byte.ensures.stream ∙ l.invariant.2,
     )
 
 pub returns-clause-stream : goal.returns-clause-stream
