@@ -1,13 +1,16 @@
 -- The laws of `floor` and `modulo`, for a divisor above 0. Assumes nothing.
---   floor_euclid, modulo_euclid    they are std's Euclidean quotient and remainder, which the code calls
+--   floor_euclid, modulo_euclid    they are std's Euclidean quotient and remainder; the code of `modulo` calls the latter
 --   floor_low, floor_high          d times the floor is not above z, and one more d is
 --   floor_only                     the one k with z = d * k + r and r from 0 to d - 1 is floor (z / d)
 --   modulo_low, modulo_high        what is left lies from 0 to m - 1; modulo_size: so its size is at most that of m
 --   modulo_only                    and is the only such number that differs from z by whole m
-use Rattle.std.proofs.Common.{◌≡◌, refl, ap, ◌∙◌, arith, ◌⊎◌, inl, inr, ◌≤◌, ℤ, pos, negsuc, nat_abs, ◌+ℤ◌, ◌-ℤ◌, ◌*ℤ◌, ◌≤ℤ◌, ◌<ℤ◌}
+--   floor_kept, floor_down         by the remainder of the machine's division: for the code of `floor`
+use Rattle.std.proofs.Common.{◌≡◌, refl, ap, ◌∙◌, arith, ◌⊎◌, inl, inr, ◌≤◌, ◌<◌, ℤ, pos, negsuc, nat_abs, ◌+ℤ◌, ◌-ℤ◌, ◌*ℤ◌, ◌≤ℤ◌, ◌<ℤ◌}
+use Rattle.std.proofs.Math.IntN.{*ℤ_comm}
 use Rattle.std.proofs.Math.Nat.{div-add-mod}
-use Rattle.std.proofs.lemmas.Int.{ints}
+use Rattle.std.proofs.lemmas.Int.{ints, quot-rem, rem_below}
 use Rattle.std.specs.Int.{int_div_euclid, int_rem_euclid}
+use Rattle.std.specs.Int.RustNames.{int_div, int_rem}
 use Rattle.exact.specs.Circle.{floor, modulo}
 use Rattle.exact.proofs.Ring.{*ℤ_dist_l, *ℤ_by_one}
 use Rattle.exact.proofs.Order.{lt_or_le, lt_le, le_antisym, mul_le_left}
@@ -68,3 +71,24 @@ modulo_size z m h = omega (arith, ints, modulo_low z m h, modulo_high z m h)
 pub modulo_only : (z m k r : ℤ) → pos 0 <ℤ m → z ≡ m *ℤ k +ℤ r → pos 0 ≤ℤ r → r <ℤ m → modulo z m ≡ r
 unfolding modulo
 modulo_only z m k r h e a b = ap (λ (f : ℤ). z -ℤ m *ℤ f) (floor_only z m k r h e a b) ∙ omega (arith, ints)
+
+-- ---- by the remainder of the machine's division: for the code of `floor`
+module _ (z d : ℤ) (h : pos 0 <ℤ d) where
+  abbrev q : ℤ
+  q = int_div z d
+
+  abbrev r : ℤ
+  r = int_rem z d
+
+  small : nat_abs r < nat_abs d
+  small = rem_below z d (omega (arith, ints))
+
+  pub floor_kept : pos 0 ≤ℤ r → floor z d ≡ q
+  floor_kept k = floor_only z d q r h (omega (arith, ints, quot-rem z d, *ℤ_comm d q)) k (omega (arith, ints, small))
+
+  pub floor_down : r <ℤ pos 0 → floor z d ≡ q -ℤ pos 1
+  floor_down k =
+      let e : (q -ℤ pos 1) +ℤ pos 1 ≡ q = omega (arith, ints) in
+      floor_only z d (q -ℤ pos 1) (r +ℤ d) h
+      (omega (arith, ints, quot-rem z d, *ℤ_comm d q, *ℤ_dist_l d (q -ℤ pos 1) (pos 1), *ℤ_by_one d, ap (λ (x : ℤ). d *ℤ x) e))
+      (omega (arith, ints, small)) (omega (arith, ints))

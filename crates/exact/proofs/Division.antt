@@ -1,6 +1,6 @@
 -- Division as the machine does it, toward zero, by a divisor above 0. Assumes nothing.
 --   quot_halved         where something is left over, the quotient is at most half of the number
---   Divided, divided    what the code of `nearest` reads of its quotient and its remainder
+--   Divided, divided    what the code of `nearest` and `floor` reads of the quotient and the remainder
 use Rattle.std.proofs.Common.{◌≡◌, arith, suc, ◌+◌, ◌*◌, ◌≤◌, ◌<◌, ℤ, pos, negsuc, nat_abs, ◌<ℤ◌, w64, FitsSigned, to_z, of_z}
 use Rattle.std.proofs.Math.Nat.{div-add-mod, mul-le-mul_right}
 use Rattle.std.proofs.lemmas.Int.{ints, quot_fits, quot_is, rem_is, rem_below}
