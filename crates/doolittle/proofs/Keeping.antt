@@ -29,12 +29,19 @@ module _ (rows : List (List ℤ)) where
         pick (yes e) = subst (λ (i : ℕ). P i (row_at (set rows g row) i)) (sym e) (rw row_put new)
         pick (no n) = rw (get_or-set_other rows g h row [] n) old
 
-    pub kept_put : (j : ℕ) → j ≤ g → Before j (row_at rows g) row → Kept j rows (set rows g row)
-    kept_put j b e = record {
-      long = length-set rows g row;
-      above = λ h k. get_or-set_other rows g h row [] (λ f. omega arith);
-      left = λ h k m. row_cases (λ h r. at r k ≡ cell rows h k) (e k m) h refl;
-    }
+  pub shape_put : Shaped rows → (g : ℕ) (row : List ℤ) → g < 24 → length row ≡ 25 → Shaped (set rows g row)
+  shape_put shape g row l w = record {
+    long = length-set rows g row ∙ shape.long;
+    wide = λ h k. row_cases g row (omega (arith, shape.long)) (λ h r. length r ≡ 25) w h (shape.wide h k);
+  }
+
+  pub kept_put : (g : ℕ) (row : List ℤ) → g < length rows → Shaped rows → (j : ℕ) → j ≤ g → length row ≡ 25 → Before j (row_at rows g) row → Kept j rows (set rows g row)
+  kept_put g row l shape j b w e = record {
+    shape = shape_put shape g row (omega (arith, l, shape.long)) w;
+    long = length-set rows g row;
+    above = λ h k. get_or-set_other rows g h row [] (λ f. omega arith);
+    left = λ h k m. row_cases g row l (λ h r. at r k ≡ cell rows h k) (e k m) h refl;
+  }
 
   -- place j of the rows from j + 1 on
   module _ (j k : ℕ) (f : ℕ → ℤ) (x : ℤ) (w : j < length (row_at rows k)) (l : k < length rows) where
@@ -48,24 +55,19 @@ module _ (rows : List (List ℤ)) where
         (λ b. rw (row_put k (set (row_at rows k) j x) l) (get_or-set_same (row_at rows k) j x (pos 0) w ∙ e))
         h a b
 
-  pub kept_none : (j : ℕ) → Kept j rows rows
-  kept_none j = record { long = refl; above = λ h l. refl; left = λ h k l. refl }
+  pub kept_none : Shaped rows → (j : ℕ) → Kept j rows rows
+  kept_none shape j = record { shape = shape; long = refl; above = λ h l. refl; left = λ h k l. refl }
 
--- ---- the shape
+-- the rows before anything is written
 pub zero_rows : Shaped (replicate 24 (replicate 25 (pos 0)))
 zero_rows = record {
   long = length-replicate 24 (replicate 25 (pos 0));
   wide = λ h l. ap length (get_or-replicate 24 h (replicate 25 (pos 0)) [] l) ∙ length-replicate 25 (pos 0);
 }
 
-pub shape_put : (rows : List (List ℤ)) → Shaped rows → (g : ℕ) (row : List ℤ) → g < 24 → length row ≡ 25 → Shaped (set rows g row)
-shape_put rows shape g row l w = record {
-  long = length-set rows g row ∙ shape.long;
-  wide = λ h k. row_cases rows g row (omega (arith, shape.long)) (λ h r. length r ≡ 25) w h (shape.wide h k);
-}
-
 pub kept_then : {j : ℕ} {rows next last : List (List ℤ)} → Kept j rows next → Kept j next last → Kept j rows last
 kept_then a b = record {
+  shape = b.shape;
   long = b.long ∙ a.long;
   above = λ h l. b.above h l ∙ a.above h l;
   left = λ h k l. b.left h k l ∙ a.left h k l;

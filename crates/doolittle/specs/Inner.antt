@@ -70,6 +70,7 @@ pub record Shaped (rows : List (List ℤ)) : Type 0 where
 
 -- the first j rows are as they were, and in every row the places before j
 pub record Kept (j : ℕ) (rows next : List (List ℤ)) : Type 0 where
+  pub shape : Shaped next
   pub long : length next ≡ length rows
   pub above : (h : ℕ) → h < j → row_at next h ≡ row_at rows h
   pub left : (h k : ℕ) → k < j → cell next h k ≡ cell rows h k

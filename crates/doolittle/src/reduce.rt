@@ -6,7 +6,7 @@ ghost use Rattle.exact.specs.First.{some_below};
 ghost use Rattle.doolittle.specs.Table.{at};
 ghost use Rattle.doolittle.specs.Solution.{N, carried, multiplier, low_pivot, weak_row};
 ghost use Rattle.doolittle.specs.Lent.{table_in};
-ghost use Rattle.doolittle.specs.Inner.{CONSTANT, From, Before, RowWithin, Holds, Kept, Reduced, share, with_above, row_at, cell};
+ghost use Rattle.doolittle.specs.Inner.{CONSTANT, From, Before, RowWithin, Holds, Shaped, Kept, Reduced, share, with_above, row_at, cell};
 
 use crate::SoundTable;
 
@@ -140,7 +140,7 @@ pub fn by_pivot(factor: i64, x: i64, pivot: i64) -> i64
 // The multipliers M(j,k) of row j, each into its place in row k, up to the first that is larger than 10^9; whether one is.
 // A bool and no Result: the rules' test of a row is one yes or no, of which this is the last part.
 fn multiply(row: Row, j: usize, n: usize, rows: &mut [Row; 24]) -> bool
-    requires places { (j < n) × (n ≤ 24) }
+    requires places { (j < n) × (n ≤ 24) × Shaped rows.old }
     requires own { From j n (λ k. nat_abs (at row k) ≤ 2560000000) × (pos 0 <ℤ at row j) }
     ensures value { result ≡ some_below n (λ k. ltb j k && ltb 1000000000 (nat_abs (multiplier (at row k) (at row j)))) }
     ensures multiplied { result ≡ false → From (suc j) n (λ k. cell rows.new k j ≡ multiplier (at row k) (at row j)) }
@@ -167,7 +167,7 @@ fn is_low(pivot: i64, entry: i64) -> bool
 // The one test of row j, each part as soon as what it tests is complete. `entry` is its N(j,j). The multipliers of a row that is not weak go into the rows
 // below it.
 fn is_weak(row: Row, entry: i64, j: usize, n: usize, rows: &mut [Row; 24]) -> bool
-    requires { (j < n) × (n ≤ 24) }
+    requires { (j < n) × (n ≤ 24) × Shaped rows.old }
     ensures value { result ≡ weak_row n j entry (at row) (at row CONSTANT) }
     ensures multiplied { result ≡ false → From (suc j) n (λ k. cell rows.new k j ≡ multiplier (at row k) (at row j)) }
     ensures kept { Kept j rows.old rows.new }
@@ -182,11 +182,26 @@ fn is_weak(row: Row, entry: i64, j: usize, n: usize, rows: &mut [Row; 24]) -> bo
     multiply(row, j, n, rows)
 }
 
+// A row has 25 places: its type says it here, as at `put`.
+fn tell_places(row: &Row)
+    ensures { length row.now ≡ 25 }
+{}
+
+// The triangle has 24 rows of 25 places, which no caller need say: each row's type tells its own. Nothing is read, so that nothing is left to run.
+fn tell_shape(rows: &[Row; 24])
+    ensures { Shaped rows.now }
+{
+    for h in 0..24 {
+        tell_places(&rows[h]);
+    }
+}
+
 // All rows in their order, up to the first weak one, into the triangle, with their multipliers; or the first weak one, counted from 0: it is the whole error,
 // since no refusal is known here.
 pub fn reduce(table: SoundTable, rows: &mut [Row; 24]) -> Result<(), usize>
     ensures { Reduced (table_in table.entry) rows.new result }
 {
+    tell_shape(rows);
     let n = table.w.len();
     for j in 0..n {
         // the row of N is reduced in its own local, which spares the stack a second one: its entry is read first

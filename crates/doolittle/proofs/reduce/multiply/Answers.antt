@@ -2,6 +2,7 @@
 use Rattle.std.proofs.Common.{◌≡◌, sym, ◌∙◌, ap, subst, arith, rules, suc, ◌<◌, length, set, pos, nat_abs, FitsSigned, w64, to_z, of_z}
 use Rattle.std.proofs.lemmas.Int.{to_z-of_z}
 use borrow.Author.Tests.{lt-ltb, le-ltb}
+use lib.ListN.{length-set}
 use lib.Seq.{get_or-set_other}
 use Rattle.exact.proofs.Searching.{Failed, failed_more, some_at, some_none, from_test}
 use Rattle.doolittle.specs.Table.{at}
@@ -31,7 +32,9 @@ loop-k-preserved c =
       failed_more (test row j) k v.0
           (from_test (suc j) k (large row j) (omega arith) ∙ le-ltb 1000000000 _ (rw size at c.if-magnitude-gt1000000000.false)),
       rw c.put.ensures.stored
-          (kept_then v.1 (kept_put c.loop-k.rows k (set old j m) low j (omega arith) (λ i l. get_or-set_other old j i m (pos 0) (λ e. omega arith)))),
+          (kept_then v.1
+          (kept_put c.loop-k.rows k (set old j m) low v.1.shape j (omega arith) (length-set old j m ∙ c.put.ensures.long)
+          (λ i l. get_or-set_other old j i m (pos 0) (λ e. omega arith)))),
       rw c.put.ensures.stored
           (column_more c.loop-k.rows j k (factor row j) m (omega (arith, c.put.ensures.long)) low v.2 (to_z-of_z w64 c.by_pivot-m.result h ∙ is)),
     )

@@ -49,11 +49,12 @@ module _ (c : After-is_weak) where
   tested = c.is_weak.new.rows
 
   low : j < length tested
-  low = omega (arith, below, c.is_weak.ensures.kept.long, c.loop-j.invariant.0)
+  low = omega (arith, below, c.is_weak.ensures.kept.shape.long)
 
   stored_kept : Kept j tested (set tested j row)
   stored_kept =
-      kept_put tested j row low j (le_refl j)
+      let long : length row ≡ 25 = search rules in
+      kept_put tested j row low c.is_weak.ensures.kept.shape j (le_refl j) long
       (λ k h. c.reduced-row.ensures.before k h ∙ sym (c.is_weak.ensures.kept.left j k h))
 
 pub returns-then-is_weak : goal.returns-then-is_weak
@@ -67,7 +68,7 @@ returns-then-is_weak c =
 pub loop-j-preserved : goal.loop-j-preserved
 loop-j-preserved c =
     let b = c.before in let v = c.loop-j.invariant in let i = j b in (
-      (stored_kept b).long ∙ c.is_weak.ensures.kept.long ∙ v.0,
+      (stored_kept b).shape,
       failed_more (weak (t b)) i v.1 (sym (weak_is b) ∙ c.if-is_weak.false),
       rows_more (t b) i (set (tested b) i (row b)) (rows_kept (t b) (stored_kept b) (rows_kept (t b) c.is_weak.ensures.kept v.2))
           (rw (row_put (tested b) i (row b) (low b)) (row_is b))
