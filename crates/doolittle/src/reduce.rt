@@ -38,6 +38,7 @@ pub fn plus_product(s: i64, x: i64, y: i64) -> i64
 }
 
 // What direction i adds to row j: q(i)*a(j,i)*a(k,i) to the entry at each place k from j on; nothing where the condition does not touch the direction.
+// The coefficients of row k begin at `to`, which goes on with k: no turn multiplies for its place.
 // That j is a condition is asked as the bound of an index, here and below.
 #[tactic(auto, using(std::proofs::lemmas::Nat::rows))]
 fn add_direction(table: SoundTable, j: usize, i: usize, row: &mut Row)
@@ -53,8 +54,10 @@ fn add_direction(table: SoundTable, j: usize, i: usize, row: &mut Row)
         return;
     }
     let gx = weighted(q[i], x);
+    let mut to = j * q.len();
     for k in j..w.len() {
-        row[k] = plus_product(row[k], gx, a[k * q.len() + i]);
+        row[k] = plus_product(row[k], gx, a[to + i]);
+        to += q.len();
     }
 }
 

@@ -1,6 +1,8 @@
 -- `reduce::add_direction` meets its contract. Assumes nothing.
+use mathlib.Core.Path.{◌≡◌}
 use mathlib.Core.List.{List}
-use Prim.Native.Nat.{ℕ}
+use Prim.Native.Nat.{ℕ, ◌*◌}
+use lib.ListN.{length}
 use lib.IntN.{ℤ, pos, ◌+ℤ◌}
 use Rattle.exact.proofs.Filling.{Filled}
 use Rattle.doolittle.specs.Table.{Table, at}
@@ -13,4 +15,4 @@ abbrev pub added : Table → ℕ → ℕ → List ℤ → ℕ → ℤ
 added t j i row k = at row k +ℤ share t j k i
 
 abbrev pub invariant-loop-k : goal.invariant-loop-k
-invariant-loop-k l = Filled (pos 0) (added (table_in l.table) l.j l.i l.initial.row) l.j l.k l.initial.row l.row
+invariant-loop-k l = (l.to ≡ l.k * length l.table.q.now) × Filled (pos 0) (added (table_in l.table) l.j l.i l.initial.row) l.j l.k l.initial.row l.row
