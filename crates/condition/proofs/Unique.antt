@@ -1,16 +1,17 @@
 -- The promises leave nothing open: two answers that meet one promise are equal. Assumes nothing.
 --   one_answer       of `coefficients`: its reply, and the final contents of the lent list
 --   one_figure       of `misclosure`
---   one_fault, one_target     of `term_fault` and of `target_fault`
+--   one_fault, one_target, one_belonging     of `term_fault`, of `target_fault` and of `belongs`
 use mathlib.Core.Path.{◌≡◌}
 use mathlib.Core.Bool.{Bool}
 use mathlib.Core.List.{List}
 use Prim.Native.Nat.{ℕ}
-use lib.IntN.{ℤ}
+use lib.IntN.{ℤ, pos}
 use Rattle.exact.proofs.Unique.{only}
 use Rattle.reply.specs.Reply.{Reply}
 use Rattle.reply.specs.Reply.{Figure}
-use Rattle.condition.specs.Terms.{term_fault}
+use Rattle.condition.specs.declared.Kind.{Kind}
+use Rattle.condition.specs.Terms.{letter_of, suits, term_fault}
 use Rattle.condition.specs.Rules.{Lent, target_fault}
 use Rattle.condition.specs.Promise.{Coefficients, Misclosed}
 
@@ -25,3 +26,6 @@ one_fault m letter value d i k a b x y = only x y
 
 pub one_target : (target : ℤ) (a b : Bool) → a ≡ target_fault target → b ≡ target_fault target → a ≡ b
 one_target target a b x y = only x y
+
+pub one_belonging : (kind : Kind) (letter : ℕ) (a b : Bool) → a ≡ suits kind (letter_of (pos letter)) → b ≡ suits kind (letter_of (pos letter)) → a ≡ b
+one_belonging kind letter a b x y = only x y
