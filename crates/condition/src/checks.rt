@@ -46,6 +46,8 @@ fn terms_check(kind: Kind, m: i64, terms: Terms) -> Result<(), Refusal>
 }
 
 // All checks, in the order of the rules; and what they accept, the terms as one. Both operations make them, and these alone decide refusals 1 to 3.
+// Inline, since its answer of 88 bytes would pass through memory, and an operation would take up to 96 bytes of stack more.
+#[inline(always)]
 #[tactic(auto, using(crate::proofs::Accepting::as_many_q, crate::proofs::Accepting::terms_counted), unfolding(crate::specs::Rules::checks))]
 pub fn all<'a>(
     directions: &[i64],
