@@ -1,5 +1,5 @@
 -- What the inner functions hand each other, and `adjust_own` the crate above. No part of the promise.
-use Rattle.std.specs.Prelude.{◌≡◌, List, ℕ, ◌<◌, length, get_or, ℤ, pos, ◌+ℤ◌, ◌*ℤ◌, Result, Ok}
+use Rattle.std.specs.Prelude.{◌≡◌, List, ℕ, ◌<◌, length, get_or, replicate, ℤ, pos, ◌+ℤ◌, ◌*ℤ◌, Result, Ok}
 use Rattle.exact.specs.Nearest.{nearest}
 use Rattle.exact.specs.Tabulate.{tabulate}
 use Rattle.reply.specs.declared.Refusal.{Refusal}
@@ -11,6 +11,7 @@ use Rattle.doolittle.specs.Inner.{Small, Sound}
 use Rattle.adjustment.specs.Corrections.{V_of, R_of, u_of}
 use Rattle.adjustment.specs.Demand.{seen}
 use Rattle.adjustment.specs.declared.lists.Adjusted.{Adjusted}
+use Rattle.adjustment.specs.declared.lists.AnswerLists.{AnswerLists}
 use Rattle.adjustment.specs.Promise.{Answers, lists, adjust_reply, answers_of, WithinMinute}
 
 -- a lent table that has passed its input checks; the last six numbers are the lengths of the lent answer lists
@@ -47,6 +48,17 @@ unfoldable pub fitting : (m n : ℕ) → Answers
 fitting m n =
     let blank : ℕ → List ℤ = λ count. tabulate count (λ i. pos 0) in
     lists (blank m) (blank m) (blank m) (blank n) (blank n) (blank n)
+
+-- answer lists that hold no answers yet; what stands in them is never read either
+unfoldable pub no_answers : AnswerLists
+no_answers = record {
+  corrections = replicate 64 (pos 0);
+  printed = replicate 64 (pos 0);
+  adjusted = replicate 64 (pos 0);
+  correlates = replicate 24 (pos 0);
+  remainders = replicate 24 (pos 0);
+  misses = replicate 24 (pos 0);
+}
 
 abbrev pub answers_in : Adjusted → Answers
 answers_in x = lists x.corrections.now x.printed.now x.adjusted.now x.correlates.now x.remainders.now x.misses.now

@@ -30,9 +30,13 @@ pub struct AnswerLists {
 }
 
 impl AnswerLists {
-    ghost use Rattle.adjustment.specs.Inner.{GivesAnswers};
+    ghost use Rattle.adjustment.specs.Inner.{GivesAnswers, no_answers};
 
-    pub fn new() -> AnswerLists {
+    // All zeros. Nothing reads them before `adjust` has written over them.
+    #[tactic(auto, unfolding(crate::specs::Inner::no_answers))]
+    pub fn new() -> AnswerLists
+        ensures { result ≡ no_answers }
+    {
         AnswerLists {
             corrections: [0; 64],
             printed: [0; 64],

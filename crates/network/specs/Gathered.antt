@@ -1,6 +1,6 @@
 -- What inner functions hand each other: the order of a file's lines, the heading that a line is, and what stands in lent lists after the directions, the
--- terms of a condition, or all conditions have been read.
-use Rattle.std.specs.Prelude.{◌≡◌, List, [], ◌∷◌, ℕ, ◌*◌, ◌≤◌, ℤ, pos, length, take, drop, Ok, Result, IsOk, Some, None, Option}
+-- terms of a condition, or all conditions have been read; and lists that hold no net yet.
+use Rattle.std.specs.Prelude.{◌≡◌, List, [], ◌∷◌, ℕ, ◌*◌, ◌≤◌, ℤ, pos, length, take, drop, replicate, Ok, Result, IsOk, Some, None, Option}
 use Rattle.reply.specs.Checks.{figure_of}
 use Rattle.condition.specs.declared.Kind.{Kind}
 use Rattle.condition.specs.declared.Kind.TheVariants.{Angle, Side}
@@ -9,6 +9,7 @@ use Rattle.network.specs.Records.{record_of}
 use Rattle.network.specs.Net.{Condition, headed, net_from, condition_reply, misclosure_of, formed_reply, rows_of, misclosures_of, kinds_of}
 use Rattle.network.specs.declared.conditions.Asked.{Asked}
 use Rattle.network.specs.declared.conditions.Heading.{Heading}
+use Rattle.network.specs.declared.lists.Lists.{Lists}
 use Rattle.network.specs.declared.record.Record.{Record}
 use Rattle.network.specs.declared.record.Turn.{Turn}
 use Rattle.network.specs.declared.terms.Terms.{Terms}
@@ -113,3 +114,11 @@ pub record Forms (directions q : List ℤ) (cs : List Condition) (answer : Resul
   pub rows : IsOk answer → take (length cs * length directions) a ≡ rows_of directions q cs
   pub misclosures : IsOk answer → take (length cs) w ≡ misclosures_of directions q cs
   pub kinds_are : IsOk answer → take (length cs) kinds ≡ kinds_of cs
+
+-- ---- lists that hold no net yet; what stands in them is never read
+unfoldable pub no_net : Lists
+no_net = record {
+  directions = replicate 64 (pos 0);
+  q = replicate 64 (pos 0);
+  rows = record { a = replicate 1536 (pos 0); w = replicate 24 (pos 0); kinds = replicate 24 Angle };
+}

@@ -13,7 +13,13 @@ pub struct Lists {
 }
 
 impl Lists {
-    pub fn new() -> Lists {
+    ghost use Rattle.network.specs.Gathered.{no_net};
+
+    // All zeros, and the kind of an angle condition. Nothing reads them before `table` has written over them.
+    #[tactic(auto, unfolding(crate::specs::Gathered::no_net))]
+    pub fn new() -> Lists
+        ensures { result ≡ no_net }
+    {
         Lists {
             directions: [0; 64],
             q: [0; 64],
