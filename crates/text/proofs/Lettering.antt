@@ -7,17 +7,13 @@
 --   two_bytes, two_on, short_line               in a file: two bytes and the rest, the LF behind them, fewer than two
 --   behind_short, behind_other, behind_no_tab   no numbers behind the letter, by the first two bytes
 --   behind_place, behind_row, behind_end_lem        the letter and a tab: a row stands behind them
---   begun_within, begun_row, begun_end, unbegun   the same by std's test of the first two bytes
 --   no_answer, behind_told, no_behind_told      the answer where there are no such numbers; the numbers, by the answer
-use mathlib.Core.Path.{◌≡◌, refl, sym, ◌∙◌, ap}
+use mathlib.Core.Path.{◌≡◌, refl, ◌∙◌, ap}
 use mathlib.Core.Bool.{Bool, true, false, cond}
 use mathlib.Core.List.{List, [], ◌∷◌}
 use Rattle.std.specs.Prelude.{None, Some}
 use Prim.Native.Nat.{ℕ, zero, suc, ◌+◌, ◌-◌, ◌<◌, ◌≤◌}
-use native.Mathlib.Decide.{dec_lt, ℕ_discrete}
 use native.Mathlib.Omega.{arith}
-use Rattle.exact.proofs.Searching.{not_both}
-use Rattle.std.specs.List.{starts_with, between}
 use borrow.Author.Tests.{ltb-true, eq-eqb, ne_eqb, eqb-true}
 use lib.Dec.{eqb, ltb}
 use lib.IntN.{ℤ}
@@ -28,7 +24,7 @@ use Rattle.text.specs.Lines.{LF, line_at}
 use Rattle.text.specs.Fields.{TAB, fields_of, field_at, letter_of}
 use Rattle.text.specs.Numbers.{up_to}
 use Rattle.text.specs.Rows.{numbers_within, behind_within, row_within, lettered_within, end_of, row_end, behind_end, row_values}
-use Rattle.text.proofs.Parting.{place_next, starts_from, starts_so, led}
+use Rattle.text.proofs.Parting.{place_next}
 use Rattle.text.proofs.Rowing.{told_some, told_none}
 
 abbrev pub first_letter : List ℕ → ℕ
@@ -221,46 +217,6 @@ module _ (most : ℕ) (file : List ℕ) (start letter count : ℕ) (plain : 10 <
         pub behind_end_lem : row_end most file (start + 2) count ≡ behind_end most file start letter count
         unfolding row_end behind_end
         behind_end_lem = rw (behind_row, behind_place)
-
-  -- as std's test of the first two bytes says it
-  abbrev begins_so : Bool
-  begins_so = starts_with eqb (between start (length file) file) (letter ∷ TAB ∷ [])
-
-  module _ (t : begins_so ≡ true) where
-    abbrev rest : List ℕ
-    rest = drop 2 (drop start file)
-
-    first : (start < length file) × (get_or file start 0 ≡ letter) × (drop (start + 1) file ≡ TAB ∷ rest)
-    first = led file start letter (TAB ∷ rest) (starts_from file start (letter ∷ TAB ∷ []) t)
-
-    second : (start + 1 < length file) × (get_or file (start + 1) 0 ≡ TAB) × (drop (start + 1 + 1) file ≡ rest)
-    second = led file (start + 1) TAB rest first.2
-
-    pub begun_within : start + 2 ≤ length file
-    begun_within = omega (arith, second.0)
-
-    pub begun_row : lettered_within most file start letter count ≡ row_within most file (start + 2) count
-    begun_row = behind_row begun_within first.1 second.1
-
-    pub begun_end : row_end most file (start + 2) count ≡ behind_end most file start letter count
-    begun_end = behind_end_lem begun_within first.1 second.1
-
-  pub unbegun : 1 ≤ count → begins_so ≡ false → lettered_within most file start letter count ≡ None
-  unbegun any t = by_length (dec_lt (start + 1) (length file))
-    where
-      by_tab : start + 2 ≤ length file → get_or file start 0 ≡ letter → Dec (get_or file (start + 1) 0 ≡ TAB)
-          → lettered_within most file start letter count ≡ None
-      by_tab l same (yes e) =
-          not_both (sym (starts_so file start (letter ∷ TAB ∷ []) (drop (start + 2) file) (two_bytes file start l ∙ rw (same, e))) ∙ t)
-      by_tab l same (no e) = behind_no_tab l same any e
-
-      by_letter : start + 2 ≤ length file → Dec (get_or file start 0 ≡ letter) → lettered_within most file start letter count ≡ None
-      by_letter l (yes e) = by_tab l e (ℕ_discrete (get_or file (start + 1) 0) TAB)
-      by_letter l (no e) = behind_other l e
-
-      by_length : Dec (start + 1 < length file) → lettered_within most file start letter count ≡ None
-      by_length (yes l) = by_letter (omega (arith, l)) (ℕ_discrete (get_or file start 0) letter)
-      by_length (no l) = behind_short (omega (arith, l))
 
 -- ---- the answer
 module _ (most : ℕ) (file : List ℕ) (start letter count : ℕ) where

@@ -40,7 +40,7 @@ pub fn read_behind(
     ensures values { take count x.new ≡ row_values (lettered_within most file.now start letter count) (take count x.new) }
     ensures long { length x.new ≡ length x.old }
 {
-    if !file[start..].starts_with(&[letter, TAB]) {
+    if file.len() - start < 2 || file[start] != letter || file[start + 1] != TAB {
         return None;
     }
     read(most, file, start + 2, count, x)
