@@ -1,26 +1,20 @@
 -- What chains over the pairs of an object, by position, answer. Assumes nothing.
 --   column                  the pairs of object j in n positions from a on
---   column_found, column_counted    the first of them at which a test holds, and how many they are
+--   column_found            the first of them at which a test holds
 --   lowest_found            where the object was sighted first
---   seen_counted            in how many positions it was
 use mathlib.Core.Path.{◌≡◌, refl, sym, ◌∙◌, ap, subst}
 use mathlib.Core.Bool.{Bool, true, false, cond}
-use mathlib.Core.List.{List, map, ◌∷◌}
+use mathlib.Core.List.{List, map}
 use Prim.Native.Nat.{ℕ, zero, suc, ◌+◌, ◌<◌, ◌≤◌}
 use native.Mathlib.Omega.{arith}
-use lib.IntN.{ℤ, pos, ◌+ℤ◌, +ℤ_idl}
-use lib.ListN.{length}
-use Rattle.std.proofs.lemmas.Int.{ints}
+use lib.IntN.{ℤ}
 use Rattle.std.specs.Prelude.{Option, Some, None, MatchOption}
 use Rattle.std.specs.Option.{option_map}
-use Rattle.std.specs.List.{find, filter, range_with_len}
+use Rattle.std.specs.List.{find, range_with_len}
 use Rattle.exact.specs.First.{first}
 use Rattle.exact.proofs.Searching.{first_ext}
-use Rattle.exact.proofs.Sum.{sum_none, sum_first, sum_ext}
 use Rattle.station.specs.declared.table.PairAt.{PairAt}
-use Rattle.station.specs.SumWhere.{sum_where}
-use Rattle.station.specs.Table.{one}
-use Rattle.station.specs.Means.{seen, lowest, P}
+use Rattle.station.specs.Means.{seen, lowest}
 
 abbrev pub column : (j a n : ℕ) → List (ℕ × ℕ)
 column j a n = map (λ i. (i, j)) (range_with_len a n)
@@ -54,20 +48,6 @@ module _ (test : ℕ × ℕ → Bool) (j : ℕ) where
           let r = find test (column j (a + 1) n) in
           rw e (further r later (subst (λ (k : ℕ). MatchOption r (k ≡ n) (λ p. (k < n) × (p ≡ (a + 1 + k, j)))) same f))
 
-  pub column_counted : (a n : ℕ) → pos (length (filter test (column j a n))) ≡ sum_where n (λ i. test (a + i, j)) one
-  column_counted a zero = sym (sum_none _)
-  column_counted a (suc n) =
-      by_test (test (a, j)) (sum_where n (λ i. test (a + suc i, j)) one) (column_counted (a + 1) n ∙ sum_ext n _ _ (λ i l. ap (λ (k : ℕ). cond (test (k, j)) (pos 1) (pos 0)) (omega arith)))
-      ∙ ap (λ (k : ℕ). cond (test (k, j)) (pos 1) (pos 0) +ℤ sum_where n (λ i. test (a + suc i, j)) one) (omega arith)
-      ∙ sym (sum_first n _)
-    where
-      rest : List (ℕ × ℕ)
-      rest = filter test (column j (a + 1) n)
-
-      by_test : (b : Bool) (others : ℤ) → pos (length rest) ≡ others → pos (length (cond b ((a, j) ∷ rest) rest)) ≡ cond b (pos 1) (pos 0) +ℤ others
-      by_test true others e = omega (arith, ints)
-      by_test false others e = e ∙ sym (+ℤ_idl others)
-
 -- ---- the pairs that were seen
 module _ (n : List ℤ) (j : ℕ) where
   abbrev pub is_seen : ℕ × ℕ → Bool
@@ -85,7 +65,3 @@ module _ (n : List ℤ) (j : ℕ) where
       by_case (Some at) f =
           let here = ap (λ (p : ℕ × ℕ). p.0) f.1 in
           (omega (arith, f.0, same), (omega (arith, here, same), ap (λ (p : ℕ × ℕ). p.1) f.1))
-
-  pub seen_counted : pos (length (filter is_seen (column j 0 16))) ≡ P n j
-  unfolding P
-  seen_counted = column_counted is_seen j 0 16 ∙ sum_ext 16 _ _ (λ i l. ap (λ (k : ℕ). cond (seen n k j) (pos 1) (pos 0)) (omega arith))

@@ -12,10 +12,13 @@ fn pairs_of(table: &Table, object: usize) -> i64
     requires { object < 16 }
     ensures { result ≡ P table.now.count object }
 {
-    (0..POSITIONS)
-        .map(|position| PairAt::new(position, object))
-        .filter(|at| table.seen(*at))
-        .count() as i64
+    let mut pairs = 0;
+    for position in 0..POSITIONS {
+        if table.seen(PairAt { position, object }) {
+            pairs += 1;
+        }
+    }
+    pairs
 }
 
 // The sum of e over the positions that have a pair of the object.

@@ -1,19 +1,35 @@
 -- `answer::pairs_of` meets its contract: a count of positions is at most 16. Assumes nothing.
-use Rattle.std.proofs.Common.{◌≡◌, arith, refl, rules, tests, ℕ, length}
+use Rattle.std.proofs.Common.{◌≡◌, ◌∙◌, sym, ap, arith, Bool, ℕ, ◌*◌, ◌≤◌, nat_abs}
 use Rattle.std.proofs.lemmas.Int.{ints}
-use Rattle.std.specs.List.{filter}
-use Rattle.std.proofs.lemmas.Iterator.{YieldsList-from_range, YieldsList-from_map_by}
-use Rattle.std.proofs.lemmas.Iterator.Consumers.{YieldsList-at, YieldsList-from_filter, count_from_yields_List}
-use Rattle.station.proofs.Chains.{stand, is_seen, column, seen_counted}
-use Rattle.station.proofs.Positions.{P_size}
+use Rattle.station.specs.SumWhere.{sum_where}
+use Rattle.station.specs.Table.{one}
+use Rattle.station.specs.Means.{seen, P}
+use Rattle.station.proofs.Selecting.{where_none, where_taken, where_passed, where_size}
 use Rattle.station.proofs.answer.pairs_of.Goals as goal
+use Rattle.station.proofs.answer.pairs_of.Goals.{Start, then-seen, else-seen}
+
+-- which positions have the object
+module _ (s : Start) where
+  abbrev has : ℕ → Bool
+  has k = seen s.args.table.now.count k s.args.object
+
+  size : (i : ℕ) → nat_abs (sum_where i has one) ≤ i * 1
+  size i = where_size has one i 1 (λ k h. omega arith)
+
+pub loop-position-init : goal.loop-position-init
+loop-position-init c = sym (where_none (has c) one)
+
+pub overflow_add-pairs : goal.overflow_add-pairs
+overflow_add-pairs c = let s = (goal.at.overflow_add-pairs c).Start in omega (arith, ints, size s c.loop-position.position)
+
+pub loop-position-preserved : goal.loop-position-preserved
+loop-position-preserved c =
+    let s = (goal.at.loop-position-preserved c).Start in let i = c.loop-position.position in let few = size s i in
+    elim c.if-seen.branch [
+      | then-seen w ↦ let more = where_taken (has s) one i (sym c.seen.ensures ∙ w.if-seen.true) in omega (arith, ints)
+      | else-seen w ↦ let same = where_passed (has s) one i (sym c.seen.ensures ∙ w.if-seen.false) in omega (arith, ints)
+    ]
 
 pub returns : goal.returns
-returns c =
-    let n = c.args.table.now.count in let j = c.args.object in
-    let counted : c.count.result ≡ length (filter (is_seen n j) (column j 0 16)) =
-    count_from_yields_List c.filter.result _ c.count.ensures.ran
-    (YieldsList-from_filter _ (is_seen n j)
-    (YieldsList-at c.filter.ensures.source (YieldsList-from_map_by _ stand (λ (i : ℕ). (i, j)) (YieldsList-from_range 0 16 16 c.map.ensures.source refl) c.map.ensures.closure (λ x r q k. search rules)))
-    c.filter.ensures.closure (λ x b q k. search (rules, tests))) in
-    omega (arith, ints, counted, seen_counted n j, P_size n j)
+unfolding P
+returns c = let s = (goal.at.returns c).Start in let q : c.loop-position.position ≡ 16 = omega arith in c.loop-position.invariant ∙ ap (λ (k : ℕ). sum_where k (has s) one) q
