@@ -60,12 +60,12 @@ pub fn slot_of(face: i64, position: i64, object: i64) -> usize
     PLACES * f + OBJECTS * (p - 1) + (o - 1)
 }
 
-// What a part of the table has of a face and a pair.
+// What a part of the table has of a face and a pair. The face last, so that the two faces share the place of the pair.
 fn entry(part: &[i64; SLOTS], f: usize, at: PairAt) -> i64
     requires { f < 2 }
     ensures { result ≡ entry part.now f at.position at.object }
 {
-    part[PLACES * f + OBJECTS * at.position + at.object]
+    part[OBJECTS * at.position + at.object + PLACES * f]
 }
 
 // Clears from a part of the table what has a reason.
