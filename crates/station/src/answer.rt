@@ -41,10 +41,11 @@ fn direction_of(table: &Table, object: usize) -> i64
     requires { object < 16 }
     ensures { result ≡ direction table.now.count table.now.sums object }
 {
+    // The pairs first: the compiler then counts them once for this and for the list of pairs.
+    let p = pairs_of(table, object);
     let Some(b) = pair::base(table, object) else {
         return 0;
     };
-    let p = pairs_of(table, object);
     let t = p * b + sum_from_base(table, object, b);
     exact::modulo(exact::floor(t + p, 2 * p), CIRCLE)
 }
