@@ -220,21 +220,22 @@ fn entered(t: Tally, x: u64, y: u64) -> Tally
     }
 }
 
-// What is known once a line has been read, with its LF if it is not too long.
+// What is known once a line has been read, with its LF if it is not too long. It is changed where it stands, here and below: by value, all of it would be
+// copied at each line and at each byte.
 #[tactic(auto, unfolding(crate::specs::Adding::after_line, crate::specs::Adding::entered))]
-fn after_line(t: Tally, text: &[u8]) -> Tally
-    ensures { result ≡ after_line t text.now }
+fn after_line(t: &mut Tally, text: &[u8])
+    ensures { t.new ≡ after_line t.old text.now }
 {
     if t.fault.is_some() {
-        return t;
+        return;
     }
-    match entry_at(text, t.due) {
-        Some((x, y)) => entered(t, x, y),
-        None => faulty(t),
-    }
+    *t = match entry_at(text, t.due) {
+        Some((x, y)) => entered(*t, x, y),
+        None => faulty(*t),
+    };
 }
 
-// One byte more. What is known is changed where it stands: by value, all of it would be copied at each byte.
+// One byte more.
 fn after_byte(b: u8, held: &mut [u8; HELD], a: &mut Adding)
     requires { a.old.length ≤ 64 }
     ensures stream { stream_of a.new held.new ≡ after_byte (stream_of a.old held.old) b }
@@ -246,7 +247,7 @@ fn after_byte(b: u8, held: &mut [u8; HELD], a: &mut Adding)
         length += 1;
     }
     if b == LF {
-        a.tally = after_line(a.tally, &held[..length]);
+        after_line(&mut a.tally, &held[..length]);
         a.length = 0;
     } else {
         a.length = length;

@@ -14,7 +14,7 @@ returns-then-b-eq-LF-clause-stream c =
       | then-length-lt-HELD w ↦ (held_more a.a.now.length a.held.now a.b l.length l.held (search rules) w.if-length-lt-HELD.true w.length-is w.held-is).text
       | else-length-lt-HELD w ↦ (held_full a.a.now.length a.held.now a.b l.length l.held (search rules) w.if-length-lt-HELD.false c.requires w.length-is w.held-is).text
     ] in
-    byte_ended (stream_of a.a.now a.held.now) a.b line c.if-b-eq-LF.true c.after_line-a.ensures
+    byte_ended (stream_of a.a.now a.held.now) a.b line c.if-b-eq-LF.true c.after_line.ensures
 
 pub returns-else-b-eq-LF-clause-stream : goal.returns-else-b-eq-LF-clause-stream
 returns-else-b-eq-LF-clause-stream c =
