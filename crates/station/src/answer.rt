@@ -41,8 +41,11 @@ fn direction_of(table: &Table, object: usize) -> i64
     requires { object < 16 }
     ensures { result ≡ direction table.now.count table.now.sums object }
 {
-    // The pairs first: the compiler then counts them once for this and for the list of pairs.
+    // The pairs first: the compiler then counts them once for this and for the list of pairs, and no base is looked for where there are none.
     let p = pairs_of(table, object);
+    if p == 0 {
+        return 0;
+    }
     let Some(b) = pair::base(table, object) else {
         return 0;
     };

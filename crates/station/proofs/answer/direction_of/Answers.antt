@@ -1,5 +1,5 @@
 -- `answer::direction_of` meets its contract: at most 16 pairs, g within two circles and e within one, so t + P fits. Assumes nothing.
-use Rattle.std.proofs.Common.{◌≡◌, ◌∙◌, ap, List, ℕ, ℤ, pos, ◌+ℤ◌, ◌*ℤ◌, to_z, of_z, w64, FitsSigned}
+use Rattle.std.proofs.Common.{◌≡◌, sym, ◌∙◌, ap, List, ℕ, ℤ, pos, ◌+ℤ◌, ◌*ℤ◌, to_z, of_z, w64, FitsSigned}
 use Rattle.exact.specs.Circle.{C, modulo}
 use Rattle.exact.proofs.Bound.{Bounded, bounded, bounds, fits_in, read}
 use Rattle.station.specs.Means.{base, lowest, P, sum_of_e, direction}
@@ -33,6 +33,11 @@ module _ (n r : List ℤ) (j : ℕ) where
 
   twice_fits : FitsSigned w64 (pos 2 *ℤ p)
   twice_fits = let z = sizes in fits_in (search bounds) tt
+
+pub returns-then-p-eq0 : goal.returns-then-p-eq0
+unfolding direction
+returns-then-p-eq0 c =
+    let none : P c.args.table.now.count c.args.object ≡ pos 0 = sym (told c.pairs_of-p.type_inv c.pairs_of-p.ensures) ∙ ap (to_z w64) c.if-p-eq0.true in rw none
 
 pub returns-in_default : goal.returns-in_default
 unfolding direction
