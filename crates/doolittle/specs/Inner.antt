@@ -68,7 +68,13 @@ pub record Shaped (rows : List (List ℤ)) : Type 0 where
   pub long : length rows ≡ 24
   pub wide : (h : ℕ) → h < 24 → length (row_at rows h) ≡ 25
 
--- the first j rows are as they were, and in every row the places before j
+-- the first j rows are as they were, and in every row the places before j; of rows of any shape
+pub record Stays (j : ℕ) (rows next : List (List ℤ)) : Type 0 where
+  pub long : length next ≡ length rows
+  pub above : (h : ℕ) → h < j → row_at next h ≡ row_at rows h
+  pub left : (h k : ℕ) → k < j → cell next h k ≡ cell rows h k
+
+-- the same, and there are 24 rows of 25 places
 pub record Kept (j : ℕ) (rows next : List (List ℤ)) : Type 0 where
   pub shape : Shaped next
   pub long : length next ≡ length rows
